@@ -1,0 +1,9 @@
+pub mod Patterns
+pub mod Machine
+pub mod Reader
+pub mod Outcomes
+pub mod Samples
+pub mod Tables
+pub mod Room
+pub mod Handles
+pub mod Answers

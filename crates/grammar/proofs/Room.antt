@@ -1,0 +1,255 @@
+-- A room with a row for each token is enough: each row, link and symbol has a token of its own.
+use Prim.Native.Nat.{ℕ, zero, suc, _+_, _-_, _*_, _/_, _≤_}
+use mathlib.Core.Bool.{Bool, true, false, cond, _&&_}
+use mathlib.Core.List.{List, [], _∷_, _++_, tail}
+use mathlib.Core.Path.{_≡_, refl}
+use native.Mathlib.Omega.{arith}
+use lib.Dec.{eqb, leb, T, leb→le, le→leb}
+use lib.ListN.{length, getD, length-append, length-take, length-replicate}
+use Rattle.grammar.specs.Handle.{Handle, link, head, is-tail, block-list}
+use Rattle.grammar.specs.Kaori.{Table, Form, above, rules, kaori, Script}
+use Rattle.grammar.specs.Label.{Node, Label}
+use Rattle.grammar.specs.Operator.{levels}
+use Rattle.grammar.specs.Phrase.{empty, token, part, nested, node, choice, chain, once, refusal, Tree, more, made, Aim, Reads}
+use Rattle.grammar.specs.Rows.{Rows, blank, seek, interned, links-of, numbers, write, fill, Walked, parts, put, make, walk, written}
+use Rattle.grammar.specs.Rule.{Field, number, child, named, symbol, list, Row, writes, fields, rule}
+use Rattle.grammar.specs.Token.{start, end}
+use Rattle.grammar.proofs.Machine.{asked}
+use Rattle.grammar.proofs.Tables.{both, all, each, each-mapped, in-tables}
+
+-- tokens that a node takes for what it writes and makes
+abbrev pub cost : Label → ℕ
+cost (Label.Row f) = 1
+cost Label.Script = 1
+cost Label.Ended = 1
+cost Label.Item = 0
+cost Label.Entry = 0
+cost Label.Name = 1
+
+-- tokens of a form that no node in it takes
+unfoldable pub spare : Form → ℕ
+spare empty = 0
+spare (token x p) = suc (spare p)
+spare (part p q) = spare p + spare q
+spare (nested p) = spare p
+spare (node f p) = spare p - cost f
+spare (choice n) = 0
+spare (chain p n) = spare p
+spare (once p n) = spare p
+spare (refusal e) = 0
+
+-- each node has the tokens that it takes
+unfoldable pub paid : Form → Bool
+paid empty = true
+paid (token x p) = paid p
+paid (part p q) = paid p && paid q
+paid (nested p) = paid p
+paid (node f p) = leb (cost f) (spare p) && paid p
+paid (choice n) = true
+paid (chain p n) = paid p
+paid (once p n) = paid p
+paid (refusal e) = true
+
+paid-above : (n : ℕ) → T (paid (above n))
+unfolding above paid
+paid-above zero = tt
+paid-above (suc n) = paid-above n
+
+paid-tables : (n : Table) → T (each paid (rules n .0) (rules n .1))
+unfolding rules paid spare above
+paid-tables Table.statement = tt
+paid-tables Table.may-end = tt
+paid-tables Table.must-end = tt
+paid-tables Table.bindings = tt
+paid-tables Table.path-name = tt
+paid-tables Table.otherwise = tt
+paid-tables Table.branch = tt
+paid-tables Table.operand = tt
+paid-tables Table.body = tt
+paid-tables Table.value = tt
+paid-tables (Table.comma z) = tt
+paid-tables Table.script-items = tt
+paid-tables Table.block-items = tt
+paid-tables Table.arguments = tt
+paid-tables Table.entries = tt
+paid-tables (Table.names z) = tt
+paid-tables Table.assigned = tt
+paid-tables Table.dots = tt
+paid-tables Table.calls = tt
+paid-tables (Table.operators n) = each-mapped paid _ (getD levels n []) empty (λ x. all (leb 1 (suc (spare (above n)))) (paid (above n)) (le→leb 1 (suc (spare (above n))) (omega arith)) (paid-above n)) tt
+
+paid-node : (f : Label) (p : Form) → T (paid (node f p)) → (cost f ≤ spare p) × T (paid p)
+unfolding paid
+paid-node f p h = let (u, v) = both (leb (cost f) (spare p)) (paid p) h in (leb→le _ _ u, v)
+
+paid-entry : (n : Table) (x : ℕ) {p : Form} → kaori n x ≡ p → T (paid p)
+paid-entry n x e = rw e at (in-tables (λ n. paid) paid-tables n x)
+
+abbrev pub handles : Walked → ℕ
+handles r = length (r .first) + length (r .rest)
+
+-- what r has grown to from the rows w and n handles, with k tokens
+pub record Grown (w : Rows) (n k : ℕ) (r : Walked) : Type 0 where
+  pub nodes : length (r .rows .nodes) ≤ length (w .nodes) + 9 * k
+  pub links : length (r .rows .links) + 3 * handles r ≤ length (w .links) + 3 * (n + k)
+  pub symbols : length (r .rows .symbols) ≤ length (w .symbols) + 2 * k
+
+-- link rows and symbol rows that fields may write
+pub lists : List Field → ℕ
+lists [] = 0
+lists (number n ∷ fs) = lists fs
+lists (child h ∷ fs) = lists fs
+lists (named h ∷ fs) = lists fs
+lists (symbol s e ∷ fs) = lists fs
+lists (list hs ∷ fs) = length hs + lists fs
+
+pub words : List Field → ℕ
+words [] = 0
+words (number n ∷ fs) = words fs
+words (child h ∷ fs) = words fs
+words (named h ∷ fs) = words fs
+words (symbol s e ∷ fs) = suc (words fs)
+words (list hs ∷ fs) = words fs
+
+link-length : (h : Handle) → length (link h) ≡ 3
+link-length (Handle.node i s e) = refl
+link-length (Handle.name x s e) = refl
+link-length (Handle.entry k v) = refl
+link-length (Handle.ended i) = refl
+link-length Handle.other = refl
+
+links-length : (hs : List Handle) → length (links-of hs) ≡ 3 * length hs
+unfolding links-of
+links-length [] = refl
+links-length (h ∷ hs) = simp (length-append, link-length, links-length hs) (omega arith)
+
+interned-length : (text : List ℕ) (s e : ℕ) (ss : List ℕ) → length (interned text s e ss) ≤ length ss + 2
+unfolding interned
+interned-length text s e ss = either (eqb (seek text _ ss) (length ss / 2))
+  where
+    either : (b : Bool) → length (cond b (ss ++ (s ∷ e ∷ [])) ss) ≤ length ss + 2
+    either true = simp length-append (omega arith)
+    either false = omega arith
+
+tail-length : (hs : List Handle) → length (tail hs) ≤ length hs
+tail-length [] = omega arith
+tail-length (h ∷ hs) = omega arith
+
+block-list-length : (hs : List Handle) → length (block-list hs) ≤ length hs
+unfolding block-list
+block-list-length [] = omega arith
+block-list-length (h ∷ []) = either (is-tail h)
+  where
+    either : (b : Bool) → length (cond b [] (h ∷ [])) ≤ 1
+    either true = omega arith
+    either false = omega arith
+block-list-length (h ∷ g ∷ hs) = omega (arith, block-list-length (g ∷ hs))
+
+-- rows from w to v: one node row, l link rows, and at most s symbol rows
+pub record Filled (l s : ℕ) (w v : Rows) : Type 0 where
+  pub nodes : length (v .nodes) ≡ length (w .nodes) + 9
+  pub links : length (v .links) ≡ length (w .links) + 3 * l
+  pub symbols : length (v .symbols) ≤ length (w .symbols) + 2 * s
+
+pub filled : (text : List ℕ) (fs : List Field) (xs : List ℕ) (w : Rows) → Filled (lists fs) (words fs) w (fill text fs xs w)
+unfolding fill write lists words
+filled text [] xs w = record { nodes = simp (length-append, length-take, length-replicate) (omega arith); links = omega arith; symbols = omega arith }
+filled text (number n ∷ fs) xs w = filled text fs _ w
+filled text (child g ∷ fs) xs w = filled text fs _ w
+filled text (named g ∷ fs) xs w = filled text fs _ w
+filled text (symbol s e ∷ fs) xs w = let h = filled text fs (xs ++ numbers text (symbol s e) w) (write text (symbol s e) w) in omega (arith, interned-length text s e (w .symbols))
+filled text (list hs ∷ fs) xs w = let h = filled text fs (xs ++ numbers text (list hs) w) (write text (list hs) w) in omega (arith, length-append (w .links) (links-of hs), links-length hs)
+
+put-grown : (text : List ℕ) (k : ℕ) (r : Row) (w : Rows) (n : ℕ) → lists (fields r) ≤ n → words (fields r) ≤ 1 → Grown w n 1 (put text k r w)
+unfolding put
+put-grown text k (writes s e fs) w n h i = let z = filled text fs (k ∷ s ∷ e ∷ []) w in omega arith
+
+-- a rule links no more than was made, and has one symbol at most
+modest : (ts : List ℕ) (f : Node) (a b : ℕ) (xs ys : List Handle) (x y : Handle) → (lists (fields (rule ts f a b xs ys x y)) ≤ length xs + length ys) × (words (fields (rule ts f a b xs ys x y)) ≤ 1)
+unfolding rule lists words
+modest ts Node.Binary a b xs ys x y = omega arith
+modest ts Node.LogicalAnd a b xs ys x y = omega arith
+modest ts Node.LogicalOr a b xs ys x y = omega arith
+modest ts Node.LogicalNot a b xs ys x y = omega arith
+modest ts Node.Unary a b xs ys x y = omega arith
+modest ts Node.Assign a b xs ys x y = omega arith
+modest ts Node.Variable a b xs ys x y = omega arith
+modest ts Node.Constant a b xs ys x y = omega arith
+modest ts Node.Ref a b xs ys x y = omega arith
+modest ts Node.Identifier a b xs ys x y = omega arith
+modest ts Node.String a b xs ys x y = omega arith
+modest ts Node.Number a b xs ys x y = omega arith
+modest ts Node.Boolean a b xs ys x y = omega arith
+modest ts Node.Nil a b xs ys x y = omega arith
+modest ts Node.FunctionCall a b xs ys x y = omega arith
+modest ts Node.PropertyAccess a b xs ys x y = omega arith
+modest ts Node.Map a b xs ys x y = omega arith
+modest ts Node.Function a b xs ys x y = omega (arith, tail-length xs)
+modest ts Node.Lambda a b xs ys x y = omega arith
+modest ts Node.Block a b xs ys x y = omega (arith, block-list-length xs)
+modest ts Node.If a b xs ys x y = omega arith
+modest ts Node.WhileLoop a b xs ys x y = omega arith
+modest ts Node.Return a b xs ys x y = omega arith
+modest ts Node.Break a b xs ys x y = omega arith
+modest ts Node.Continue a b xs ys x y = omega arith
+modest ts Node.Import a b xs ys x y = omega arith
+
+module _ (text ts : List ℕ) where
+  make-grown : (f : Label) (a b : ℕ) (w : Rows) (xs ys : List Handle) → Grown w (length xs + length ys) (cost f) (make text ts f a b w xs ys)
+  unfolding make write lists words
+  make-grown (Label.Row f) a b w xs ys = let (h, i) = modest ts f a b xs ys (head xs) (head ys) in put-grown text _ _ w _ h i
+  make-grown Label.Script a b w xs ys = put-grown text _ _ w _ (omega arith) (omega arith)
+  make-grown Label.Ended a b w xs ys = omega arith
+  make-grown Label.Item a b w xs ys = omega (arith, length-append xs ys)
+  make-grown Label.Entry a b w [] ys = omega arith
+  make-grown Label.Entry a b w (x ∷ xs) ys = omega arith
+  make-grown Label.Name a b w xs ys = omega (arith, interned-length text (start ts a) (end ts a) (w .symbols))
+
+  joined : {w : Rows} {k l : ℕ} {r s : Walked} → Grown w 0 k r → Grown (r .rows) 0 l s → Grown w 0 (k + l) (parts r s)
+  joined {r = r} {s = s} g h = omega (arith, length-append (r .first) (r .rest), length-append (s .first) (s .rest))
+
+  labelled : {w : Rows} {k : ℕ} {r : Walked} (f : Label) (a b : ℕ) → Grown w 0 k r → Grown w 0 (k + cost f) (make text ts f a b (r .rows) (r .first) (r .rest))
+  labelled {r = r} f a b g = let h = make-grown f a b (r .rows) (r .first) (r .rest) in omega arith
+
+  -- the tokens from a up to b, but for s of them, pay for what t writes
+  pub record Pays (a s b : ℕ) (t : Tree Label) : Type 0 where
+    pub pay : (w : Rows) → (k : ℕ) × (a + s + k ≤ b) × Grown w 0 k (walk text ts t w)
+
+  less : {a s c z b : ℕ} {t : Tree Label} → Pays a s b t → c + z ≤ a + s → Pays c z b t
+  less g h = record { pay = λ w. let (k, i, x) = g .pay w in (k, omega arith, x) }
+
+  pays-both : {a s b z c : ℕ} {t u : Tree Label} → Pays a s b t → Pays b z c u → Pays a (s + z) c (more t u)
+  unfolding walk
+  pays-both {t = t} g h = record { pay = λ w. let (k, i, x) = g .pay w in let (l, j, y) = h .pay (walk text ts t w .rows) in (k + l, omega arith, joined x y) }
+
+  pays-node : {a s b : ℕ} {t : Tree Label} (f : Label) (from upto : ℕ) → cost f ≤ s → Pays a s b t → Pays a (s - cost f) b (made f from upto t)
+  unfolding walk
+  pays-node f from upto c g = record { pay = λ w. let (k, i, x) = g .pay w in (k + cost f, omega arith, labelled f from upto x) }
+
+  pays-link : {a s b z c : ℕ} {f : Label} {t u : Tree Label} → Pays a s b t → Pays b z c u → cost f ≤ z → Pays a s c (made f b c (more t u))
+  pays-link {f = f} g h i = less (pays-node f _ _ (omega arith) (pays-both g h)) (omega arith)
+
+  -- a reading pays for what it writes
+  pub pays : {kind : ℕ → ℕ} {m : Aim Table Label} {a b : ℕ} {t : Tree Label} → Reads kaori kind m a b t → T (paid (asked m)) → Pays a (spare (asked m)) b t
+  unfolding paid spare walk
+  pays Reads.nothing h = record { pay = λ w. (0, omega arith, omega arith) }
+  pays (Reads.taken e x) h = less (pays x h) (omega arith)
+  pays (Reads.both {p = p} {q = q} x y) h = let (u, v) = both (paid p) (paid q) h in pays-both (pays x u) (pays y v)
+  pays (Reads.opened x) h = record { pay = pays x h .pay }
+  pays (Reads.labelled {f = f} {p = p} x) h = let (u, v) = paid-node f p h in pays-node f _ _ u (pays x v)
+  pays (Reads.chosen {n = n} e x) h = less (pays x (paid-entry n _ e)) (omega arith)
+  pays (Reads.first x) h = pays x h
+  pays (Reads.link {n = n} {f = f} {q = q} l e x) h = let (u, v) = paid-node f q (paid-entry n _ e) in pays-link (pays l h) (pays x v) u
+  pays (Reads.ended l e) h = pays l h
+  pays (Reads.alone x e) h = pays x h
+  pays (Reads.joined {n = n} {f = f} {q = q} x e y) h = let (u, v) = paid-node f q (paid-entry n _ e) in pays-link (pays x h) (pays y v) u
+
+  -- the rows of a script whose Eof stands at n fit rooms of n + 1 rows
+  pub record Room (n : ℕ) (w : Rows) : Type 0 where
+    pub nodes : length (w .nodes) ≤ 9 * (n + 1)
+    pub links : length (w .links) ≤ 3 * (n + 1)
+    pub symbols : length (w .symbols) ≤ 2 * (n + 1)
+
+  pub script-room : {kind : ℕ → ℕ} {n : ℕ} {t : Tree Label} → Script kind n t → Room n (written text ts t)
+  unfolding written walk spare paid
+  script-room (Reads.labelled {b = b} x) = let (k, i, g) = pays x tt .pay blank in let h = labelled Label.Script 0 b g in omega arith

@@ -1,0 +1,22 @@
+-- in the order of reading
+pub mod Kind
+pub mod Label
+pub mod Operator
+pub mod Token
+pub mod Pattern
+pub mod Lexeme
+pub mod Float
+pub mod Phrase
+pub mod Kaori
+pub mod Refusal
+pub mod Room
+pub mod Handle
+pub mod Rule
+pub mod Rows
+pub mod Layout
+pub mod Naming
+pub mod Outcome
+pub mod Call
+pub mod Door
+pub mod Answer
+pub mod Samples
