@@ -10,11 +10,12 @@ use lib.ListN.{length, getD, length-append, List·getD-append}
 use lib.Seq.{getD-append-add}
 use Rattle.grammar.specs.Handle.{Handle, absent, row, head}
 use Rattle.grammar.specs.Kaori.{Script}
-use Rattle.grammar.specs.Label.{Label, number-of}
+use Rattle.grammar.specs.Label.{Label}
 use Rattle.grammar.specs.Phrase.{Tree, none, more, deeper, made, Reads}
 use Rattle.grammar.specs.Rows.{Rows, blank, same, seek, interned, numbers, write, padded, fill, Walked, keep, put, make, walk, written}
 use Rattle.grammar.specs.Rule.{Field, number, child, named, symbol, list, Row, writes}
 use Rattle.grammar.specs.Token.{start, end, lexeme}
+use Rattle.grammar.proofs.Decoding.{gathered, fill-nodes}
 use Rattle.grammar.proofs.Room.{filled}
 
 -- v has all that w has
@@ -91,19 +92,6 @@ module _ (text : List ℕ) where
   extends-write (symbol s e) w = record { nodes = extends-self w .nodes; symbols = interned-more s e (w .symbols) }
   extends-write (list hs) w = record { nodes = extends-self w .nodes; symbols = omega arith }
 
-  write-nodes : (f : Field) (w : Rows) → write text f w .nodes ≡ w .nodes
-  unfolding write
-  write-nodes (number n) w = refl
-  write-nodes (child h) w = refl
-  write-nodes (named h) w = refl
-  write-nodes (symbol s e) w = refl
-  write-nodes (list hs) w = refl
-
-  fill-nodes : (fs : List Field) (xs : List ℕ) (w : Rows) → (ys : List ℕ) × (fill text fs xs w .nodes ≡ w .nodes ++ padded (xs ++ ys))
-  unfolding fill
-  fill-nodes [] xs w = ([], rw (append-nil xs))
-  fill-nodes (f ∷ fs) xs w = let (ys, e) = fill-nodes fs (xs ++ numbers text f w) (write text f w) in (numbers text f w ++ ys, e ∙ rw (append-assoc xs (numbers text f w) ys, write-nodes f w))
-
   seek-below : (x ss : List ℕ) → seek text x ss ≤ length ss / 2
   unfolding seek
   seek-below x [] = omega arith
@@ -140,7 +128,7 @@ module _ (text : List ℕ) where
 
   put-sound : (k : ℕ) (r : Row) (w : Rows) → Aligned w → Sound w (put text k r w)
   unfolding put Aligned
-  put-sound k (writes s e fs) w h = let (ys, z) = fill-nodes fs (k ∷ s ∷ e ∷ []) w in let f = filled text fs (k ∷ s ∷ e ∷ []) w in record { aligned = omega arith; extends = record { nodes = (padded (k ∷ s ∷ e ∷ ys), z); symbols = fill-symbols fs _ w }; first = All-known.cons (Known.node {i = length (w .nodes) / 9} {s = s} {e = e} (omega arith) (rw (z, h, getD-append-add (w .nodes) (padded (k ∷ s ∷ e ∷ ys)) 1 0)) (rw (z, h, getD-append-add (w .nodes) (padded (k ∷ s ∷ e ∷ ys)) 2 0))) All-known.nil; rest = All-known.nil }
+  put-sound k (writes s e fs) w h = let ys = gathered text fs w in let z = fill-nodes text fs (k ∷ s ∷ e ∷ []) w in let f = filled text fs (k ∷ s ∷ e ∷ []) w in record { aligned = omega arith; extends = record { nodes = (padded (k ∷ s ∷ e ∷ ys), z); symbols = fill-symbols fs _ w }; first = All-known.cons (Known.node {i = length (w .nodes) / 9} {s = s} {e = e} (omega arith) (rw (z, h, getD-append-add (w .nodes) (padded (k ∷ s ∷ e ∷ ys)) 1 0)) (rw (z, h, getD-append-add (w .nodes) (padded (k ∷ s ∷ e ∷ ys)) 2 0))) All-known.nil; rest = All-known.nil }
 
   kept : {w : Rows} {hs : List Handle} → Aligned w → All-known w hs → Sound w (keep w hs)
   kept {w} h k = record { aligned = h; extends = extends-self w; first = k; rest = All-known.nil }
@@ -165,5 +153,5 @@ module _ (text : List ℕ) where
 
   -- a script's last row is its root
   pub root-last : (ts : List ℕ) {kind : ℕ → ℕ} {n : ℕ} {t : Tree Label} → Script kind n t → (x : List ℕ) × (l c : ℕ) × (written text ts t .nodes ≡ x ++ padded (20 ∷ 0 ∷ 0 ∷ l ∷ c ∷ absent ∷ []))
-  unfolding written walk make put fill write numbers number-of
+  unfolding written walk make put fill write numbers
   root-last ts (Reads.labelled {t = t} x) = let r = walk text ts t blank in (r .rows .nodes, length (r .rows .links) / 3, length (r .first), refl)

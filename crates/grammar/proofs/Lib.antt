@@ -1,9 +1,19 @@
-pub mod Patterns
-pub mod Machine
-pub mod Reader
-pub mod Outcomes
-pub mod Samples
 pub mod Tables
+pub mod Patterns
+-- one reading, one refusal, one answer
+pub mod Machine
+pub mod Outcomes
+pub mod Answers
+-- rows
 pub mod Room
 pub mod Handles
-pub mod Answers
+pub mod Sizes
+pub mod Order
+pub mod Shapes
+pub mod Forest
+pub mod Decoding
+pub mod Trees
+pub mod Calls
+-- samples
+pub mod Reader
+pub mod Samples

@@ -11,6 +11,7 @@ use Rattle.grammar.specs.Kaori.{Table, Form, above, rules, kaori, Script
 use Rattle.grammar.specs.Label.{Node, Label}
 use Rattle.grammar.specs.Operator.{levels}
 use Rattle.grammar.specs.Phrase.{empty, token, part, nested, node, choice, chain, once, refusal, Tree, more, made, Aim, Reads}
+use Rattle.grammar.specs.Room.{node-width, link-width, symbol-width}
 use Rattle.grammar.specs.Rows.{Rows, blank, seek, interned, links-of, numbers, write, fill, Walked, parts, put, make, walk, written}
 use Rattle.grammar.specs.Rule.{Field, number, child, named, symbol, list, Row, writes, fields, rule}
 use Rattle.grammar.specs.Token.{start, end}
@@ -243,6 +244,15 @@ module _ (text ts : List ℕ) where
   pays (Reads.ended l e) h = pays l h
   pays (Reads.alone x e) h = pays x h
   pays (Reads.joined {n = n} {f = f} {q = q} x e y) h = let (u, v) = paid-node f q (paid-entry n _ e) in pays-link (pays x h) (pays y v) u
+
+  -- a reading of the tokens from a up to b writes b - a rows at most into each room
+  pub record Within (a b : ℕ) (w v : Rows) : Type 0 where
+    pub nodes : length (v .nodes) ≤ length (w .nodes) + node-width * (b - a)
+    pub links : length (v .links) ≤ length (w .links) + link-width * (b - a)
+    pub symbols : length (v .symbols) ≤ length (w .symbols) + symbol-width * (b - a)
+
+  pub reading-rows : {kind : ℕ → ℕ} {m : Aim Table Label} {a b : ℕ} {t : Tree Label} → Reads kaori kind m a b t → T (paid (asked m)) → (w : Rows) → Within a b w (walk text ts t w .rows)
+  reading-rows x h w = let (k, i, g) = pays x h .pay w in omega arith
 
   -- the rows of a script whose Eof stands at n fit rooms of n + 1 rows
   pub record Room (n : ℕ) (w : Rows) : Type 0 where
