@@ -3,6 +3,7 @@ use Prim.Native.Nat.{ℕ, zero, suc, _+_, _-_, _*_, _/_, _≤_}
 use mathlib.Core.Bool.{Bool, true, false, cond, _&&_}
 use mathlib.Core.List.{List, [], _∷_, _++_, tail}
 use mathlib.Core.Path.{_≡_, refl}
+use native.Mathlib.Nat.{le-trans}
 use native.Mathlib.Omega.{arith}
 use lib.Dec.{eqb, leb, T, leb→le, le→leb}
 use lib.ListN.{length, getD, length-append, length-take, length-replicate}
@@ -10,7 +11,7 @@ use Rattle.grammar.specs.Handle.{Handle, link, head, is-tail, block-list
 use Rattle.grammar.specs.Kaori.{Table, Form, above, rules, kaori, Script}
 use Rattle.grammar.specs.Label.{Node, Label}
 use Rattle.grammar.specs.Operator.{levels}
-use Rattle.grammar.specs.Phrase.{empty, token, part, nested, node, choice, chain, once, refusal, Tree, more, made, Aim, Reads}
+use Rattle.grammar.specs.Phrase.{empty, token, part, nested, node, choice, chain, once, refusal, Tree, none, more, deeper, made, Aim, Reads}
 use Rattle.grammar.specs.Room.{node-width, link-width, symbol-width}
 use Rattle.grammar.specs.Rows.{Rows, blank, seek, interned, links-of, numbers, write, fill, Walked, parts, put, make, walk, written}
 use Rattle.grammar.specs.Rule.{Field, number, child, named, symbol, list, Row, writes, fields, rule}
@@ -51,12 +52,12 @@ paid (chain p n) = paid p
 paid (once p n) = paid p
 paid (refusal e) = true
 
-paid-above : (n : ℕ) → T (paid (above n))
+pub paid-above : (n : ℕ) → T (paid (above n))
 unfolding above paid
 paid-above zero = tt
 paid-above (suc n) = paid-above n
 
-paid-tables : (n : Table) → T (each paid (rules n .0) (rules n .1))
+pub paid-tables : (n : Table) → T (each paid (rules n .0) (rules n .1))
 unfolding rules paid spare above
 paid-tables Table.statement = tt
 paid-tables Table.may-end = tt
@@ -79,11 +80,11 @@ paid-tables Table.dots = tt
 paid-tables Table.calls = tt
 paid-tables (Table.operators n) = each-mapped paid _ (getD levels n []) empty (λ x. all (leb 1 (suc (spare (above n)))) (paid (above n)) (le→leb 1 (suc (spare (above n))) (omega arith)) (paid-above n)) tt
 
-paid-node : (f : Label) (p : Form) → T (paid (node f p)) → (cost f ≤ spare p) × T (paid p)
+pub paid-node : (f : Label) (p : Form) → T (paid (node f p)) → (cost f ≤ spare p) × T (paid p)
 unfolding paid
 paid-node f p h = let (u, v) = both (leb (cost f) (spare p)) (paid p) h in (leb→le _ _ u, v)
 
-paid-entry : (n : Table) (x : ℕ) {p : Form} → kaori n x ≡ p → T (paid p)
+pub paid-entry : (n : Table) (x : ℕ) {p : Form} → kaori n x ≡ p → T (paid p)
 paid-entry n x e = rw e at (in-tables (λ n. paid) paid-tables n x)
 
 abbrev pub handles : Walked → ℕ
@@ -119,7 +120,7 @@ link-length (Handle.entry k v) = refl
 link-length (Handle.ended i) = refl
 link-length Handle.other = refl
 
-links-length : (hs : List Handle) → length (links-of hs) ≡ 3 * length hs
+pub links-length : (hs : List Handle) → length (links-of hs) ≡ 3 * length hs
 unfolding links-of
 links-length [] = refl
 links-length (h ∷ hs) = simp (length-append, link-length, links-length hs) (omega arith)
@@ -196,7 +197,7 @@ modest ts Node.Continue a b xs ys x y = omega arith
 modest ts Node.Import a b xs ys x y = omega arith
 
 module _ (text ts : List ℕ) where
-  make-grown : (f : Label) (a b : ℕ) (w : Rows) (xs ys : List Handle) → Grown w (length xs + length ys) (cost f) (make text ts f a b w xs ys)
+  pub make-grown : (f : Label) (a b : ℕ) (w : Rows) (xs ys : List Handle) → Grown w (length xs + length ys) (cost f) (make text ts f a b w xs ys)
   unfolding make write lists words
   make-grown (Label.Row f) a b w xs ys = let (h, i) = modest ts f a b xs ys (head xs) (head ys) in put-grown text _ _ w _ h i
   make-grown Label.Script a b w xs ys = put-grown text _ _ w _ (omega arith) (omega arith)
@@ -244,6 +245,23 @@ module _ (text ts : List ℕ) where
   pays (Reads.ended l e) h = pays l h
   pays (Reads.alone x e) h = pays x h
   pays (Reads.joined {n = n} {f = f} {q = q} x e y) h = let (u, v) = paid-node f q (paid-entry n _ e) in pays-link (pays x h) (pays y v) u
+
+  -- and links are never taken back
+  put-links : (k : ℕ) (r : Row) (w : Rows) → length (w .links) ≤ length (put text k r w .rows .links)
+  unfolding put
+  put-links k (writes s e fs) w = let f = filled text fs (k ∷ s ∷ e ∷ []) w in omega arith
+
+  pub links-grow : (t : Tree Label) (w : Rows) → length (w .links) ≤ length (walk text ts t w .rows .links)
+  unfolding walk make write
+  links-grow none w = omega arith
+  links-grow (more t u) w = omega (arith, links-grow t w, links-grow u (walk text ts t w .rows))
+  links-grow (deeper t) w = links-grow t w
+  links-grow (made (Label.Row n) a b t) w = le-trans (links-grow t w) (put-links _ _ (walk text ts t w .rows))
+  links-grow (made Label.Script a b t) w = le-trans (links-grow t w) (put-links _ _ (walk text ts t w .rows))
+  links-grow (made Label.Ended a b t) w = links-grow t w
+  links-grow (made Label.Item a b t) w = links-grow t w
+  links-grow (made Label.Entry a b t) w = links-grow t w
+  links-grow (made Label.Name a b t) w = links-grow t w
 
   -- a reading of the tokens from a up to b writes b - a rows at most into each room
   pub record Within (a b : ℕ) (w v : Rows) : Type 0 where

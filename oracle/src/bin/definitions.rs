@@ -1,0 +1,173 @@
+//! definitions N [--seed S] [--damage]: N of the original's answers, computed anew by antt from the definitions
+//! of crate `grammar`, in a copy of that crate outside the repository.
+use std::{
+    collections::BTreeMap,
+    env, fs, io,
+    path::{Path, PathBuf},
+    process::{self, Command, ExitCode},
+};
+
+use oracle::{
+    answer::outcome,
+    door,
+    drawn::small,
+    judge,
+    rows::Outcome,
+    show,
+    table::{self, Entry},
+};
+
+/// Cases in one table.
+const CHUNK: usize = 1_000;
+
+fn main() -> ExitCode {
+    let mut words = env::args().skip(1);
+    let (mut count, mut seed, mut damage) = (None, 1, false);
+    while let Some(word) = words.next() {
+        match word.as_str() {
+            "--seed" => seed = words.next().and_then(|seed| seed.parse().ok()).unwrap_or(seed),
+            "--damage" => damage = true,
+            number => count = number.parse().ok(),
+        }
+    }
+    let (Some(count), Some(grammar)) = (count, env::var_os("ORACLE_GRAMMAR")) else {
+        eprintln!("usage: oracle/definitions N [--seed S] [--damage]");
+        return ExitCode::from(2);
+    };
+    oracle::with_large_stack(move || run(count, seed, damage, Path::new(&grammar)))
+}
+
+fn run(count: usize, seed: u64, damage: bool, grammar: &Path) -> ExitCode {
+    let mut entries: Vec<_> = (0..).filter_map(|index| entry(seed, index)).take(count).collect();
+    if damage && let Some(entry) = entries.get_mut(count / 2) {
+        falsify(&mut entry.outcome);
+    }
+    let copy = GrammarCopy::new(grammar).expect("a copy of the crate can be made");
+    if let Err(report) = copy.computes(&[]) {
+        println!("the definitions do not check even with no cases:\n{report}");
+        return ExitCode::from(2);
+    }
+    let mut different = Vec::new();
+    for (number, chunk) in entries.chunks(CHUNK).enumerate() {
+        copy.collect(chunk, &mut different);
+        println!("{} cases computed", (number * CHUNK + chunk.len()));
+    }
+    if let Some((entry, report)) = different.iter().min_by_key(|(entry, _)| entry.case.encode().len()) {
+        print!(
+            "the smallest case that differs:\n{}limit    {}\n",
+            show::case(&entry.case.encode()),
+            entry.limit
+        );
+        print!("Rust\n         {:?}\nantt\n{report}", entry.outcome);
+    }
+    print_codes(&entries);
+    println!("{count} cases, {} differences", different.len());
+    ExitCode::from(!different.is_empty() as u8)
+}
+
+/// A case that passes the door, with a limit near its own depth or the usual one.
+fn entry(seed: u64, index: u64) -> Option<Entry> {
+    let (case, mut random) = small(seed, index);
+    if door::refusal(&case, 64).is_some() {
+        return None;
+    }
+    let depth = judge::read(&case, 64).deepest as usize;
+    let near = [64, 64, depth.saturating_sub(1), depth, depth + 1, random.between(1, depth.max(1))];
+    let limit = random.pick(&near).clamp(1, 64) as u32;
+    Some(Entry { outcome: outcome(&case, limit), case, limit })
+}
+
+fn print_codes(entries: &[Entry]) {
+    let mut counts = BTreeMap::new();
+    for entry in entries {
+        let code = match &entry.outcome {
+            Outcome::Accepted(_) => 0,
+            Outcome::Refused(refusal) => refusal.code,
+        };
+        *counts.entry(code).or_insert(0) += 1;
+    }
+    let counts: Vec<_> = counts.iter().map(|(code, count)| format!("{count} of code {code}")).collect();
+    println!("{}", counts.join(", "));
+}
+
+/// Makes an answer wrong by one.
+fn falsify(outcome: &mut Outcome) {
+    match outcome {
+        Outcome::Accepted(rows) => rows.nodes.last_mut().expect("a root")[4] += 1,
+        Outcome::Refused(refusal) => refusal.at += 1,
+    }
+}
+
+/// The crate with a table of cases, below the temporary folder; removed when dropped.
+struct GrammarCopy {
+    root: PathBuf,
+}
+
+impl GrammarCopy {
+    fn new(grammar: &Path) -> io::Result<GrammarCopy> {
+        let copy =
+            GrammarCopy { root: env::temp_dir().join(format!("oracle-definitions-{}", process::id())) };
+        let to = copy.folder();
+        copy_folder(grammar, &to)?;
+        fs::write(copy.root.join("crates.txt"), "grammar:\n")?;
+        for part in ["specs", "proofs"] {
+            let path = to.join(part).join("Lib.antt");
+            fs::write(&path, fs::read_to_string(&path)? + "pub mod Cases\n")?;
+        }
+        let samples = fs::read_to_string(to.join("proofs/Samples.antt"))?;
+        fs::write(to.join("proofs/Cases.antt"), table::proofs(&samples))?;
+        Ok(copy)
+    }
+
+    fn folder(&self) -> PathBuf {
+        self.root.join("crates/grammar")
+    }
+
+    /// Lets antt compute a table; an error holds what `rt` said.
+    fn computes(&self, entries: &[Entry]) -> Result<(), String> {
+        fs::write(self.folder().join("specs/Cases.antt"), table::specs(entries))
+            .expect("the table can be written");
+        let output = Command::new("rt").arg("check").current_dir(&self.root).output().expect("rt runs");
+        if output.status.success() {
+            return Ok(());
+        }
+        let said = String::from_utf8_lossy(&output.stdout) + String::from_utf8_lossy(&output.stderr);
+        let lines = said.lines().skip_while(|line| !line.contains("error")).take(5);
+        Err(lines
+            .map(|line| format!("         {}\n", line.chars().take(1_000).collect::<String>()))
+            .collect())
+    }
+
+    /// Finds the cases that differ, by halves.
+    fn collect(&self, entries: &[Entry], different: &mut Vec<(Entry, String)>) {
+        match (self.computes(entries), entries) {
+            (Ok(()), _) => {}
+            (Err(report), [entry]) => different.push((entry.clone(), report)),
+            (Err(_), _) => {
+                let (first, second) = entries.split_at(entries.len() / 2);
+                self.collect(first, different);
+                self.collect(second, different);
+            }
+        }
+    }
+}
+
+impl Drop for GrammarCopy {
+    fn drop(&mut self) {
+        let _ = fs::remove_dir_all(&self.root);
+    }
+}
+
+fn copy_folder(from: &Path, to: &Path) -> io::Result<()> {
+    fs::create_dir_all(to)?;
+    for item in fs::read_dir(from)? {
+        let item = item?;
+        let target = to.join(item.file_name());
+        if item.file_type()?.is_dir() {
+            copy_folder(&item.path(), &target)?;
+        } else {
+            fs::write(target, fs::read(item.path())?)?; // not its mode: the copy can be written to
+        }
+    }
+    Ok(())
+}

@@ -1,0 +1,172 @@
+//! What a list of cases covers: which productions, refusals and required kinds its answers show.
+use std::collections::BTreeMap;
+
+use kaori::syntax::token::Token::{self, *};
+
+use crate::{
+    answer::{LIMIT, outcome},
+    case::Case,
+    kinds,
+    rows::{ABSENT, NO_KIND, Outcome, Rows},
+};
+
+#[rustfmt::skip]
+const NODES: [&str; 26] = [
+    "Binary", "LogicalAnd", "LogicalOr", "LogicalNot", "Unary", "Assign", "Variable", "Constant", "Ref",
+    "Identifier", "String", "Number", "Boolean", "Nil", "FunctionCall", "PropertyAccess", "Map", "Function",
+    "Lambda", "Block", "If", "WhileLoop", "Return", "Break", "Continue", "Import",
+];
+
+/// How often each thing is shown.
+#[derive(Default)]
+pub struct Coverage {
+    cases: usize,
+    shown: BTreeMap<String, usize>,
+}
+
+impl Coverage {
+    pub fn of(inputs: impl Iterator<Item = Vec<u8>>) -> Coverage {
+        let mut coverage = Coverage::default();
+        inputs.for_each(|input| coverage.add(&input));
+        coverage
+    }
+
+    fn add(&mut self, input: &[u8]) {
+        self.cases += 1;
+        let Some(case) = Case::decode(input) else { return self.show("bad input") };
+        match outcome(&case, LIMIT) {
+            Outcome::Accepted(rows) => {
+                self.show("code 0");
+                productions(&case, &rows).into_iter().for_each(|name| self.show(&name));
+            }
+            Outcome::Refused(refusal) => {
+                self.show(&format!("code {}", refusal.code));
+                if refusal.expected != NO_KIND {
+                    self.show(&format!("expected {}", kinds::name(refusal.expected as u8)));
+                }
+            }
+        }
+    }
+
+    fn show(&mut self, name: &str) {
+        *self.shown.entry(name.into()).or_default() += 1;
+    }
+
+    /// Prints all that is shown, and what is missing; true if nothing is.
+    pub fn print(&self) -> bool {
+        for (name, count) in &self.shown {
+            println!("{count:7}  {name}");
+        }
+        let missing = self.missing();
+        missing.iter().for_each(|name| println!("missing: {name}"));
+        println!("{} cases, {} things shown, {} missing", self.cases, self.shown.len(), missing.len());
+        missing.is_empty()
+    }
+
+    /// What must be shown and is not.
+    fn missing(&self) -> Vec<String> {
+        required().into_iter().filter(|name| !self.shown.contains_key(name)).collect()
+    }
+}
+
+/// What a list has to show that is to cover the language as `rows` can meet it.
+fn required() -> Vec<String> {
+    let mut names: Vec<String> = NODES.map(|node| format!("node {node}")).into();
+    names.push("bad input".into());
+    names.extend([0, 1, 5, 6, 7, 8, 9, 10, 11].map(|code| format!("code {code}")));
+    let kinds = [Assign, Comma, Pipe, LeftParen, RightParen, LeftBrace, RightBrace, Semicolon, Identifier];
+    names.extend(kinds.map(|kind| format!("expected {kind:?}")));
+    names.extend((0..11).map(|operator| format!("Binary operator {operator}")));
+    names.extend((0..2).map(|operator| format!("Unary operator {operator}")));
+    names.extend((0..2).map(|value| format!("Boolean {value}")));
+    for list in [
+        "call arguments",
+        "map entries",
+        "function parameters",
+        "lambda parameters",
+        "block statements",
+        "import bindings",
+    ] {
+        names.extend((0..3).map(|count| format!("{list}: {count}")));
+    }
+    names.extend((1..3).map(|count| format!("import path: {count}")));
+    names.extend(OTHERS.map(String::from));
+    names
+}
+
+#[rustfmt::skip]
+const OTHERS: [&str; 33] = [
+    "block with a tail", "block without a tail", "if without else", "else with a block", "else with an if",
+    "lambda of a block", "lambda of an expression", "map key alone", "map key and value",
+    "call of Identifier", "call of FunctionCall", "call of PropertyAccess",
+    "property of Identifier", "property of FunctionCall", "property of PropertyAccess",
+    "`, )`", "`, |`", "`, }`", "`, ;`", "`: ;`", "`} ;`", "prefix `+`", "`( (`", "`else if`",
+    "condition If", "statement Block", "statement If", "statement WhileLoop", "statement Function",
+    "statement Import", "statement Assign", "tail Import", "tail Variable",
+];
+
+fn productions(case: &Case, rows: &Rows) -> Vec<String> {
+    let mut names = Vec::new();
+    let node = |id: u32| NODES[rows.nodes[id as usize][0] as usize - 1];
+    for row in &rows.nodes {
+        let [kind, _, _, a, b, c, d, e, _] = *row;
+        names.push(format!("node {}", NODES[kind as usize - 1]));
+        match kind {
+            1 => names.push(format!("Binary operator {a}")),
+            5 => names.push(format!("Unary operator {a}")),
+            13 => names.push(format!("Boolean {a}")),
+            15 => names.extend([format!("call arguments: {c}"), format!("call of {}", node(a))]),
+            16 => names.push(format!("property of {}", node(a))),
+            17 => {
+                names.push(format!("map entries: {b}"));
+                for link in &rows.links[a as usize..(a + b) as usize] {
+                    let value = if link[1] == ABSENT { "alone" } else { "and value" };
+                    names.push(format!("map key {value}"));
+                }
+            }
+            18 => names.push(format!("function parameters: {e}")),
+            19 => {
+                names.push(format!("lambda parameters: {b}"));
+                let body = if node(c) == "Block" { "a block" } else { "an expression" };
+                names.push(format!("lambda of {body}"));
+            }
+            20 => {
+                names.push(format!("block statements: {b}"));
+                for link in &rows.links[a as usize..(a + b) as usize] {
+                    names.push(format!("statement {}", node(link[0])));
+                }
+                if c == ABSENT {
+                    names.push("block without a tail".into());
+                } else {
+                    names.extend(["block with a tail".into(), format!("tail {}", node(c))]);
+                }
+            }
+            21 => {
+                names.push(format!("condition {}", node(a)));
+                names.push(match c {
+                    ABSENT => "if without else".into(),
+                    _ if node(c) == "If" => "else with an if".into(),
+                    _ => "else with a block".into(),
+                });
+            }
+            26 => names.extend([format!("import path: {b}"), format!("import bindings: {d}")]),
+            _ => {}
+        }
+    }
+    for pair in case.tokens.windows(2) {
+        let is = |first: Token, second: Token| (pair[0].kind, pair[1].kind) == (first as u8, second as u8);
+        let pairs = [
+            (Comma, RightParen, "`, )`"),
+            (Comma, Pipe, "`, |`"),
+            (Comma, RightBrace, "`, }`"),
+            (Comma, Semicolon, "`, ;`"),
+            (Colon, Semicolon, "`: ;`"),
+            (RightBrace, Semicolon, "`} ;`"),
+            (Plus, Plus, "prefix `+`"),
+            (LeftParen, LeftParen, "`( (`"),
+            (Else, If, "`else if`"),
+        ];
+        names.extend(pairs.into_iter().filter(|pair| is(pair.0, pair.1)).map(|pair| pair.2.to_string()));
+    }
+    names
+}

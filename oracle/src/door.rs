@@ -1,0 +1,46 @@
+//! Checks 1 to 7 of document 01, as far as an input of `rows` can fail them; its rooms are large enough.
+use crate::{
+    case::{Case, Token},
+    kinds::{EOF, fits},
+    rows::{NO_KIND, Refusal},
+};
+
+pub fn refusal(case: &Case, limit: u32) -> Option<Refusal> {
+    if !(1..=4_096).contains(&case.tokens.len()) {
+        return Some(placeless(1));
+    }
+    if case.text.len() > 65_536 {
+        return Some(placeless(2));
+    }
+    if !(1..=64).contains(&limit) {
+        return Some(placeless(3));
+    }
+    if let Some(offset) = case.text.iter().position(|byte| *byte > 127) {
+        let offset = offset as u32;
+        return Some(Refusal { start: offset, end: offset + 1, ..placeless(5) });
+    }
+    if let Some(at) = (0..case.tokens.len()).find(|at| is_bad(case, *at)) {
+        return Some(at_token(case, 6, at));
+    }
+    let last = case.tokens.len() - 1;
+    let misplaced = |(at, token): (usize, &Token)| (token.kind == EOF) != (at == last);
+    let at = case.tokens.iter().enumerate().position(misplaced)?;
+    Some(at_token(case, 7, at))
+}
+
+fn is_bad(case: &Case, at: usize) -> bool {
+    let token = case.tokens[at];
+    let previous_end = if at == 0 { 0 } else { case.tokens[at - 1].end };
+    token.kind > EOF
+        || token.start < previous_end
+        || case.lexeme(token).is_none_or(|lexeme| !fits(token.kind, lexeme))
+}
+
+fn placeless(code: u32) -> Refusal {
+    Refusal { code, at: 0, start: 0, end: 0, expected: NO_KIND, message: String::new() }
+}
+
+fn at_token(case: &Case, code: u32, at: usize) -> Refusal {
+    let Token { start, end, .. } = case.tokens[at];
+    Refusal { at: at as u32, start, end, ..placeless(code) }
+}

@@ -1,0 +1,134 @@
+//! Runs the original parser, and the derived one that counts openings, and holds one against the other.
+use std::{
+    cell::Cell,
+    panic::{self, AssertUnwindSafe},
+    sync::{Mutex, Once, PoisonError},
+};
+
+use kaori::{
+    compiler::{Compiler, FOR, NESTED, fresh_interner},
+    diagnostics::error::Error,
+    syntax::{ast::Ast, counted, parser, token},
+};
+
+use crate::{
+    case::Case,
+    kinds::TOKENS,
+    rows::{NO_KIND, Outcome, Refusal, Rows, rows},
+    show,
+};
+
+pub struct Reading {
+    pub outcome: Outcome,
+    /// The most openings taken at once, within the limit.
+    pub deepest: u32,
+}
+
+/// Reads a case that has passed the door.
+pub fn read(case: &Case, limit: u32) -> Reading {
+    static TURN: Mutex<()> = Mutex::new(()); // there is one interner
+    let _turn = TURN.lock().unwrap_or_else(PoisonError::into_inner);
+
+    let text = str::from_utf8(&case.text).expect("the door lets ASCII alone through");
+    let compiler = Compiler::with_limit(limit);
+    let counted = result(case, || counted::Parser::new(text, tokens(case), &compiler).parse());
+    let deepest = compiler.deepest();
+
+    let outcome = match counted {
+        Parsed::Error(error) if error.message == NESTED => refused(case, 11, NO_KIND, &error),
+        counted => {
+            let compiler = Compiler::default();
+            let original = result(case, || parser::Parser::new(text, tokens(case), &compiler).parse());
+            agreed(case, original, counted)
+        }
+    };
+    Reading { outcome, deepest }
+}
+
+enum Parsed {
+    Rows(Rows),
+    Error(Error),
+    /// `todo!()`
+    Panic,
+}
+
+fn tokens(case: &Case) -> Vec<(token::Token, token::Span)> {
+    let span = |start, end| token::Span { start, end };
+    case.tokens.iter().map(|t| (TOKENS[t.kind as usize], span(t.start, t.end))).collect()
+}
+
+fn result(case: &Case, parse: impl FnOnce() -> Result<Ast, Error>) -> Parsed {
+    fresh_interner();
+    match silently(parse) {
+        Ok(Ok(ast)) => Parsed::Rows(rows(case, &ast)),
+        Ok(Err(error)) => Parsed::Error(error),
+        Err(message) if message == "not yet implemented" => Parsed::Panic,
+        Err(message) => panic!("the parser panicked: {message}"),
+    }
+}
+
+/// The outcome of the original. The derived parser adds the place where the original panics at `for`.
+fn agreed(case: &Case, original: Parsed, counted: Parsed) -> Outcome {
+    match (original, counted) {
+        (Parsed::Rows(rows), Parsed::Rows(same)) => {
+            assert_eq!(rows, same, "{}", show::case(&case.encode()));
+            Outcome::Accepted(rows)
+        }
+        (Parsed::Error(error), Parsed::Error(same)) => {
+            let place = |error: &Error| (error.span.start, error.span.end);
+            assert_eq!((place(&error), &error.message), (place(&same), &same.message));
+            let (code, expected) = meaning(&error.message);
+            refused(case, code, expected, &error)
+        }
+        (Parsed::Panic, Parsed::Error(error)) if error.message == FOR => refused(case, 10, NO_KIND, &error),
+        _ => panic!("the original and the derived parser differ:\n{}", show::case(&case.encode())),
+    }
+}
+
+/// Code and expected kind of a message of parser.rs.
+fn meaning(message: &str) -> (u32, u32) {
+    if message == "failed to parse float" {
+        return (12, NO_KIND);
+    }
+    if message.starts_with("expected a <operand> and found: ") {
+        return (9, NO_KIND);
+    }
+    let required = message.strip_prefix("expected ").and_then(|rest| rest.split_once(" and found "));
+    let (name, _) = required.unwrap_or_else(|| panic!("a message without a code: {message}"));
+    let kind = TOKENS.iter().position(|token| token.to_string() == name);
+    (8, kind.unwrap_or_else(|| panic!("no kind is called {name}")) as u32)
+}
+
+/// The token is found by its span: past the door no two tokens have the same.
+fn refused(case: &Case, code: u32, expected: u32, error: &Error) -> Outcome {
+    let token::Span { start, end } = error.span;
+    let at = case.tokens.iter().position(|token| (token.start, token.end) == (start, end));
+    let at = at.expect("a token with the error's span") as u32;
+    let message = error.message.clone();
+    Outcome::Refused(Refusal { code, at, start, end, expected, message })
+}
+
+thread_local! {
+    static SILENT: Cell<bool> = const { Cell::new(false) };
+}
+
+/// Runs `work`; if it panics, gives the message and prints nothing.
+pub fn silently<T>(work: impl FnOnce() -> T) -> Result<T, String> {
+    static HOOK: Once = Once::new();
+    HOOK.call_once(|| {
+        let usual = panic::take_hook();
+        panic::set_hook(Box::new(move |info| {
+            if !SILENT.get() {
+                usual(info);
+            }
+        }));
+    });
+
+    SILENT.set(true);
+    let result = panic::catch_unwind(AssertUnwindSafe(work));
+    SILENT.set(false);
+    result.map_err(|payload| match payload.downcast::<String>() {
+        Ok(message) => *message,
+        Err(payload) => payload.downcast::<&str>().map_or("no message".into(), |text| text.to_string()),
+    })
+}

@@ -1,0 +1,30 @@
+//! The original Rust parser as the judge: what the program `rows` must print for an input.
+pub mod answer;
+pub mod case;
+pub mod corners;
+pub mod coverage;
+pub mod door;
+pub mod drawn;
+pub mod fixed;
+pub mod frame;
+pub mod judge;
+pub mod kinds;
+pub mod list;
+pub mod random;
+pub mod rows;
+pub mod scripts;
+pub mod show;
+pub mod shrink;
+pub mod subject;
+pub mod table;
+
+pub use answer::{LIMIT, answer, answer_with};
+
+/// Runs `work` with stack enough for the original parser on any input of `rows`.
+pub fn with_large_stack<T: Send + 'static>(work: impl FnOnce() -> T + Send + 'static) -> T {
+    let thread = std::thread::Builder::new().stack_size(256 << 20).spawn(work);
+    match thread.expect("a thread").join() {
+        Ok(result) => result,
+        Err(panic) => std::panic::resume_unwind(panic),
+    }
+}

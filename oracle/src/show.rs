@@ -1,0 +1,20 @@
+//! Cases and answers for people to read.
+use crate::{case::Case, kinds::name};
+
+pub fn case(input: &[u8]) -> String {
+    let Some(case) = Case::decode(input) else {
+        return format!("bytes    {}\n", hex(input));
+    };
+    let token = |token: &crate::case::Token| format!("{} {}..{}", name(token.kind), token.start, token.end);
+    let tokens: Vec<_> = case.tokens.iter().map(token).collect();
+    format!("text     \"{}\"\ntokens   {}\n", case.text.escape_ascii(), tokens.join(", "))
+}
+
+pub fn answer(output: &[u8]) -> String {
+    let text = String::from_utf8_lossy(output);
+    text.lines().map(|line| format!("         {line}\n")).collect()
+}
+
+fn hex(bytes: &[u8]) -> String {
+    bytes.iter().map(|byte| format!("{byte:02X} ")).collect()
+}
