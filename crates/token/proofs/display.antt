@@ -1,0 +1,3 @@
+pub mod Table
+pub mod Names
+pub mod Writing

@@ -1,0 +1,246 @@
+// Which lexeme fits which kind: document 002's patterns for numbers, strings and identifiers, and the fixed spellings. Each function asks that the span
+// lies in the text.
+ghost use mathlib.Core.List.{[], _∷_};
+ghost use mathlib.Core.Path.{_≡_};
+ghost use Prim.Native.Nat.{_≤_};
+ghost use lib.ListN.{length};
+ghost use Rattle.grammar.specs.Lexeme.{letter, number, string, identifier, Fits};
+ghost use Rattle.grammar.specs.Pattern.{byte, matches, digit, some, maybe};
+ghost use Rattle.grammar.specs.Token.{lexeme};
+ghost use Rattle.token.specs.Decides.{Decides};
+ghost use Rattle.token.specs.Parts.{signed, power, inside, letter-or-digit, Keyword, OneOf};
+ghost use Rattle.token.specs.Run.{Ran};
+use crate::spelling::spelled;
+
+// Whether the text from `start` up to `end` fits a kind of token. For the crates above. Ruled out: `nil` as an Identifier, `1e` as a NumberLiteral.
+pub fn fits(kind: u32, text: &[u8], start: usize, end: usize) -> bool
+    requires { ⌜ (start ≤ end) × (end ≤ length (now text)) ⌝ }
+    ensures { λ r. ⌜ Decides (Fits kind (lexeme (now (text .entry)) start end)) r ⌝ }
+{
+    match kind {
+        40 => is_number(text, start, end),
+        42 => is_string(text, start, end),
+        43 => {
+            if is_keyword(text, start, end) {
+                return false;
+            }
+            is_identifier(text, start, end)
+        }
+        0..=41 => spelled(kind, text, start, end),
+        _ => true,
+    }
+}
+
+// One of the 18 keywords: those with the same first letter are compared.
+fn is_keyword(text: &[u8], start: usize, end: usize) -> bool
+    requires { ⌜ (start ≤ end) × (end ≤ length (now text)) ⌝ }
+    ensures { λ r. ⌜ Decides (Keyword (lexeme (now (text .entry)) start end)) r ⌝ }
+{
+    if start == end {
+        return false;
+    }
+    match text[start] {
+        b'a' => spelled(22, text, start, end),
+        b'b' => spelled(31, text, start, end),
+        b'c' => is_one_of(26, 32, text, start, end),
+        b'e' => spelled(34, text, start, end),
+        b'f' => {
+            if spelled(28, text, start, end) {
+                return true;
+            }
+            is_one_of(29, 38, text, start, end)
+        }
+        b'i' => is_one_of(33, 36, text, start, end),
+        b'l' => spelled(25, text, start, end),
+        b'n' => is_one_of(24, 39, text, start, end),
+        b'o' => spelled(23, text, start, end),
+        b'r' => is_one_of(27, 35, text, start, end),
+        b't' => spelled(37, text, start, end),
+        b'w' => spelled(30, text, start, end),
+        _ => false,
+    }
+}
+
+// The spelling of one of two kinds.
+fn is_one_of(first: u32, second: u32, text: &[u8], start: usize, end: usize) -> bool
+    requires { ⌜ (start ≤ end) × (end ≤ length (now text)) ⌝ }
+    ensures { λ r. ⌜ Decides (OneOf (lexeme (now (text .entry)) start end) (first ∷ second ∷ [])) r ⌝ }
+{
+    if spelled(first, text, start, end) {
+        return true;
+    }
+    spelled(second, text, start, end)
+}
+
+// [a-zA-Z_][a-zA-Z0-9_]*
+fn is_identifier(text: &[u8], start: usize, end: usize) -> bool
+    requires { ⌜ (start ≤ end) × (end ≤ length (now text)) ⌝ }
+    ensures { λ r. ⌜ r ≡ matches identifier (lexeme (now (text .entry)) start end) ⌝ }
+{
+    if start == end {
+        return false;
+    }
+    if !is_letter(text[start]) {
+        return false;
+    }
+    let mut at = start + 1;
+    while at < end {
+        if !is_letter_or_digit(text[at]) {
+            return false;
+        }
+        at += 1;
+    }
+    true
+}
+
+// "([^"\\]|\\.)*"
+fn is_string(text: &[u8], start: usize, end: usize) -> bool
+    requires { ⌜ (start ≤ end) × (end ≤ length (now text)) ⌝ }
+    ensures { λ r. ⌜ r ≡ matches string (lexeme (now (text .entry)) start end) ⌝ }
+{
+    if start == end {
+        return false;
+    }
+    let first = text[start];
+    if first != b'"' {
+        return false;
+    }
+    is_inside(text, start + 1, end)
+}
+
+// What follows the opening quote, up to the closing one.
+fn is_inside(text: &[u8], start: usize, end: usize) -> bool
+    requires { ⌜ (start ≤ end) × (end ≤ length (now text)) ⌝ }
+    ensures { λ r. ⌜ r ≡ matches inside (lexeme (now (text .entry)) start end) ⌝ }
+{
+    let mut at = start;
+    while at < end {
+        let here = text[at];
+        at += 1;
+        if here == b'"' {
+            return at == end;
+        }
+        if here != b'\\' {
+            continue;
+        }
+        if at == end {
+            return false;
+        }
+        let next = text[at];
+        if next == 10 {
+            return false;
+        }
+        at += 1;
+    }
+    false
+}
+
+// [0-9]+(\.[0-9]+)?([eE][+-]?[0-9]+)?
+fn is_number(text: &[u8], start: usize, end: usize) -> bool
+    requires { ⌜ (start ≤ end) × (end ≤ length (now text)) ⌝ }
+    ensures { λ r. ⌜ r ≡ matches number (lexeme (now (text .entry)) start end) ⌝ }
+{
+    let at = digits(text, start, end);
+    if at == start {
+        return false;
+    }
+    if at == end {
+        return true;
+    }
+    let point = text[at];
+    if point != b'.' {
+        return is_power(text, at, end);
+    }
+    let from = at + 1;
+    let upto = digits(text, from, end);
+    if upto == from {
+        return false;
+    }
+    is_power(text, upto, end)
+}
+
+// Nothing, or [eE][+-]?[0-9]+. Ruled out: `e`, and `5`.
+pub fn is_power(text: &[u8], start: usize, end: usize) -> bool
+    requires { ⌜ (start ≤ end) × (end ≤ length (now text)) ⌝ }
+    ensures { λ r. ⌜ r ≡ matches (maybe power) (lexeme (now (text .entry)) start end) ⌝ }
+{
+    if start == end {
+        return true;
+    }
+    match text[start] {
+        b'E' | b'e' => is_signed(text, start + 1, end),
+        _ => false,
+    }
+}
+
+// [+-]?[0-9]+
+fn is_signed(text: &[u8], start: usize, end: usize) -> bool
+    requires { ⌜ (start ≤ end) × (end ≤ length (now text)) ⌝ }
+    ensures { λ r. ⌜ r ≡ matches signed (lexeme (now (text .entry)) start end) ⌝ }
+{
+    if start == end {
+        return false;
+    }
+    match text[start] {
+        b'+' | b'-' => are_digits(text, start + 1, end),
+        _ => are_digits(text, start, end),
+    }
+}
+
+// [0-9]+
+fn are_digits(text: &[u8], start: usize, end: usize) -> bool
+    requires { ⌜ (start ≤ end) × (end ≤ length (now text)) ⌝ }
+    ensures { λ r. ⌜ r ≡ matches (some (byte digit)) (lexeme (now (text .entry)) start end) ⌝ }
+{
+    let upto = digits(text, start, end);
+    if upto == start {
+        return false;
+    }
+    upto == end
+}
+
+// The end of the run of digits that starts at `start`. Ruled out: an end before a digit, and one past another byte.
+pub fn digits(text: &[u8], start: usize, end: usize) -> usize
+    requires { ⌜ (start ≤ end) × (end ≤ length (now text)) ⌝ }
+    ensures { λ r. ⌜ Ran digit (now (text .entry)) start end r ⌝ }
+{
+    let mut at = start;
+    while at < end {
+        if !is_digit(text[at]) {
+            return at;
+        }
+        at += 1;
+    }
+    at
+}
+
+// [a-zA-Z_]
+fn is_letter(byte: u8) -> bool
+    ensures { λ r. ⌜ r ≡ letter byte ⌝ }
+{
+    match byte {
+        b'A'..=b'Z' => true,
+        b'_' => true,
+        b'a'..=b'z' => true,
+        _ => false,
+    }
+}
+
+// [0-9]
+fn is_digit(byte: u8) -> bool
+    ensures { λ r. ⌜ r ≡ digit byte ⌝ }
+{
+    match byte {
+        b'0'..=b'9' => true,
+        _ => false,
+    }
+}
+
+fn is_letter_or_digit(byte: u8) -> bool
+    ensures { λ r. ⌜ r ≡ letter-or-digit byte ⌝ }
+{
+    if is_letter(byte) {
+        return true;
+    }
+    is_digit(byte)
+}
