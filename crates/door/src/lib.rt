@@ -1,0 +1,216 @@
+// The door: checks 1 to 7 of document 01, in order. A call that is let in is one that the readers can read without a test of their own.
+use token::lexeme::fits;
+use token::list::end_at;
+use token::list::kind_at;
+use token::list::start_at;
+ghost use mathlib.Core.Path.{_≡_};
+ghost use Prim.Native.Nat.{_/_, _≤_, _<_};
+ghost use lib.ListN.{length, getD};
+ghost use Rattle.grammar.specs.Door.{Whole, Sound, Closed};
+ghost use Rattle.grammar.specs.Token.{count};
+ghost use Rattle.token.specs.Decides.{Decides};
+ghost use Rattle.door.specs.Entry.{Found, Measured, Listed, Entered};
+
+// The code, and the numbers at, start and end. No certain kind is ever required here.
+pub struct Refusal {
+    pub code: u32,
+    pub at: u32,
+    pub start: u32,
+    pub end: u32,
+}
+
+pub enum Entry {
+    Open,
+    Refused(Refusal),
+}
+
+// The first of checks 1 to 4 that fails, of lengths alone, or 0.
+fn lengths(
+    list: usize,
+    text: usize,
+    limit: u32,
+    nodes: usize,
+    links: usize,
+    symbols: usize,
+    scratch: usize,
+) -> u32
+    ensures { λ r. ⌜ Measured list text limit nodes links symbols scratch r ⌝ }
+{
+    let tokens = list / 3;
+    if list % 3 != 0 {
+        return 1;
+    }
+    if tokens < 1 {
+        return 1;
+    }
+    if 4096 < tokens {
+        return 1;
+    }
+    if 65536 < text {
+        return 2;
+    }
+    if limit < 1 {
+        return 3;
+    }
+    if 64 < limit {
+        return 3;
+    }
+    if nodes / 9 < tokens {
+        return 4;
+    }
+    if links / 3 < tokens {
+        return 4;
+    }
+    if symbols / 2 < tokens {
+        return 4;
+    }
+    if scratch / 3 < tokens {
+        return 4;
+    }
+    0
+}
+
+// The first byte over 127, or the text's length.
+fn first_high(text: &[u8]) -> usize
+    ensures { λ r. ⌜ Found (λ i. getD (now (text .entry)) i 0 ≤ 127) (length (now (text .entry))) r ⌝ }
+{
+    let mut i = 0;
+    while i < text.len() {
+        if 127 < text[i] {
+            return i;
+        }
+        i += 1;
+    }
+    i
+}
+
+// Whether a token is none of the bad ones of check 6.
+fn sound(text: &[u8], tokens: &[u32], at: usize) -> bool
+    requires { ⌜ at < count (now tokens) ⌝ }
+    ensures { λ r. ⌜ Decides (Sound (now (text .entry)) (now (tokens .entry)) at) r ⌝ }
+{
+    let kind = kind_at(tokens, at);
+    let start = start_at(tokens, at);
+    let end = end_at(tokens, at);
+    if 44 < kind {
+        return false;
+    }
+    if end < start {
+        return false;
+    }
+    if text.len() < end as usize {
+        return false;
+    }
+    if 0 < at {
+        if start < end_at(tokens, at - 1) {
+            return false;
+        }
+        return fits(kind, text, start as usize, end as usize);
+    }
+    fits(kind, text, start as usize, end as usize)
+}
+
+// The first token that is bad in any of these ways, or the count.
+fn first_unsound(text: &[u8], tokens: &[u32]) -> usize
+    ensures { λ r. ⌜ Found (Sound (now (text .entry)) (now (tokens .entry))) (count (now (tokens .entry))) r ⌝ }
+{
+    let count = tokens.len() / 3;
+    let mut i = 0;
+    while i < count {
+        if !sound(text, tokens, i) {
+            return i;
+        }
+        i += 1;
+    }
+    i
+}
+
+// The first Eof that is not last, or a last token that is none; or the count.
+fn first_unclosed(tokens: &[u32]) -> usize
+    ensures { λ r. ⌜ Found (Closed (now (tokens .entry))) (count (now (tokens .entry))) r ⌝ }
+{
+    let count = tokens.len() / 3;
+    let mut i = 0;
+    while i < count {
+        let kind = kind_at(tokens, i);
+        if i + 1 < count {
+            if kind == 44 {
+                return i;
+            }
+        } else {
+            if kind != 44 {
+                return i;
+            }
+        }
+        i += 1;
+    }
+    i
+}
+
+// Checks 6 and 7.
+fn listed(text: &[u8], tokens: &[u32]) -> Entry
+    requires { ⌜ Whole (now tokens) ⌝ }
+    ensures { λ r. ⌜ Listed (now (text .entry)) (now (tokens .entry)) r ⌝ }
+{
+    let count = tokens.len() / 3;
+    let bad = first_unsound(text, tokens);
+    if bad < count {
+        return Entry::Refused(Refusal {
+            code: 6,
+            at: bad as u32,
+            start: start_at(tokens, bad),
+            end: end_at(tokens, bad),
+        });
+    }
+    let open = first_unclosed(tokens);
+    if open < count {
+        return Entry::Refused(Refusal {
+            code: 7,
+            at: open as u32,
+            start: start_at(tokens, open),
+            end: end_at(tokens, open),
+        });
+    }
+    Entry::Open
+}
+
+// Lets a call in, or turns it away: of the rooms only the lengths matter. Ruled out: a code that is not the first, a place that is not the first.
+pub fn check(
+    text: &[u8],
+    tokens: &[u32],
+    limit: u32,
+    nodes: usize,
+    links: usize,
+    symbols: usize,
+    scratch: usize,
+) -> Entry
+    ensures { λ r. ⌜ Entered (now (text .entry)) (now (tokens .entry)) limit nodes links symbols scratch r ⌝ }
+{
+    let code = lengths(
+        tokens.len(),
+        text.len(),
+        limit,
+        nodes,
+        links,
+        symbols,
+        scratch,
+    );
+    if code != 0 {
+        return Entry::Refused(Refusal {
+            code: code,
+            at: 0,
+            start: 0,
+            end: 0,
+        });
+    }
+    let high = first_high(text);
+    if high < text.len() {
+        return Entry::Refused(Refusal {
+            code: 5,
+            at: 0,
+            start: high as u32,
+            end: (high + 1) as u32,
+        });
+    }
+    listed(text, tokens)
+}
