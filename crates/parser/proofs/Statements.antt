@@ -1,0 +1,216 @@
+-- Statements and blocks: a statement's form and what ends it, and a block's tail, which is no list item.
+use Prim.Native.Nat.{ℕ, _+_, _-_, _*_, _≤_, _<_}
+use native.Mathlib.Decide.{ℕ-discrete}
+use native.Mathlib.Omega.{arith}
+use mathlib.Core.Bool.{Bool, true, false, cond, not, _&&_, false≢true}
+use mathlib.Core.List.{List, [], _∷_, _++_, append-assoc, map}
+use mathlib.Core.Logic.{_⊎_, inl, inr, ⊎-elim}
+use mathlib.Core.Path.{_≡_, refl, sym, ap, _∙_}
+use lib.Dec.{eqb}
+use lib.ListN.{length, take, length-append}
+use lib.Seq.{take-take, take-at, length-take-le}
+use borrow.Author.Tests.{eqb-true, eqb-false, ne-eqb}
+use Rattle.ast.specs.Written.{Written}
+use Rattle.ast.specs.declared.Node.{Node}
+use Rattle.grammar.specs.Float.{float, seen}
+use Rattle.grammar.specs.Handle.{Handle, absent, row, link, last, is-tail, block-tail, block-list}
+use Rattle.grammar.specs.Kaori.{Form, Table, statement, block-items, may-end, must-end, assignment, semicolon, rules, look, kaori}
+use Rattle.grammar.specs.Kind.{LeftBrace, RightBrace, Function, While, If, NumberLiteral, Semicolon, RejectedNumber}
+use Rattle.grammar.specs.Label.{Label}
+use Rattle.grammar.specs.Pattern.{matches}
+use Rattle.grammar.specs.Phrase.{empty, node, choice, once, whole, begun}
+use Rattle.grammar.specs.Refusal.{Refused, Refuses}
+use Rattle.grammar.specs.Rows.{links-of, make}
+use Rattle.grammar.specs.Token.{kind, start, end, lexeme}
+use Rattle.grammar.proofs.Room.{links-length}
+use Rattle.grammar.proofs.Tables.{Unlisted}
+use Rattle.parser.specs.Answers.{next, node-of, tail-of, Case, Answered, Listed, Fill-case, Fills, Stated, State-case, States}
+use Rattle.parser.specs.Parts.{forms, form-of, ending, Ends, Ended, Untailed}
+use Rattle.parser.specs.Reading.{refusal, Success, Refusing}
+use Rattle.parser.specs.State.{State, state, held, Lent, Within, Ready}
+use Rattle.parser.specs.declared.Cursor.{Cursor}
+use Rattle.parser.specs.declared.Read.{Read}
+use Rattle.parser.specs.declared.Refusal.{Refusal}
+use Rattle.parser.proofs.Laws.{sees, sees-not, rooms-same, Made, nothing, chosen, ended, alone, joined, taken, ready-next, ready-on}
+use Rattle.parser.proofs.Listings.{pushed, links-append, Statements, listing-none, none-items, listing-more, more-items}
+use Rattle.parser.proofs.Replies.{after-once}
+use Rattle.parser.proofs.Sorts.{tail-present, statement-link}
+
+-- a table whose entries are made alike
+ended-look : (end : ℕ → Table) (es : List (ℕ × Form)) (p : Form) (x : ℕ) {t : Table} → (Unlisted x es → end x ≡ t) → look (map (λ e. (e .0, once (e .1) (end (e .0)))) es) (once p t) x ≡ once (look es p x) (end x)
+ended-look end [] p x h = rw (h tt)
+ended-look end (e ∷ es) p x {t} h = go (eqb x (e .0)) refl (λ n. ended-look end es p x (λ u. h (n, u)))
+  where
+    go : (b : Bool) → eqb x (e .0) ≡ b → ((x ≡ e .0 → ⊥) → look (map (λ e. (e .0, once (e .1) (end (e .0)))) es) (once p t) x ≡ once (look es p x) (end x)) → cond (eqb x (e .0)) (once (e .1) (end (e .0))) (look (map (λ e. (e .0, once (e .1) (end (e .0)))) es) (once p t) x) ≡ once (cond (eqb x (e .0)) (e .1) (look es p x)) (end x)
+    go true z f = let y = eqb-true x (e .0) z in rw (z, y)
+    go false z f = rw z (f (eqb-false x (e .0) z))
+
+unlisted-ending : (x : ℕ) → Unlisted x forms → ending x ≡ must-end
+unfolding ending
+unlisted-ending x u = simp (ne-eqb x LeftBrace (u .1 .0), ne-eqb x If (u .1 .1 .0), ne-eqb x Function (u .1 .1 .1 .0), ne-eqb x While (u .1 .1 .1 .1 .0))
+
+-- what a statement is that starts with a token of kind x
+pub statement-form : (x : ℕ) → kaori statement x ≡ once (form-of x) (ending x)
+unfolding kaori rules form-of ending
+statement-form x = ended-look ending forms assignment x (unlisted-ending x)
+
+-- a rejected number starts a statement as a number does
+pub statement-seen : (text ts : List ℕ) (a : ℕ) {x : ℕ} → x ≡ kind ts a → kaori statement (seen text ts a) ≡ once (form-of x) (ending x)
+unfolding seen kaori rules form-of ending
+statement-seen text ts a {x} e = elim (ℕ-discrete x NumberLiteral) [ yes z ↦ number (sym e ∙ z) z (eqb (kind ts a) NumberLiteral && not (matches float (lexeme text (start ts a) (end ts a)))) | no n ↦ rw (sees text ts a (sym e) n) (statement-form x) ]
+  where
+    number : kind ts a ≡ NumberLiteral → x ≡ NumberLiteral → (b : Bool) → kaori statement (cond b RejectedNumber (kind ts a)) ≡ once (form-of x) (ending x)
+    number k z true = rw z
+    number k z false = rw (k, z)
+
+-- what may end a statement
+ending-is : (x : ℕ) → (ending x ≡ may-end) ⊎ (ending x ≡ must-end)
+unfolding ending
+ending-is x = go (eqb x LeftBrace) (eqb x If) (eqb x Function) (eqb x While)
+  where
+    go : (a b c d : Bool) → (cond a may-end (cond b may-end (cond c may-end (cond d may-end must-end))) ≡ may-end) ⊎ (cond a may-end (cond b may-end (cond c may-end (cond d may-end must-end))) ≡ must-end)
+    go true b c d = inl refl
+    go false true b c = inl refl
+    go false false true b = inl refl
+    go false false false true = inl refl
+    go false false false false = inr refl
+
+module _ (text ts : List ℕ) (a x : ℕ) where
+  taken-end : seen text ts a ≡ Semicolon → kaori (ending x) (seen text ts a) ≡ semicolon
+  unfolding kaori rules
+  taken-end e = ap (kaori (ending x)) e ∙ ⊎-elim (λ z. ap (λ t. kaori t Semicolon) z) (λ z. ap (λ t. kaori t Semicolon) z) (ending-is x)
+
+  no-end : (kind ts a ≡ Semicolon → ⊥) → (kind ts a ≡ RightBrace) ⊎ (ending x ≡ may-end) → kaori (ending x) (seen text ts a) ≡ empty
+  unfolding kaori rules
+  no-end n h = ⊎-elim may (λ z. ⊎-elim (brace z) may h) (ending-is x)
+    where
+      may : ending x ≡ may-end → kaori (ending x) (seen text ts a) ≡ empty
+      may z = ap (λ t. kaori t (seen text ts a)) z ∙ rw (ne-eqb (seen text ts a) Semicolon (sees-not text ts a n (omega arith)))
+
+      brace : ending x ≡ must-end → kind ts a ≡ RightBrace → kaori (ending x) (seen text ts a) ≡ empty
+      brace z e = ap (λ t. kaori t (seen text ts a)) z ∙ ap (kaori must-end) (sees text ts a e (λ y. omega arith))
+
+  lacking-end : (kind ts a ≡ RightBrace → ⊥) → ending x ≡ must-end → kaori (ending x) (seen text ts a) ≡ semicolon
+  unfolding kaori rules
+  lacking-end n z = ap (λ t. kaori t (seen text ts a)) z ∙ rw (ne-eqb (seen text ts a) RightBrace (sees-not text ts a n (omega arith)))
+
+-- a statement's form was read, and then its end; or it was refused
+module _ {text ts : List ℕ} {limit o : ℕ} {s : State} {ns ls ys ss : List ℕ} where
+  states-refused : {q : Refusal} → Refusing text ts limit (choice statement) o s (refusal q) → States text ts limit o s ns ls ys ss (Read.Refused q)
+  unfolding State-case
+  states-refused h = record { says = h }
+
+  ended-by : {n m : Node} {c d : Cursor} → Ready text ts limit o s → Success text ts limit (whole (form-of (kind ts (s .cursor .at)))) o s (node-of n ∷ []) (state ns ls ys ss c) →
+      (kind ts (c .at) ≡ Semicolon) × (m ≡ record { id = n .id; start = 0; end = absent }) × (d ≡ next c) → States text ts limit o s ns ls ys ss (Read.Node m d)
+  unfolding State-case make
+  ended-by {n} {c = c} r z (k, em, ed) =
+      let e = sees text ts (c .at) k (λ y. omega arith) in
+      let made : Made text ts Label.Ended (c .at) (state ns ls ys ss (next c)) (node-of n ∷ []) [] (Handle.ended (n .id) ∷ []) (state ns ls ys ss (next c)) = record { makes = refl; at = refl; holds = refl; same = refl; rooms = rooms-same } in
+      let v = chosen (statement-seen text ts (s .cursor .at) refl) (joined (z .reading) (taken-end text ts (c .at) (kind ts (s .cursor .at)) e) (taken e (nothing (r .deep))) made) in
+      rw (em, ed) (record { says = record { handle = Handle.ended (n .id); row-is = refl; tail-is = refl; success = record { reading = v; within = ready-next (ready-on r (z .within)) k (λ y. omega arith) .within; past = omega (arith, z .past) } } })
+
+  alone-by : {n m : Node} {c d : Cursor} → Success text ts limit (whole (form-of (kind ts (s .cursor .at)))) o s (node-of n ∷ []) (state ns ls ys ss c) →
+      (kind ts (c .at) ≡ Semicolon → ⊥) × ((kind ts (c .at) ≡ RightBrace) ⊎ (ending (kind ts (s .cursor .at)) ≡ may-end)) × (m ≡ record { id = n .id; start = 0; end = n .id }) × (d ≡ c) → States text ts limit o s ns ls ys ss (Read.Node m d)
+  unfolding State-case
+  alone-by {n} {c = c} z (k, b, em, ed) =
+      let v = chosen (statement-seen text ts (s .cursor .at) refl) (alone (no-end text ts (c .at) (kind ts (s .cursor .at)) k b) (z .reading)) in
+      rw (em, ed) (record { says = record { handle = node-of n; row-is = refl; tail-is = refl; success = record { reading = v; within = z .within; past = z .past } } })
+
+  pub statement-ends : {n : Node} {c : Cursor} {x : ℕ} (r : Read) → Ready text ts limit o s → Success text ts limit (whole (form-of (kind ts (s .cursor .at)))) o s (node-of n ∷ []) (state ns ls ys ss c) → x ≡ kind ts (s .cursor .at) → Ended ts n c x r → States text ts limit o s ns ls ys ss r
+  unfolding Ends
+  statement-ends (Read.Node m d) i z e w = ⊎-elim (ended-by i z) (alone-by z) ((rw e at w) .says)
+  statement-ends {c = c} (Read.Refused q) i z e w =
+      let (k, b, y, v) = (rw e at w) .says in
+      rw v (states-refused (Refuses.in-choice (statement-seen text ts (s .cursor .at) refl) (after-once (z .reading) (lacking-end text ts (c .at) (kind ts (s .cursor .at)) b y) (Refuses.missing (sees-not text ts (c .at) k (omega arith))))))
+
+  pub statement-refused : {r : Read} {q : Refusal} → r ≡ Read.Refused q → Answered text ts limit node-of (whole (form-of (kind ts (s .cursor .at)))) o s ns ls ys ss r → States text ts limit o s ns ls ys ss r
+  unfolding Case
+  statement-refused {q = q} e a = rw e (states-refused (Refuses.in-choice (statement-seen text ts (s .cursor .at) refl) (Refuses.in-only ((rw e at a) .says))))
+
+-- a block's tail: after one more item, and what is left of the items without it
+last-more : (hs : List Handle) (h : Handle) → last (hs ++ (h ∷ [])) ≡ h
+last-more [] h = refl
+last-more (g ∷ []) h = refl
+last-more (g ∷ f ∷ hs) h = last-more (f ∷ hs) h
+
+pub tail-none : row (block-tail []) ≡ absent
+unfolding block-tail
+tail-none = refl
+
+pub tail-next : (hs : List Handle) (h : Handle) → row (block-tail (hs ++ (h ∷ []))) ≡ row (tail-of h)
+unfolding block-tail
+tail-next hs h = rw (last-more hs h)
+
+no-tail : (hs : List Handle) → is-tail (last hs) ≡ false → block-list hs ≡ hs
+unfolding block-list
+no-tail [] e = refl
+no-tail (h ∷ []) e = rw e
+no-tail (h ∷ g ∷ hs) e = ap (λ l. h ∷ l) (no-tail (g ∷ hs) e)
+
+one-tail : (hs : List Handle) → is-tail (last hs) ≡ true → hs ≡ block-list hs ++ (last hs ∷ [])
+unfolding block-list
+one-tail [] e = absurd (false≢true e)
+one-tail (h ∷ []) e = rw e
+one-tail (h ∷ g ∷ hs) e = ap (λ l. h ∷ l) (one-tail (g ∷ hs) e)
+
+-- what is held without the last
+shorter : (n : ℕ) (ss xs : List ℕ) (hs : List Handle) (h : Handle) → 3 * n ≤ length ss → take (3 * n) ss ≡ xs ++ links-of (hs ++ (h ∷ [])) → take (3 * (n - 1)) ss ≡ xs ++ links-of hs
+shorter n ss xs hs h i e =
+    let split : take (3 * n) ss ≡ (xs ++ links-of hs) ++ links-of (h ∷ []) = e ∙ rw (links-append hs (h ∷ [])) (sym (append-assoc xs (links-of hs) (links-of (h ∷ [])))) in
+    let l = length-take-le (3 * n) ss i in
+    let k = simp length-append at (ap length split) in
+    let m : length (xs ++ links-of hs) ≡ 3 * (n - 1) = simp length-append (omega (arith, links-length (h ∷ []), k, l)) in
+    sym (take-take (3 * (n - 1)) (3 * n) ss (omega arith)) ∙ ap (take (3 * (n - 1))) split ∙ take-at (xs ++ links-of hs) (links-of (h ∷ [])) (3 * (n - 1)) m
+
+-- a block's items are read: a tail is held no more
+module _ {text ts : List ℕ} {limit o : ℕ} {s : State} {ns ls ys ss : List ℕ} {c : Cursor} {tail : ℕ} (l : Listed text ts limit (begun empty block-items) o s (state ns ls ys ss c)) (t : tail ≡ row (block-tail (l .items))) where
+  pub tail-held : (tail ≡ absent → ⊥) → 1 ≤ c .held
+  unfolding block-tail
+  tail-held n = go (l .items) t (l .count)
+    where
+      go : (hs : List Handle) → tail ≡ row (block-tail hs) → c .held ≡ s .cursor .held + length hs → 1 ≤ c .held
+      go [] e k = absurd (n e)
+      go (h ∷ hs) e k = omega arith
+
+  pub block-ends : {r : Read} → Lent text ts → kaori block-items (seen text ts (c .at)) ≡ empty → Untailed tail c r → Fills text ts limit o s ns ls ys ss r
+  unfolding Fill-case block-tail
+  block-ends {r} lent e u = go (is-tail (last (l .items))) refl
+    where
+      go : (b : Bool) → is-tail (last (l .items)) ≡ b → Fills text ts limit o s ns ls ys ss r
+      go false z =
+          let y = no-tail (l .items) z in
+          let a : tail ≡ absent = t ∙ rw z in
+          rw (u .none a) (record { says = record { items = l .items; reading = ended e (l .reading); tail = t; count = rw y (l .count); rows = rw y (l .rows); within = l .within; past = l .past } })
+      go true z =
+          let y = one-tail (l .items) z in
+          let a : tail ≡ row (last (l .items)) = t ∙ rw z in
+          let hs = block-list (l .items) in
+          let h = last (l .items) in
+          let n : length (l .items) ≡ length hs + 1 = ap length y ∙ length-append hs (h ∷ []) in
+          let w = l .within in
+          let room : 3 * c .held ≤ length ss = omega (arith, w .links, w .at, w .roomy .scratch) in
+          let rows : held (state ns ls ys ss c) ≡ held s ++ links-of (hs ++ (h ∷ [])) = l .rows ∙ ap (λ k. held s ++ links-of k) y in
+          let few : c .nodes < absent = omega (arith, w .rows, w .at, lent .whole .most) in
+          rw (u .one (λ x. tail-present few (l .reading) z (sym a ∙ x))) (record {
+            says = record {
+              items = l .items;
+              reading = ended e (l .reading);
+              tail = t;
+              count = omega (arith, l .count);
+              rows = shorter (c .held) ss (held s) hs h room rows;
+              within = record { roomy = record { nodes = w .roomy .nodes; links = w .roomy .links; symbols = w .roomy .symbols; scratch = w .roomy .scratch }; at = w .at; rows = w .rows; links = omega (arith, w .links); symbols = w .symbols; table = w .table };
+              past = l .past;
+            };
+          })
+
+-- what the loop over a block's statements keeps: at its start, and after one more
+module _ {text ts : List ℕ} {limit o : ℕ} {s : State} where
+  pub statements-none : o ≤ limit → Within text ts s → Statements text ts limit o s s absent
+  statements-none h w = record { listing = listing-none h w; last = sym (ap (λ k. row (block-tail k)) (none-items block-items h w) ∙ tail-none) }
+
+  pub statements-more : {s₁ : State} {tail : ℕ} {n : Node} {ns ls ys ss ss′ : List ℕ} {c : Cursor} → Within text ts s → Statements text ts limit o s s₁ tail → kaori block-items (seen text ts (s₁ .cursor .at)) ≡ node Label.Item (choice statement) → Stated text ts limit o s₁ n (state ns ls ys ss c) →
+      Written (3 * c .held) (3 * (c .held + 1)) (n .id ∷ 0 ∷ 0 ∷ []) ss ss′ → Statements text ts limit o s (state ns ls ys ss′ (pushed c)) (n .end)
+  statements-more {n = n} w₀ x e z w =
+      let l = x .listing in
+      let f : n .id ∷ 0 ∷ 0 ∷ [] ≡ link (z .handle) = sym (statement-link (z .success .reading) ∙ ap (λ i. i ∷ 0 ∷ 0 ∷ []) (z .row-is)) in
+      record { listing = listing-more w₀ l e (z .success) w f; last = sym (ap (λ k. row (block-tail k)) (more-items w₀ l e (z .success) w f) ∙ tail-next (l .items) (z .handle) ∙ z .tail-is) }
