@@ -3,7 +3,7 @@ use crate::Place;
 ghost use Rattle.diagnostics.specs.Line.{Placed};
 
 // The place of an offset, by one pass over the bytes before it.
-// Not allowed: 14 at the end of the text; 14 where the text is too long as well; the column counted from 0; the column going on past a byte 10.
+// Ruled out: 14 at the end of the text; 14 where the text is too long as well; the column counted from 0; the column going on past a byte 10.
 pub fn place(text: &[u8], offset: usize) -> Place
     ensures { λ r. ⌜ Placed (now (text .entry)) offset r ⌝ }
 {

@@ -9,7 +9,7 @@ ghost use Rattle.diagnostics.specs.Message.{text-of, Written};
 
 // Writes the text of a refusal at the start of a room, which has to have 52 bytes whatever the text's length; no text for a code but 8 to 12, nor where a kind that
 // the text names is over 44.
-// Not allowed: a text in a room of 51 bytes, even where it would fit; the name of the expected kind in the text of 9; a byte past the text changed.
+// Ruled out: a text in a room of 51 bytes, even where it would fit; the name of the expected kind in the text of 9; a byte past the text changed.
 pub fn message(code: u32, expected: u32, found: u32, room: &mut [u8]) -> Message
     ensures { λ r. ⌜ Written code expected found (now (room .entry)) (now (room .exit)) r ⌝ }
 {

@@ -18,6 +18,3 @@ module _ {asked : ℕ → Type 0} {n : ℕ} where
 
   pub found-here : {i : ℕ} → Passed asked n i → (asked i → ⊥) → Found asked n i
   found-here p a = record { most = p .most; before = p .before; lacks = λ h. a }
-
-  pub found-none : {i : ℕ} → Passed asked n i → n ≤ i → Found asked n i
-  found-none p h = record { most = p .most; before = p .before; lacks = λ z. absurd (omega arith) }

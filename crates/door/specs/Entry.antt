@@ -1,5 +1,5 @@
 -- What the door answers, in terms of the grammar's Door.antt. Document 01, Refusal numbers, in order of checking.
-use Prim.Native.Nat.{ℕ, _+_, _*_, _/_, _≤_, _<_}
+use Prim.Native.Nat.{ℕ, _*_, _/_, _≤_, _<_}
 use mathlib.Core.List.{List}
 use mathlib.Core.Path.{_≡_}
 use lib.ListN.{length}

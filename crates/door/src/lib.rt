@@ -3,7 +3,6 @@ use token::lexeme::fits;
 use token::list::end_at;
 use token::list::kind_at;
 use token::list::start_at;
-ghost use mathlib.Core.Path.{_≡_};
 ghost use Prim.Native.Nat.{_/_, _≤_, _<_};
 ghost use lib.ListN.{length, getD};
 ghost use Rattle.grammar.specs.Door.{Whole, Sound, Closed};
@@ -70,8 +69,8 @@ fn lengths(
     0
 }
 
-// The first byte over 127, or the text's length.
-fn first_high(text: &[u8]) -> usize
+// The first byte over 127, or the text's length. For the crates above, too. Ruled out: a later byte over 127; the length where there is one.
+pub fn first_high(text: &[u8]) -> usize
     ensures { λ r. ⌜ Found (λ i. getD (now (text .entry)) i 0 ≤ 127) (length (now (text .entry))) r ⌝ }
 {
     let mut i = 0;
@@ -174,7 +173,8 @@ fn listed(text: &[u8], tokens: &[u32]) -> Entry
     Entry::Open
 }
 
-// Lets a call in, or turns it away: of the rooms only the lengths matter. Ruled out: a code that is not the first, a place that is not the first.
+// Lets a call in, or turns it away: of the rooms only the lengths matter.
+// Ruled out: a code that is not the first; a place that is not the first.
 pub fn check(
     text: &[u8],
     tokens: &[u32],

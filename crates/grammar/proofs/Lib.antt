@@ -1,8 +1,12 @@
+pub mod Tests
 pub mod Tables
 pub mod Patterns
+pub mod Matching
+pub mod Lexemes
 -- one reading, one refusal, one answer
 pub mod Machine
 pub mod Outcomes
+pub mod Places
 pub mod Answers
 -- rows
 pub mod Room
@@ -14,6 +18,7 @@ pub mod Forest
 pub mod Decoding
 pub mod Trees
 pub mod Calls
+pub mod Demands
 -- samples
 pub mod Reader
 pub mod Samples

@@ -17,7 +17,8 @@ use Rattle.grammar.specs.Rows.{Rows, blank, seek, interned, links-of, nu
 use Rattle.grammar.specs.Rule.{Field, number, child, named, symbol, list, Row, writes, fields, rule}
 use Rattle.grammar.specs.Token.{start, end}
 use Rattle.grammar.proofs.Machine.{asked}
-use Rattle.grammar.proofs.Tables.{both, all, each, each-mapped, in-tables}
+use Rattle.grammar.proofs.Tables.{each, each-mapped, in-tables}
+use Rattle.grammar.proofs.Tests.{both, all}
 
 -- tokens that a node takes for what it writes and makes
 abbrev pub cost : Label → ℕ

@@ -1,22 +1,22 @@
 -- No more rows are written than tokens are read, so every row has its place: the grammar's law, of the rooms and the cursor.
-use Prim.Native.Nat.{ℕ, suc, _+_, _-_, _*_, _≤_, _<_, min}
+use Prim.Native.Nat.{ℕ, _+_, _*_, _≤_, _<_}
 use native.Mathlib.Omega.{arith}
 use mathlib.Core.List.{List, [], _∷_}
 use mathlib.Core.Path.{_≡_, refl, ap}
 use lib.Dec.{T}
-use lib.ListN.{length, take, length-take}
+use lib.ListN.{length, length-take}
 use Rattle.grammar.specs.Handle.{Handle}
-use Rattle.grammar.specs.Kaori.{Form, Table, kaori, above}
+use Rattle.grammar.specs.Kaori.{Form, Table, kaori}
 use Rattle.grammar.specs.Label.{Label}
 use Rattle.grammar.specs.Phrase.{node, Aim, whole}
-use Rattle.grammar.specs.Rows.{Rows, Walked, walk, make}
+use Rattle.grammar.specs.Rows.{Walked}
 use Rattle.grammar.specs.Token.{count}
 use Rattle.grammar.proofs.Machine.{asked}
-use Rattle.grammar.proofs.Room.{cost, spare, paid, paid-node, paid-entry, Grown, Pays, make-grown, links-grow, pays}
+use Rattle.grammar.proofs.Room.{spare, paid, paid-node, paid-entry, Grown, make-grown, links-grow, pays}
 use Rattle.interner.specs.Table.{Table as Symbols}
 use Rattle.parser.specs.Reading.{form, Reading}
-use Rattle.parser.specs.State.{State, written, Roomy, Within, Rooms}
-use Rattle.parser.proofs.Laws.{roomy-on, rooms-on, Made}
+use Rattle.parser.specs.State.{State, written, Roomy, Within}
+use Rattle.parser.proofs.Laws.{roomy-on, Made}
 
 -- a form that has a token for each of its nodes
 pub record Paid (p : Form) : Type 0 where

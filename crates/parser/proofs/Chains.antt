@@ -2,7 +2,7 @@
 use Prim.Native.Nat.{ℕ, _<_, _≤_}
 use native.Mathlib.Omega.{arith}
 use mathlib.Core.List.{List, [], _∷_}
-use mathlib.Core.Path.{_≡_, refl}
+use mathlib.Core.Path.{_≡_}
 use Rattle.ast.specs.declared.Node.{Node}
 use Rattle.grammar.specs.Float.{seen}
 use Rattle.grammar.specs.Handle.{Handle}
@@ -11,7 +11,7 @@ use Rattle.grammar.specs.Kind.{RejectedNumber}
 use Rattle.grammar.specs.Label.{Label}
 use Rattle.grammar.specs.Phrase.{empty, node, chain, Aim, whole, begun}
 use Rattle.grammar.specs.Refusal.{Refused, refused}
-use Rattle.grammar.specs.Token.{kind, count}
+use Rattle.grammar.specs.Token.{count}
 use Rattle.interner.specs.Table.{Table as Symbols}
 use Rattle.parser.specs.Answers.{node-of, Took, Consumed, Case, Answered, List-case, Lists}
 use Rattle.parser.specs.Chains.{Going, Gone, Further, Onward}
@@ -20,13 +20,10 @@ use Rattle.parser.specs.State.{State, state, written, Within}
 use Rattle.parser.specs.declared.Cursor.{Cursor}
 use Rattle.parser.specs.declared.Read.{Read}
 use Rattle.parser.specs.declared.Refusal.{Refusal}
-use Rattle.parser.proofs.Bound.{Paid, bound, link-within, paid-link, paid-inside}
-use Rattle.parser.proofs.Laws.{sees-not, rooms-same, rooms-on, Made, linked, ended}
+use Rattle.parser.proofs.Bound.{bound, link-within, paid-link, paid-inside}
+use Rattle.parser.proofs.Laws.{sees-not, rooms-on, Made, linked, ended}
 
 module _ {text ts : List ℕ} {limit : ℕ} {p : Form} {t : Table} {o : ℕ} {s₀ : State} {n : Node} where
-  pub going-none : Within text ts s₀ → Going text ts limit p t (begun p t) o s₀ n s₀ n
-  going-none w = record { grown = λ s b. b; within = w; rooms = rooms-same; past = omega arith }
-
   -- one link after others
   pub going-on : {g : Aim Table Label} {s₁ s₂ : State} {m k : Node} → Going text ts limit p t (begun p t) o s₀ n s₁ m → Going text ts limit p t g o s₁ m s₂ k → Going text ts limit p t g o s₀ n s₂ k
   going-on a b = record { grown = λ s z. b .grown s (a .grown s z); within = b .within; rooms = rooms-on (a .rooms) (b .rooms); past = omega (arith, a .past, b .past) }
@@ -50,10 +47,6 @@ module _ {text ts : List ℕ} {limit : ℕ} {p : Form} {t : Table} {o : ℕ} {s�
     pub goes : {m : Node} {c : Cursor} → a ≤ c .at → Going text ts limit p t g o s₀ n (state ns ls ys ss c) m → Onward text ts limit p t g o s₀ n a ns ls ys ss (Read.Node m c)
     unfolding Further
     goes h z = record { says = record { going = z; far = h } }
-
-    pub stops : {q : Refusal} → ((s : State) → Reading text ts limit (begun p t) o s (node-of n ∷ []) [] s₀ → Refusing text ts limit (chain p t) o s (refusal q)) → Onward text ts limit p t g o s₀ n a ns ls ys ss (Read.Refused q)
-    unfolding Further
-    stops h = record { says = h }
 
     -- a required token is missing
     pub stops-lacking : {c : Cursor} {x : ℕ} {r : Read} {q : Refusal} → r ≡ Read.Refused q → Consumed ts c x r → x < RejectedNumber →

@@ -1,18 +1,18 @@
 -- A node's row: what a builder writes is what the grammar makes of the node's parts.
-use Prim.Native.Nat.{ℕ, suc, _+_, _-_, _*_, _/_, _≤_, _<_}
+use Prim.Native.Nat.{ℕ, _+_, _*_, _/_, _≤_}
 use native.Mathlib.Omega.{arith}
 use mathlib.Core.List.{List, [], _∷_, _++_}
-use mathlib.Core.Path.{_≡_, refl, sym, ap, _∙_}
-use lib.ListN.{length, take, drop}
+use mathlib.Core.Path.{_≡_, refl, _∙_}
+use lib.ListN.{length, take}
 use lib.Seq.{length-take-le}
 use Rattle.ast.specs.Inserted.{Inserted}
 use Rattle.ast.specs.Written.{Written}
 use Rattle.ast.specs.declared.Node.{Node}
 use Rattle.grammar.specs.Handle.{Handle}
 use Rattle.grammar.specs.Label.{Label}
-use Rattle.grammar.specs.Rows.{Rows, Walked, padded, make, keep}
+use Rattle.grammar.specs.Rows.{Walked, padded, make, keep}
 use Rattle.parser.specs.Answers.{node-of}
-use Rattle.parser.specs.State.{State, state, written}
+use Rattle.parser.specs.State.{state, written}
 use Rattle.parser.specs.declared.Cursor.{Cursor}
 use Rattle.parser.proofs.Laws.{Made}
 

@@ -2,9 +2,8 @@
 use Prim.Native.Nat.{ℕ, _+_, _-_, _*_, _/_, _≤_, _<_}
 use native.Mathlib.Omega.{arith}
 use mathlib.Core.List.{List, [], _∷_, _++_}
-use mathlib.Core.Path.{_≡_, sym, ap, _∙_}
+use mathlib.Core.Path.{_≡_, ap, _∙_}
 use lib.ListN.{length, take, drop}
-use lib.Seq.{take-add, drop-at, length-take-le}
 use Rattle.ast.specs.Inserted.{Free, Inserted}
 use Rattle.ast.specs.declared.Node.{Node}
 use Rattle.grammar.specs.Handle.{Handle, absent, row, block-list, block-tail}
@@ -16,15 +15,16 @@ use Rattle.grammar.specs.Rows.{links-of, numbers, write, fill, put, make}
 use Rattle.grammar.specs.Rule.{rule}
 use Rattle.grammar.specs.Token.{start, end}
 use Rattle.interner.specs.Table.{Table as Symbols}
-use Rattle.parser.specs.Answers.{node-of, name-of, holding, Answered, Listed, Lists, Filled, Fills}
+use Rattle.parser.specs.Answers.{node-of, name-of, holding, Answered, Listed, Filled, Fills}
 use Rattle.parser.specs.Parts.{Gathered}
 use Rattle.parser.specs.Reading.{form, Reading}
 use Rattle.parser.specs.State.{State, state, written, held, Lent, Within, Ready}
 use Rattle.parser.specs.declared.Cursor.{Cursor}
 use Rattle.parser.specs.declared.Read.{Read}
 use Rattle.parser.proofs.Bound.{Paid}
-use Rattle.parser.proofs.Laws.{sees, taken, nothing, both, Made}
+use Rattle.parser.proofs.Laws.{sees, closed, Made}
 use Rattle.parser.proofs.Entering.{link-number, grown, entered, row-made, list-made}
+use Rattle.parser.proofs.Listings.{hold-number, held-above, size-held}
 use Rattle.parser.proofs.Replies.{Taken, answer}
 use Rattle.parser.proofs.Taking.{free, ready-led}
 
@@ -34,11 +34,8 @@ pub record Kept (base : ℕ) (below : List ℕ) (n : ℕ) (ss : List ℕ) (items
   pub count : n ≡ base + length items
   pub rows : take (3 * n) ss ≡ below ++ links-of items
 
--- what was learnt of a list and of a block's statements, and what is asked of a reader at a cursor, named by what it is read from
+-- what was learnt of a block's statements, and what is asked of a reader at a cursor, named by what it is read from
 module _ {text ts : List ℕ} {limit o : ℕ} {s : State} where
-  abbrev pub List-told : {g : Aim Table Label} {ns ls ys ss : List ℕ} {r : Read} → Lists text ts limit g o s ns ls ys ss r → Cursor → Type 0
-  List-told {g} {ns} {ls} {ys} {ss} a c = Listed text ts limit g o s (state ns ls ys ss c)
-
   abbrev pub Fill-told : {ns ls ys ss : List ℕ} {r : Read} → Fills text ts limit o s ns ls ys ss r → Node → Cursor → Type 0
   Fill-told {ns} {ls} {ys} {ss} a n c = Filled text ts limit o s n (state ns ls ys ss c)
 
@@ -58,12 +55,9 @@ Within-at {text} {ts} {s} w c = Within text ts (state (s .nodes) (s .links) (s .
 -- a token that was taken, with so much held
 module _ {ts : List ℕ} {c d : Cursor} {x : ℕ} {n : Node} (k : Taken ts c x n d) where
   module _ {text : List ℕ} {limit o : ℕ} where
-    pub token-under : {ns ls ys ss : List ℕ} {base : ℕ} {p : Form} {hs gs : List Handle} {s′ : State} → (x ≡ NumberLiteral → ⊥) → Reading text ts limit (whole p) o (holding base (state ns ls ys ss d)) hs gs s′ → Reading text ts limit (whole (token x p)) o (holding base (state ns ls ys ss c)) hs gs s′
-    token-under z r = taken (sees text ts (c .at) (k .kind-is) z) (rw (k .after) at r)
-
     -- a list, and the token that closes it
     pub token-closes : {s : State} {ns ls ys ss : List ℕ} {base : ℕ} {p : Form} {hs : List Handle} → (x ≡ NumberLiteral → ⊥) → o ≤ limit → Reading text ts limit (whole p) o s hs [] (holding base (state ns ls ys ss c)) → Reading text ts limit (whole (part p (token x empty))) o s hs [] (holding base (state ns ls ys ss d))
-    token-closes z h r = both r (token-under z (nothing h))
+    token-closes z h r = rw (k .after) (closed r h (sees text ts (c .at) (k .kind-is) z))
 
   pub token-within : {text ns ls ys ss : List ℕ} → (x ≡ Eof → ⊥) → Lent text ts → Within text ts (state ns ls ys ss c) → Within text ts (state ns ls ys ss d)
   token-within z l w = let h : Ready _ ts 0 0 _ = record { lent = l; deep = omega arith; within = w } in ready-led h k z .within
@@ -75,9 +69,6 @@ module _ {ts : List ℕ} {c d : Cursor} {x : ℕ} {n : Node} (k : Taken ts c x n
   token-held = rw (k .after)
 
 -- of a list that is read from s to s₁, where so much was held at s
-size-held : {text ts : List ℕ} {base : ℕ} {s : State} → Within text ts s → s .cursor .held ≡ base → length (held s) ≡ 3 * base
-size-held {s = s} w h = length-take-le (3 * s .cursor .held) (s .scratch) (omega (arith, w .links, w .at, w .roomy .scratch)) ∙ ap (λ k. 3 * k) h
-
 hold-as : {text ts : List ℕ} {limit o k base : ℕ} {g : Aim Table Label} {s : State} {xs ys : List Handle} (s₁ : State) → k ≡ base → Reading text ts limit g o s xs ys (holding k s₁) → Reading text ts limit g o s xs ys (holding base s₁)
 hold-as s₁ h r = rw h at r
 
@@ -108,12 +99,7 @@ module _ {base n : ℕ} {below ss : List ℕ} {items : List Handle} (k : Kept ba
 
   -- the items' rows stand together
   pub kept-links : 3 * n ≤ length ss → take (3 * (n - base)) (drop (3 * base) ss) ≡ links-of items
-  kept-links h =
-      let m = n - base in
-      let e : 3 * n ≡ 3 * base + 3 * m = omega (arith, k .count) in
-      let split : take (3 * base) ss ++ take (3 * m) (drop (3 * base) ss) ≡ below ++ links-of items = sym (take-add (3 * base) (3 * m) ss) ∙ ap (λ i. take i ss) (sym e) ∙ k .rows in
-      let long : length (take (3 * base) ss) ≡ 3 * base = length-take-le (3 * base) ss (omega (arith, k .count)) in
-      sym (drop-at (take (3 * base) ss) (take (3 * m) (drop (3 * base) ss)) (3 * base) long) ∙ ap (drop (3 * base)) split ∙ drop-at below (links-of items) (3 * base) (k .size)
+  kept-links h = held-above base n ss below kept-under h (k .size) (k .rows)
 
 -- after another reading
 pub kept-on : {text ts : List ℕ} {limit o base : ℕ} {g : Aim Table Label} {s s′ : State} {below : List ℕ} {items xs ys : List Handle} → Kept base below (s .cursor .held) (s .scratch) items → Reading text ts limit g o s xs ys s′ → Kept base below (s′ .cursor .held) (s′ .scratch) items
@@ -131,7 +117,7 @@ module _ {text ts ns ls ys ss : List ℕ} {c : Cursor} where
   gathered-free l w g = rw (g .cursor) (free l w)
 
   pub numbers-fit : Lent text ts → Within text ts (state ns ls ys ss c) → (c .links < absent) × (c .held < absent)
-  numbers-fit l w = (omega (arith, w .links, w .at, l .whole .most), omega (arith, w .links, w .at, l .whole .most))
+  numbers-fit l w = (omega (arith, w .links, w .at, l .whole .most), hold-number w l)
 
   pub first-link : Within text ts (state ns ls ys ss c) → length (take (3 * c .links) ls) / 3 ≡ c .links
   first-link w = link-number (c .links) ls (omega (arith, w .links, w .at, w .roomy .links))

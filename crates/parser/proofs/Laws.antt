@@ -1,31 +1,24 @@
 -- How readings of parts make a reading of the whole, and answers of parts an answer: a law for each production.
-use Prim.Native.Nat.{ℕ, suc, _+_, _-_, _*_, _/_, _≤_, _<_}
-use native.Mathlib.Numerals.{add-one}
+use Prim.Native.Nat.{ℕ, _+_, _≤_, _<_}
 use native.Mathlib.Omega.{arith}
 use mathlib.Core.Bool.{Bool, true, false, cond, not, _&&_}
-use mathlib.Core.List.{List, [], _∷_, _++_, append-nil}
-use mathlib.Core.Path.{_≡_, refl, sym, ap, _∙_}
+use mathlib.Core.List.{List, [], _++_, append-nil}
+use mathlib.Core.Path.{_≡_, refl, sym, _∙_}
 use lib.Dec.{eqb}
-use lib.ListN.{length, take, drop}
-use borrow.Author.Tests.{eqb-true, eqb-false, ne-eqb}
-use Rattle.ast.specs.declared.Node.{Node}
+use borrow.Author.Tests.{ne-eqb}
 use Rattle.grammar.specs.Float.{float, seen}
 use Rattle.grammar.specs.Handle.{Handle}
 use Rattle.grammar.specs.Kaori.{Form, Table, kaori}
 use Rattle.grammar.specs.Kind.{NumberLiteral, RejectedNumber, Eof}
 use Rattle.grammar.specs.Label.{Label}
 use Rattle.grammar.specs.Pattern.{matches}
-use Rattle.grammar.specs.Phrase.{empty, token, part, nested, node, choice, chain, once, Tree, made, more, none, deeper, Aim, whole, begun, Reads, depth}
-use Rattle.grammar.specs.Refusal.{Refused, refused, Refuses}
-use Rattle.grammar.specs.Rows.{Rows, Walked, walk, make}
+use Rattle.grammar.specs.Phrase.{empty, token, part, nested, node, choice, chain, once, made, more, none, deeper, Aim, whole, begun, Reads, depth}
+use Rattle.grammar.specs.Rows.{walk, make}
 use Rattle.grammar.specs.Token.{kind, start, end, lexeme, count}
-use Rattle.interner.specs.Table.{Table as Symbols}
-use Rattle.parser.specs.Answers.{next, node-of, Took, Consumed, Case, Answered, Listed, List-case, Lists}
-use Rattle.parser.specs.Reading.{form, refusal, Reading, Success, Refusing}
+use Rattle.parser.specs.Answers.{next}
+use Rattle.parser.specs.Reading.{Reading}
 use Rattle.parser.specs.State.{State, state, written, held, Lent, Roomy, Within, Ready, Rooms}
 use Rattle.parser.specs.declared.Cursor.{Cursor}
-use Rattle.parser.specs.declared.Read.{Read}
-use Rattle.parser.specs.declared.Refusal.{Refusal}
 
 -- what the grammar sees of a token is its kind, but of a rejected number
 module _ (text ts : List ℕ) (a : ℕ) {x : ℕ} where
@@ -59,6 +52,10 @@ pub record Made (text ts : List ℕ) (f : Label) (a : ℕ) (s₁ : State) (xs ys
   pub same : held s₂ ≡ held s₁
   pub rooms : Rooms s₁ s₂
 
+-- a node that writes no row
+pub unwritten : {text ts : List ℕ} {f : Label} {a : ℕ} {s : State} {xs ys hs : List Handle} → make text ts f a (s .cursor .at) (written s) xs ys ≡ record { rows = written s; first = hs; rest = [] } → Made text ts f a s xs ys hs s
+unwritten e = record { makes = e; at = refl; holds = refl; same = refl; rooms = rooms-same }
+
 -- readings
 module _ {text ts : List ℕ} {limit o : ℕ} {s : State} where
   pub nothing : o ≤ limit → Reading text ts limit (whole empty) o s [] [] s
@@ -85,17 +82,21 @@ module _ {text ts : List ℕ} {limit o : ℕ} {s : State} where
     unfolding walk depth
     opened r = record { tree = deeper (r .tree); reads = Reads.opened (r .reads); fits = omega arith; rows = r .rows; holds = r .holds; same = r .same; rooms = r .rooms }
 
+    -- the same tree, as another aim
+    read-as : {g g′ : Aim Table Label} (r : Reading text ts limit g o s xs ys s′) → Reads kaori (seen text ts) g′ (s .cursor .at) (s′ .cursor .at) (r .tree) → Reading text ts limit g′ o s xs ys s′
+    read-as r t = record { tree = r .tree; reads = t; fits = r .fits; rows = r .rows; holds = r .holds; same = r .same; rooms = r .rooms }
+
     pub chosen : {n : Table} {p : Form} → kaori n (seen text ts (s .cursor .at)) ≡ p → Reading text ts limit (whole p) o s xs ys s′ → Reading text ts limit (whole (choice n)) o s xs ys s′
-    chosen e r = record { tree = r .tree; reads = Reads.chosen e (r .reads); fits = r .fits; rows = r .rows; holds = r .holds; same = r .same; rooms = r .rooms }
+    chosen e r = read-as r (Reads.chosen e (r .reads))
 
     pub first : {n : Table} {p : Form} → Reading text ts limit (whole p) o s xs ys s′ → Reading text ts limit (begun p n) o s xs ys s′
-    first r = record { tree = r .tree; reads = Reads.first (r .reads); fits = r .fits; rows = r .rows; holds = r .holds; same = r .same; rooms = r .rooms }
+    first r = read-as r (Reads.first (r .reads))
 
     pub ended : {n : Table} {p : Form} → kaori n (seen text ts (s′ .cursor .at)) ≡ empty → Reading text ts limit (begun p n) o s xs ys s′ → Reading text ts limit (whole (chain p n)) o s xs ys s′
-    ended e r = record { tree = r .tree; reads = Reads.ended (r .reads) e; fits = r .fits; rows = r .rows; holds = r .holds; same = r .same; rooms = r .rooms }
+    ended e r = read-as r (Reads.ended (r .reads) e)
 
     pub alone : {n : Table} {p : Form} → kaori n (seen text ts (s′ .cursor .at)) ≡ empty → Reading text ts limit (whole p) o s xs ys s′ → Reading text ts limit (whole (once p n)) o s xs ys s′
-    alone e r = record { tree = r .tree; reads = Reads.alone (r .reads) e; fits = r .fits; rows = r .rows; holds = r .holds; same = r .same; rooms = r .rooms }
+    alone e r = read-as r (Reads.alone (r .reads) e)
 
     -- a node of what is read
     pub labelled : {f : Label} {p : Form} {hs : List Handle} {s₂ : State} → Reading text ts limit (whole p) o s xs ys s′ → Made text ts f (s .cursor .at) s′ xs ys hs s₂ → Reading text ts limit (whole (node f p)) o s hs [] s₂

@@ -8,8 +8,7 @@ use Rattle.ast.specs.declared.Node.{Node}
 use Rattle.grammar.specs.Float.{seen}
 use Rattle.grammar.specs.Kaori.{Form, above, operand, operators, kaori}
 use Rattle.grammar.specs.Label.{Label}
-use Rattle.grammar.specs.Operator.{joining}
-use Rattle.grammar.specs.Phrase.{empty, token, node, choice, chain, Tree, whole, begun, Reads}
+use Rattle.grammar.specs.Phrase.{token, node, choice, chain, Tree, whole, begun, Reads}
 use Rattle.grammar.specs.Refusal.{Refused, Refuses}
 use Rattle.token.specs.Level.{level}
 use Rattle.token.proofs.Operators.{operator-link, no-operator}

@@ -1,5 +1,5 @@
 -- A list is read: its items are held on the scratch stack, and become links with their node's row.
-use Prim.Native.Nat.{ℕ, _+_, _*_, _-_, _≤_}
+use Prim.Native.Nat.{ℕ, _+_, _*_, _-_, _≤_, _<_}
 use native.Mathlib.Omega.{arith}
 use mathlib.Core.List.{List, [], _∷_, _++_, append-nil, append-assoc}
 use mathlib.Core.Path.{_≡_, refl, sym, _∙_, ap}
@@ -9,20 +9,22 @@ use Rattle.ast.proofs.Rooms.{below, stretch}
 use Rattle.ast.specs.Written.{Written}
 use Rattle.ast.specs.declared.Node.{Node}
 use Rattle.grammar.specs.Float.{seen}
-use Rattle.grammar.specs.Handle.{Handle, row, link, block-tail}
+use Rattle.grammar.specs.Handle.{Handle, absent, row, link, block-tail}
 use Rattle.grammar.specs.Kaori.{Form, Table, kaori, block-items}
 use Rattle.grammar.specs.Label.{Label}
 use Rattle.grammar.specs.Phrase.{empty, token, part, node, choice, chain, Aim, whole, begun}
 use Rattle.grammar.specs.Refusal.{Refused}
 use Rattle.grammar.specs.Rows.{links-of, make}
+use Rattle.grammar.specs.Token.{count}
 use Rattle.parser.specs.Answers.{next, holding, Case, Answered, Listed, List-case, Lists}
 use Rattle.parser.specs.Reading.{form, refusal, Reading, Success, Refusing}
-use Rattle.parser.specs.State.{State, state, held, Within, Rooms}
+use Rattle.parser.specs.State.{State, state, held, Lent, Within, Ready, Rooms}
 use Rattle.parser.specs.declared.Cursor.{Cursor}
 use Rattle.parser.specs.declared.Read.{Read}
 use Rattle.parser.specs.declared.Refusal.{Refusal}
-use Rattle.parser.proofs.Bound.{Paid, paid-link, paid-inside, bound}
-use Rattle.parser.proofs.Laws.{nothing, both, chosen, first, ended, linked, taken, rooms-same, rooms-on, Made}
+use Rattle.parser.proofs.Bound.{Paid, paid-link, paid-inside, bound, strictly}
+use Rattle.parser.proofs.Laws.{nothing, both, chosen, first, ended, linked, taken, rooms-same, rooms-on, Made, unwritten}
+use Rattle.parser.proofs.Replies.{further}
 
 -- the state s₁ with no more held than at s, and the cursor with one row more held
 abbrev pub lowered : State → State → State
@@ -73,14 +75,17 @@ module _ {text ts : List ℕ} {limit : ℕ} {g : Aim Table Label} {o : ℕ} {s :
 -- the same items, as the whole says
 module _ {text ts : List ℕ} {limit o : ℕ} where
   module _ {s s₁ : State} where
+    relisted : {g g′ : Aim Table Label} (l : Listed text ts limit g o s s₁) → Reading text ts limit g′ o s (l .items) [] (lowered s s₁) → Listed text ts limit g′ o s s₁
+    relisted l r = record { items = l .items; reading = r; count = l .count; rows = l .rows; within = l .within; past = l .past }
+
     pub listed-chosen : {n : Table} {p : Form} → kaori n (seen text ts (s .cursor .at)) ≡ p → Listed text ts limit (whole p) o s s₁ → Listed text ts limit (whole (choice n)) o s s₁
-    listed-chosen e l = record { items = l .items; reading = chosen e (l .reading); count = l .count; rows = l .rows; within = l .within; past = l .past }
+    listed-chosen e l = relisted l (chosen e (l .reading))
 
     pub listed-first : {n : Table} {p : Form} → Listed text ts limit (whole p) o s s₁ → Listed text ts limit (begun p n) o s s₁
-    listed-first l = record { items = l .items; reading = first (l .reading); count = l .count; rows = l .rows; within = l .within; past = l .past }
+    listed-first l = relisted l (first (l .reading))
 
     pub listed-ended : {n : Table} {p : Form} → kaori n (seen text ts (s₁ .cursor .at)) ≡ empty → Listed text ts limit (begun p n) o s s₁ → Listed text ts limit (whole (chain p n)) o s s₁
-    listed-ended e l = record { items = l .items; reading = ended e (l .reading); count = l .count; rows = l .rows; within = l .within; past = l .past }
+    listed-ended e l = relisted l (ended e (l .reading))
 
   pub listed-taken : {ns ls ys ss : List ℕ} {x : ℕ} {c : Cursor} {p : Form} {s₁ : State} → seen text ts (c .at) ≡ x → Listed text ts limit (whole p) o (state ns ls ys ss (next c)) s₁ → Listed text ts limit (whole (token x p)) o (state ns ls ys ss c) s₁
   listed-taken k l = record { items = l .items; reading = taken k (l .reading); count = l .count; rows = l .rows; within = l .within; past = omega (arith, l .past) }
@@ -94,7 +99,7 @@ module _ {text ts : List ℕ} {limit o : ℕ} where
   unfolding make
   listing-join {s = s} {s₁ = s₁} {s₂ = s₂} l e z =
       let base = s .cursor .held in
-      let m : Made text ts Label.Item (s₁ .cursor .at) (holding base s₂) (l .items) (z .items) (l .items ++ z .items) (holding base s₂) = record { makes = refl; at = refl; holds = refl; same = refl; rooms = rooms-same } in
+      let m : Made text ts Label.Item (s₁ .cursor .at) (holding base s₂) (l .items) (z .items) (l .items ++ z .items) (holding base s₂) = unwritten refl in
       record {
         items = l .items ++ z .items;
         reading = linked (l .reading) e (lower base (omega (arith, l .count)) (z .reading)) m;
@@ -112,7 +117,7 @@ module _ {text ts : List ℕ} {limit o : ℕ} {t : Table} {s : State} where
   pub listing-none : o ≤ limit → Within text ts s → Listing text ts limit t o s s
   listing-none h w = listed-none w (first (nothing h))
 
-  module _ {s₁ : State} (w₀ : Within text ts s) (l : Listing text ts limit t o s s₁) where
+  module _ {s₁ : State} (l : Listing text ts limit t o s s₁) where
     -- an item, and its row
     pub listing-more : {q : Form} {h : Handle} {ns ls ys ss ss′ row : List ℕ} {c : Cursor} → kaori t (seen text ts (s₁ .cursor .at)) ≡ node Label.Item q → Success text ts limit (whole q) o s₁ (h ∷ []) (state ns ls ys ss c) →
         Written (3 * c .held) (3 * (c .held + 1)) row ss ss′ → row ≡ link h → Listing text ts limit t o s (state ns ls ys ss′ (pushed c))
@@ -173,14 +178,41 @@ module _ {text ts : List ℕ} {limit : ℕ} {g : Aim Table Label} {o : ℕ} {s :
     lists-mapped (Read.Node n c) a f up = record { says = f (state ns ls ys ss c) (a .says) }
     lists-mapped (Read.Refused q) a f up = record { says = up (refusal q) (a .says) }
 
--- the rows that are held since s, as `gather` copies them
+-- a choice that is nothing here
+pub lists-nothing : {text ts ns ls ys ss : List ℕ} {limit o : ℕ} {t : Table} {c : Cursor} {n : Node} → Ready text ts limit o (state ns ls ys ss c) → kaori t (seen text ts (c .at)) ≡ empty → Lists text ts limit (whole (choice t)) o (state ns ls ys ss c) ns ls ys ss (Read.Node n c)
+lists-nothing r e = lists (listed-chosen e (listed-none (r .within) (nothing (r .deep))))
+
+-- a turn of a loop over a list, where its table has an item: the item is refused, or it is read and held
+abbrev pub Item-of : {text ts : List ℕ} {limit o : ℕ} {t : Table} {s s₁ : State} → Listing text ts limit t o s s₁ → Form → Type 0
+Item-of {text} {ts} {t = t} {s₁ = s₁} l q = kaori t (seen text ts (s₁ .cursor .at)) ≡ node Label.Item q
+
+module _ {text ts : List ℕ} {limit o : ℕ} {t : Table} {s s₁ : State} {q : Form} (l : Listing text ts limit t o s s₁) (e : kaori t (seen text ts (s₁ .cursor .at)) ≡ node Label.Item q) where
+  pub item-refused : {h : Node → Handle} {ns ls ys ss : List ℕ} {r : Read} {x : Refusal} → r ≡ Read.Refused x → Answered text ts limit h (whole q) o s₁ ns ls ys ss r → Lists text ts limit (whole (chain empty t)) o s ns ls ys ss r
+  item-refused i a = lists-passed i a (λ x h. further (l .reading) e h)
+
+  -- fewer tokens are left
+  pub item-less : {h : Handle} {s₂ : State} → Success text ts limit (whole q) o s₁ (h ∷ []) s₂ → count ts - s₂ .cursor .at < count ts - s₁ .cursor .at
+  item-less z = omega (arith, z .within .at, strictly (l .within) (paid-inside (paid-link t (seen text ts (s₁ .cursor .at)) e)) (z .within .at) (z .reading))
+
+-- there is room to hold one more, and its number fits
+module _ {text ts ns ls ys ss : List ℕ} {c : Cursor} (w : Within text ts (state ns ls ys ss c)) where
+  pub hold-room : 3 * (c .held + 1) ≤ length ss
+  hold-room = omega (arith, w .links, w .at, w .roomy .scratch)
+
+  pub hold-number : Lent text ts → c .held < absent
+  hold-number l = omega (arith, w .links, w .at, l .whole .most)
+
+-- the rows that are held above the first, as `gather` copies them; and those that are held since s
+pub held-above : (base n : ℕ) (ss below : List ℕ) {xs : List ℕ} → base ≤ n → 3 * n ≤ length ss → length below ≡ 3 * base → take (3 * n) ss ≡ below ++ xs → take (3 * (n - base)) (drop (3 * base) ss) ≡ xs
+held-above base n ss below {xs} h i l e =
+    let k : 3 * base + 3 * (n - base) ≡ 3 * n = omega arith in
+    stretch (3 * base) (3 * (n - base)) ss (omega arith) ∙ ap (λ m. drop (3 * base) (take m ss)) k ∙ ap (drop (3 * base)) e ∙ drop-at below xs (3 * base) l
+
+pub size-held : {text ts : List ℕ} {base : ℕ} {s : State} → Within text ts s → s .cursor .held ≡ base → length (held s) ≡ 3 * base
+size-held {s = s} w h = length-take-le (3 * s .cursor .held) (s .scratch) (omega (arith, w .links, w .at, w .roomy .scratch)) ∙ ap (λ k. 3 * k) h
+
 pub held-since : {text ts : List ℕ} {s s₁ : State} {xs : List ℕ} → Within text ts s → Within text ts s₁ → s .cursor .held ≤ s₁ .cursor .held → held s₁ ≡ held s ++ xs → take (3 * (s₁ .cursor .held - s .cursor .held)) (drop (3 * s .cursor .held) (s₁ .scratch)) ≡ xs
-held-since {s = s} {s₁ = s₁} {xs = xs} w v h e =
-    let base = s .cursor .held in
-    let n = s₁ .cursor .held - base in
-    let k : 3 * base + 3 * n ≡ 3 * s₁ .cursor .held = omega arith in
-    let long : length (held s) ≡ 3 * base = length-take-le (3 * base) (s .scratch) (omega (arith, w .links, w .at, w .roomy .scratch)) in
-    stretch (3 * base) (3 * n) (s₁ .scratch) (omega (arith, v .links, v .at, v .roomy .scratch)) ∙ ap (λ m. drop (3 * base) (take m (s₁ .scratch))) k ∙ ap (drop (3 * base)) e ∙ drop-at (held s) xs (3 * base) long
+held-since {s = s} {s₁ = s₁} w v h e = held-above (s .cursor .held) (s₁ .cursor .held) (s₁ .scratch) (held s) h (omega (arith, v .links, v .at, v .roomy .scratch)) (size-held w refl) e
 
 -- two lists, one held after the other
 module _ {text ts : List ℕ} {limit o : ℕ} {p q : Form} {s s₁ s₂ : State} (l : Listed text ts limit (whole p) o s s₁) (m : Listed text ts limit (whole q) o s₁ s₂) where

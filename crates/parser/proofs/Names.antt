@@ -3,7 +3,7 @@ use Prim.Native.Nat.{ℕ, _<_}
 use native.Mathlib.Omega.{arith}
 use mathlib.Core.Bool.{Bool, true, false, cond, not, _&&_}
 use mathlib.Core.List.{List, [], _∷_}
-use mathlib.Core.Logic.{_⊎_, ⊎-elim}
+use mathlib.Core.Logic.{_⊎_, inl, inr, ⊎-elim}
 use mathlib.Core.Path.{_≡_, refl}
 use lib.Dec.{eqb, leb, T, leb→le}
 use borrow.Author.Tests.{eq-eqb, ne-eqb}
@@ -17,7 +17,7 @@ use Rattle.grammar.specs.Phrase.{empty, part, choice, whole}
 use Rattle.grammar.specs.Refusal.{Refuses}
 use Rattle.grammar.specs.Rows.{make, write}
 use Rattle.grammar.specs.Token.{kind, start, end, count}
-use Rattle.grammar.proofs.Tables.{both as all-of}
+use Rattle.grammar.proofs.Tests.{both as all-of}
 use Rattle.interner.specs.Interns.{Interns, Ready as Free}
 use Rattle.interner.specs.Table.{Part}
 use Rattle.interner.specs.declared.Interned.{Interned}
@@ -72,9 +72,9 @@ module _ (text ts : List ℕ) (t : Table) (a : ℕ) {z : ℕ} {q : Form} (e : ru
   unfolding kaori
   items-end = rw e (⊎-elim (λ h. rw (eq-eqb (seen text ts a) z (sees text ts a h (k .no-number)))) (λ h. rw (eq-eqb (seen text ts a) Eof (sees text ts a h (λ n. omega arith))) (same-either (eqb (seen text ts a) z) empty)))
 
-  pub items-on : (kind ts a ≡ z → ⊥) → (kind ts a ≡ Eof → ⊥) → kaori t (seen text ts a) ≡ q
+  pub items-on : ((kind ts a ≡ z) ⊎ (kind ts a ≡ Eof) → ⊥) → kaori t (seen text ts a) ≡ q
   unfolding kaori
-  items-on m n = rw (e, ne-eqb (seen text ts a) z (sees-not text ts a m (k .known)), ne-eqb (seen text ts a) Eof (sees-not text ts a n (omega arith)))
+  items-on n = rw (e, ne-eqb (seen text ts a) z (sees-not text ts a (λ h. n (inl h)) (k .known)), ne-eqb (seen text ts a) Eof (sees-not text ts a (λ h. n (inr h)) (omega arith)))
 
 -- a table of one kind: what it has for it, and for all others
 module _ (text ts : List ℕ) (t : Table) (a : ℕ) {z : ℕ} {q r : Form} (e : rules t ≡ ((z, q) ∷ [], r)) (k : Plain z) where

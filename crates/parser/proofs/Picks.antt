@@ -13,7 +13,7 @@ use Rattle.ast.specs.Inserted.{Inserted}
 use Rattle.ast.specs.declared.Node.{Node}
 use Rattle.grammar.specs.Float.{float, seen}
 use Rattle.grammar.specs.Handle.{Handle}
-use Rattle.grammar.specs.Kaori.{Form, Table, kaori, rules, above, expression, block, unary, leaf, operand, body, branch, calls, operators}
+use Rattle.grammar.specs.Kaori.{Form, Table, kaori, rules, above, unary, leaf, operand, calls, operators}
 use Rattle.grammar.specs.Kind.{Minus, Caret, Dot, Pipe, LeftParen, Hash, LeftBrace, And, Or, If, True, False, Nil, NumberLiteral, StringLiteral, Identifier, RejectedNumber, Eof}
 use Rattle.grammar.specs.Label.{Label, number-of}
 use Rattle.grammar.specs.Label as label
@@ -77,14 +77,6 @@ module _ (text ts : List ℕ) (a : ℕ) where
       go e z = listed-as operand (k ∙ e) (λ d. omega arith) z ∙ ap (λ y. leaf (single-node y) y) (sym e)
 
   -- what a table has for a kind that it does not list
-  pub other-body : (kind ts a ≡ LeftBrace → ⊥) → kaori body (seen text ts a) ≡ expression
-  unfolding kaori rules
-  other-body h = seen-alike (kaori body) refl ∙ unlisted body (kind ts a) (h, tt)
-
-  pub other-branch : (kind ts a ≡ If → ⊥) → kaori branch (seen text ts a) ≡ block
-  unfolding kaori rules
-  other-branch h = seen-alike (kaori branch) refl ∙ unlisted branch (kind ts a) (h, tt)
-
   pub no-call : (kind ts a ≡ Dot → ⊥) → (kind ts a ≡ LeftParen → ⊥) → kaori calls (seen text ts a) ≡ empty
   unfolding kaori rules
   no-call h k = seen-alike (kaori calls) refl ∙ unlisted calls (kind ts a) (k, (h, tt))
@@ -115,6 +107,10 @@ module _ (text ts : List ℕ) (a : ℕ) where
 
 pub operator-goes : {x l : ℕ} → l ≡ level x → l < 6 → x ≡ Eof → ⊥
 operator-goes {x} {l} e h d = let z : l ≡ 6 = e ∙ ap level d in omega (arith, z)
+
+-- the kind that was read is one that the table lists
+pub picked-as : {text ts : List ℕ} {limit : ℕ} {h : Node → Handle} {p : Form} {o x k : ℕ} {s : State} {ns ls ys ss : List ℕ} (r : Read) (t : Table) → k ≡ kind ts (s .cursor .at) → k ≡ x → (x ≡ NumberLiteral → ⊥) → kaori t x ≡ p → Answered text ts limit h (whole p) o s ns ls ys ss r → Answered text ts limit h (whole (choice t)) o s ns ls ys ss r
+picked-as r t k e n z a = picked r (listed-as _ _ _ t (sym k ∙ e) n z) a
 
 -- two operands and the operator between them make what `joined` writes
 joined-row : (text ts : List ℕ) (a b : ℕ) (n m : Node) (c : Cursor) (ns ls ys ss : List ℕ) →

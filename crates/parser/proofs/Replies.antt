@@ -1,28 +1,28 @@
 -- Answers of parts make an answer of the whole.
-use Prim.Native.Nat.{ℕ, suc, _+_, _-_, _*_, _≤_, _<_}
+use Prim.Native.Nat.{ℕ, _+_, _*_, _≤_, _<_}
 use native.Mathlib.Numerals.{add-one}
 use native.Mathlib.Omega.{arith}
-use mathlib.Core.List.{List, [], _∷_, _++_}
-use mathlib.Core.Path.{_≡_, refl, sym, ap, _∙_}
-use lib.ListN.{length, take}
+use mathlib.Core.List.{List, [], _∷_}
+use mathlib.Core.Path.{_≡_}
+use lib.ListN.{take}
 use Rattle.ast.specs.declared.Node.{Node}
 use Rattle.grammar.specs.Float.{seen}
 use Rattle.grammar.specs.Handle.{Handle}
 use Rattle.grammar.specs.Kaori.{Form, Table, kaori, block-items}
-use Rattle.grammar.specs.Kind.{NumberLiteral, RejectedNumber, Eof}
+use Rattle.grammar.specs.Kind.{RejectedNumber}
 use Rattle.grammar.specs.Label.{Label}
-use Rattle.grammar.specs.Phrase.{empty, token, part, nested, node, choice, chain, once, Aim, whole, begun}
+use Rattle.grammar.specs.Phrase.{empty, part, nested, node, chain, once, Aim, whole, begun}
 use Rattle.grammar.specs.Refusal.{Refused, refused, Refuses}
 use Rattle.grammar.specs.Token.{kind, start, end, count}
 use Rattle.interner.specs.Table.{Table as Symbols}
-use Rattle.parser.specs.Answers.{next, node-of, Took, Consumed, Case, Answered, Listed, List-case, Lists, Filled, Fill-case, Fills, Stated, State-case, States}
+use Rattle.parser.specs.Answers.{next, Took, Consumed, Case, Answered, Listed, List-case, Lists, Filled, Fill-case, Fills, Stated, State-case, States}
 use Rattle.parser.specs.Reading.{form, refusal, Reading, Success, Refusing}
-use Rattle.parser.specs.State.{State, state, written, held, Within, Ready, Rooms}
+use Rattle.parser.specs.State.{State, state, Ready}
 use Rattle.parser.specs.declared.Cursor.{Cursor}
 use Rattle.parser.specs.declared.Read.{Read}
 use Rattle.parser.specs.declared.Refusal.{Refusal}
 use Rattle.parser.proofs.Bound.{Paid, bound, arrived}
-use Rattle.parser.proofs.Laws.{sees, sees-not, ready-next}
+use Rattle.parser.proofs.Laws.{sees-not}
 
 -- a token was taken
 pub record Taken (ts : List ℕ) (c : Cursor) (x : ℕ) (n : Node) (d : Cursor) : Type 0 where

@@ -27,11 +27,11 @@ use Rattle.grammar.proofs.Tables.{Unlisted}
 use Rattle.parser.specs.Answers.{next, node-of, tail-of, Case, Answered, Listed, Fill-case, Fills, Stated, State-case, States}
 use Rattle.parser.specs.Parts.{forms, form-of, ending, Ends, Ended, Untailed}
 use Rattle.parser.specs.Reading.{refusal, Success, Refusing}
-use Rattle.parser.specs.State.{State, state, held, Lent, Within, Ready}
+use Rattle.parser.specs.State.{State, state, held, Within, Ready}
 use Rattle.parser.specs.declared.Cursor.{Cursor}
 use Rattle.parser.specs.declared.Read.{Read}
 use Rattle.parser.specs.declared.Refusal.{Refusal}
-use Rattle.parser.proofs.Laws.{sees, sees-not, rooms-same, Made, nothing, chosen, ended, alone, joined, taken, ready-next, ready-on}
+use Rattle.parser.proofs.Laws.{sees, sees-not, Made, unwritten, nothing, chosen, ended, alone, joined, taken, ready-next, ready-on}
 use Rattle.parser.proofs.Listings.{pushed, links-append, Statements, listing-none, none-items, listing-more, more-items}
 use Rattle.parser.proofs.Replies.{after-once}
 use Rattle.parser.proofs.Sorts.{tail-present, statement-link}
@@ -105,7 +105,7 @@ module _ {text ts : List ℕ} {limit o : ℕ} {s : State} {ns ls ys ss : List �
   unfolding State-case make
   ended-by {n} {c = c} r z (k, em, ed) =
       let e = sees text ts (c .at) k (λ y. omega arith) in
-      let made : Made text ts Label.Ended (c .at) (state ns ls ys ss (next c)) (node-of n ∷ []) [] (Handle.ended (n .id) ∷ []) (state ns ls ys ss (next c)) = record { makes = refl; at = refl; holds = refl; same = refl; rooms = rooms-same } in
+      let made : Made text ts Label.Ended (c .at) (state ns ls ys ss (next c)) (node-of n ∷ []) [] (Handle.ended (n .id) ∷ []) (state ns ls ys ss (next c)) = unwritten refl in
       let v = chosen (statement-seen text ts (s .cursor .at) refl) (joined (z .reading) (taken-end text ts (c .at) (kind ts (s .cursor .at)) e) (taken e (nothing (r .deep))) made) in
       rw (em, ed) (record { says = record { handle = Handle.ended (n .id); row-is = refl; tail-is = refl; success = record { reading = v; within = ready-next (ready-on r (z .within)) k (λ y. omega arith) .within; past = omega (arith, z .past) } } })
 
@@ -172,9 +172,9 @@ module _ {text ts : List ℕ} {limit o : ℕ} {s : State} {ns ls ys ss : List �
       go [] e k = absurd (n e)
       go (h ∷ hs) e k = omega arith
 
-  pub block-ends : {r : Read} → Lent text ts → kaori block-items (seen text ts (c .at)) ≡ empty → Untailed tail c r → Fills text ts limit o s ns ls ys ss r
+  pub block-ends : {r : Read} → Ready text ts limit o s → kaori block-items (seen text ts (c .at)) ≡ empty → Untailed tail c r → Fills text ts limit o s ns ls ys ss r
   unfolding Fill-case block-tail
-  block-ends {r} lent e u = go (is-tail (last (l .items))) refl
+  block-ends {r} i e u = go (is-tail (last (l .items))) refl
     where
       go : (b : Bool) → is-tail (last (l .items)) ≡ b → Fills text ts limit o s ns ls ys ss r
       go false z =
@@ -190,8 +190,8 @@ module _ {text ts : List ℕ} {limit o : ℕ} {s : State} {ns ls ys ss : List �
           let w = l .within in
           let room : 3 * c .held ≤ length ss = omega (arith, w .links, w .at, w .roomy .scratch) in
           let rows : held (state ns ls ys ss c) ≡ held s ++ links-of (hs ++ (h ∷ [])) = l .rows ∙ ap (λ k. held s ++ links-of k) y in
-          let few : c .nodes < absent = omega (arith, w .rows, w .at, lent .whole .most) in
-          rw (u .one (λ x. tail-present few (l .reading) z (sym a ∙ x))) (record {
+          let few : c .nodes < absent = omega (arith, w .rows, w .at, i .lent .whole .most) in
+          rw (u .one (λ x. tail-present few (i .within) (l .reading) z (sym a ∙ x))) (record {
             says = record {
               items = l .items;
               reading = ended e (l .reading);
@@ -208,9 +208,9 @@ module _ {text ts : List ℕ} {limit o : ℕ} {s : State} where
   pub statements-none : o ≤ limit → Within text ts s → Statements text ts limit o s s absent
   statements-none h w = record { listing = listing-none h w; last = sym (ap (λ k. row (block-tail k)) (none-items block-items h w) ∙ tail-none) }
 
-  pub statements-more : {s₁ : State} {tail : ℕ} {n : Node} {ns ls ys ss ss′ : List ℕ} {c : Cursor} → Within text ts s → Statements text ts limit o s s₁ tail → kaori block-items (seen text ts (s₁ .cursor .at)) ≡ node Label.Item (choice statement) → Stated text ts limit o s₁ n (state ns ls ys ss c) →
+  pub statements-more : {s₁ : State} {tail : ℕ} {n : Node} {ns ls ys ss ss′ : List ℕ} {c : Cursor} → Statements text ts limit o s s₁ tail → kaori block-items (seen text ts (s₁ .cursor .at)) ≡ node Label.Item (choice statement) → Stated text ts limit o s₁ n (state ns ls ys ss c) →
       Written (3 * c .held) (3 * (c .held + 1)) (n .id ∷ 0 ∷ 0 ∷ []) ss ss′ → Statements text ts limit o s (state ns ls ys ss′ (pushed c)) (n .end)
-  statements-more {n = n} w₀ x e z w =
+  statements-more {n = n} x e z w =
       let l = x .listing in
-      let f : n .id ∷ 0 ∷ 0 ∷ [] ≡ link (z .handle) = sym (statement-link (z .success .reading) ∙ ap (λ i. i ∷ 0 ∷ 0 ∷ []) (z .row-is)) in
-      record { listing = listing-more w₀ l e (z .success) w f; last = sym (ap (λ k. row (block-tail k)) (more-items w₀ l e (z .success) w f) ∙ tail-next (l .items) (z .handle) ∙ z .tail-is) }
+      let f : n .id ∷ 0 ∷ 0 ∷ [] ≡ link (z .handle) = sym (statement-link (l .within) (z .success .reading) ∙ ap (λ i. i ∷ 0 ∷ 0 ∷ []) (z .row-is)) in
+      record { listing = listing-more l e (z .success) w f; last = sym (ap (λ k. row (block-tail k)) (more-items l e (z .success) w f) ∙ tail-next (l .items) (z .handle) ∙ z .tail-is) }

@@ -41,16 +41,16 @@ module _ {ts : List ℕ} {c d : Cursor} {x : ℕ} {n : Node} (k : Taken ts c x n
   pub past-at : d .at ≡ c .at + 1
   past-at = ap (λ e. e .at) (k .after)
 
--- the token, and what is read, refused or asked after it
+-- the token, and what is read, asked or refused after it
 module _ {text ts : List ℕ} {limit o x : ℕ} {c d : Cursor} {n : Node} where
   pub led : {p : Form} {ns ls ys ss : List ℕ} {hs gs : List Handle} {s′ : State} → Taken ts c x n d → (x ≡ NumberLiteral → ⊥) → Reading text ts limit (whole p) o (state ns ls ys ss d) hs gs s′ → Reading text ts limit (whole (token x p)) o (state ns ls ys ss c) hs gs s′
   led k m r = taken (sees text ts (c .at) (k .kind-is) m) (rw (k .after) at r)
 
-  pub led-refused : {p : Form} {q : Refused} → Lent text ts → Taken ts c x n d → (x ≡ NumberLiteral → ⊥) → Refuses kaori (seen text ts) limit p o (d .at) q → Refuses kaori (seen text ts) limit (token x p) o (c .at) q
-  led-refused l k m h = Refuses.past-token (sees text ts (c .at) (k .kind-is) m) (rw (past-at k) at h)
-
   pub ready-led : {ns ls ys ss : List ℕ} → Ready text ts limit o (state ns ls ys ss c) → Taken ts c x n d → (x ≡ Eof → ⊥) → Ready text ts limit o (state ns ls ys ss d)
   ready-led r k m = rw (k .after) (ready-next r (k .kind-is) m)
+
+pub led-refused : (text : List ℕ) {ts : List ℕ} {limit o x : ℕ} {c d : Cursor} {n : Node} {p : Form} {q : Refused} → Taken ts c x n d → (x ≡ NumberLiteral → ⊥) → Refuses kaori (seen text ts) limit p o (d .at) q → Refuses kaori (seen text ts) limit (token x p) o (c .at) q
+led-refused text {ts} {c = c} k m h = Refuses.past-token (sees text ts (c .at) (k .kind-is) m) (rw (past-at k) at h)
 
 -- there is room for one node row more
 pub free : {text ts ns ls ys ss : List ℕ} {c : Cursor} → Lent text ts → Within text ts (state ns ls ys ss c) → Free (c .nodes) ns

@@ -1,6 +1,6 @@
 -- What was read: from one state to another the tokens read as a phrase says, no deeper than the limit, and the rooms have just the rows of that reading.
 use Prim.Native.Nat.{ℕ, _+_, _≤_}
-use mathlib.Core.List.{List, [], _∷_}
+use mathlib.Core.List.{List, []}
 use mathlib.Core.Path.{_≡_}
 use Rattle.grammar.specs.Float.{seen}
 use Rattle.grammar.specs.Handle.{Handle}

@@ -2,8 +2,8 @@
 // after it, or the first refusal.
 mod leaves;
 mod lists;
+mod pieces;
 pub mod readers;
-mod rows;
 
 use ast::Node;
 

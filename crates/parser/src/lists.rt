@@ -9,7 +9,7 @@ use interner::get_or_intern;
 use token::list::end_at;
 use token::list::kind_at;
 use token::list::start_at;
-ghost use Prim.Native.Nat.{_+_, _*_, _-_, _≤_, _<_};
+ghost use Prim.Native.Nat.{_+_, _*_, _≤_, _<_};
 ghost use lib.ListN.{length};
 ghost use Rattle.grammar.specs.Handle.{absent};
 ghost use Rattle.grammar.specs.Kaori as form;

@@ -13,10 +13,10 @@ use crate::lists::gather;
 use crate::lists::import;
 use crate::lists::name;
 use crate::lists::names;
-use crate::rows::bound;
-use crate::rows::joined;
-use crate::rows::semicolon;
-use crate::rows::untailed;
+use crate::pieces::bound;
+use crate::pieces::joined;
+use crate::pieces::semicolon;
+use crate::pieces::untailed;
 use ast::Node;
 use ast::room::push;
 use token::list::kind_at;
@@ -37,7 +37,8 @@ ghost use Rattle.parser.specs.State.{state, Ready};
 // No row.
 const ABSENT: u32 = 4294967295;
 
-// A statement: its row, and its row once more if it may be a tail, or else absent.
+// A statement: its row, and its row once more if it may be a tail, or else absent. It is public for the crates above, which know what it asks.
+// Ruled out: a call whose row does not name its callee; a `not` whose row ends with its operand.
 pub fn statement(
     text: &[u8],
     tokens: &[u32],
@@ -100,7 +101,7 @@ fn form(
             depth,
             cur,
         ),
-        25..=27 => binding(
+        25..=27 => bind(
             text,
             tokens,
             nodes,
@@ -128,7 +129,7 @@ fn form(
             at: at,
             expected: 255,
         }),
-        30 => while_loop(
+        30 => while_(
             text,
             tokens,
             nodes,
@@ -545,7 +546,7 @@ fn else_(
     }
 }
 
-fn while_loop(
+fn while_(
     text: &[u8],
     tokens: &[u32],
     nodes: &mut [u32],
@@ -690,7 +691,7 @@ fn function(
 }
 
 // `let`, `const` and `ref`.
-fn binding(
+fn bind(
     text: &[u8],
     tokens: &[u32],
     nodes: &mut [u32],
@@ -802,7 +803,7 @@ fn binary(
     requires { ⌜ Ready (now text) (now tokens) limit depth (state (now nodes) (now links) (now symbols) (now scratch) cur) ⌝ }
     ensures { λ r. ⌜ Answered (now (text .entry)) (now (tokens .entry)) limit node-of (whole (form.above level)) depth (state (now (nodes .entry)) (now (links .entry)) (now (symbols .entry)) (now (scratch .entry)) cur) (now (nodes .exit)) (now (links .exit)) (now (symbols .exit)) (now (scratch .exit)) r ⌝ }
 {
-    let read = prefix_unary(
+    let read = prefix(
         text,
         tokens,
         nodes,
@@ -849,7 +850,7 @@ fn binary(
     }
 }
 
-fn prefix_unary(
+fn prefix(
     text: &[u8],
     tokens: &[u32],
     nodes: &mut [u32],
@@ -940,7 +941,7 @@ fn plus(
     let Read::Node(_, next) = read else {
         return read;
     };
-    prefix_unary(
+    prefix(
         text,
         tokens,
         nodes,
@@ -981,7 +982,7 @@ fn unary(
     let Read::Node(lead, next) = read else {
         return read;
     };
-    let read = prefix_unary(
+    let read = prefix(
         text,
         tokens,
         nodes,
@@ -1083,7 +1084,7 @@ fn primary(
             depth,
             cur,
         ),
-        19 => map_literal(
+        19 => map_(
             text,
             tokens,
             nodes,
@@ -1150,7 +1151,7 @@ fn primary(
             depth,
             cur,
         ),
-        43 => reference(
+        43 => chained(
             text,
             tokens,
             nodes,
@@ -1209,7 +1210,7 @@ fn group(
     Read::Node(inner, end)
 }
 
-fn map_literal(
+fn map_(
     text: &[u8],
     tokens: &[u32],
     nodes: &mut [u32],
@@ -1231,7 +1232,7 @@ fn map_literal(
     let Read::Node(_, open) = read else {
         return read;
     };
-    let read = map_entries(
+    let read = pairs(
         text,
         tokens,
         nodes,
@@ -1261,7 +1262,7 @@ fn map_literal(
 }
 
 // The entries of a map, up to what ends them.
-fn map_entries(
+fn pairs(
     text: &[u8],
     tokens: &[u32],
     nodes: &mut [u32],
@@ -1283,7 +1284,7 @@ fn map_entries(
             21 | 44 => break 'list,
             _ => {}
         }
-        let read = map_entry(
+        let read = pair(
             text,
             tokens,
             nodes,
@@ -1313,7 +1314,7 @@ fn map_entries(
 }
 
 // A key, and its value if it has one: their rows, and the comma after them.
-fn map_entry(
+fn pair(
     text: &[u8],
     tokens: &[u32],
     nodes: &mut [u32],
@@ -1488,7 +1489,7 @@ fn body(
 }
 
 // An identifier, with the calls and dots after it.
-fn reference(
+fn chained(
     text: &[u8],
     tokens: &[u32],
     nodes: &mut [u32],
@@ -1516,7 +1517,7 @@ fn reference(
     let Read::Node(node, end) = read else {
         return read;
     };
-    postfix_unary(
+    postfix(
         text,
         tokens,
         nodes,
@@ -1531,7 +1532,7 @@ fn reference(
 }
 
 // The calls and dots after an identifier: the outermost node is the chain's.
-fn postfix_unary(
+fn postfix(
     text: &[u8],
     tokens: &[u32],
     nodes: &mut [u32],
@@ -1572,7 +1573,7 @@ fn postfix_unary(
                 now = end;
             }
             17 => {
-                let read = function_call(
+                let read = call(
                     text,
                     tokens,
                     nodes,
@@ -1596,7 +1597,7 @@ fn postfix_unary(
 }
 
 // A call of what stands before it.
-fn function_call(
+fn call(
     text: &[u8],
     tokens: &[u32],
     nodes: &mut [u32],
@@ -1676,7 +1677,7 @@ fn arguments(
             18 | 44 => break 'list,
             _ => {}
         }
-        let read = argument(
+        let read = arg(
             text,
             tokens,
             nodes,
@@ -1706,7 +1707,7 @@ fn arguments(
 }
 
 // An argument, and the comma after it.
-fn argument(
+fn arg(
     text: &[u8],
     tokens: &[u32],
     nodes: &mut [u32],

@@ -12,13 +12,14 @@ use borrow.Author.Tests.{ne-eqb, eqb-true, eqb-false, not-true}
 use Rattle.grammar.specs.Float.{caseless, sign, point, exponent, mantissa, float}
 use Rattle.grammar.specs.Pattern.{Pattern, byte, sequence, either, many, matches, nullable, bytes, among, digit, some, maybe}
 use Rattle.grammar.specs.Token.{lexeme}
+use Rattle.grammar.proofs.Lexemes.{lexeme-first, lexeme-none, lexeme-whole}
+use Rattle.grammar.proofs.Tests.{as-true}
+use Rattle.grammar.proofs.Matching.{Shy, either-says, nothing-then, regroup, either-then, maybe-then, byte-then, no-byte, only-empty, shy-first, shy-either, shy-maybe}
 use Rattle.token.specs.Parts.{signed, power, unsigned, Small}
 use Rattle.token.specs.Run.{Ran}
-use Rattle.token.proofs.Lexemes.{lexeme-first, lexeme-none}
-use Rattle.token.proofs.Matching.{Shy, either-says, nothing-then, regroup, either-then, maybe-then, byte-then, no-byte, only-empty, run-then, some-then, shy-first, shy-either, shy-maybe, lexeme-whole}
 use Rattle.token.proofs.Numbers.{power-first, power-shy}
-use Rattle.token.proofs.Ranges.{as-true, every, every-at, member, apart}
-use Rattle.token.proofs.Runs.{many-read, some-read, none-read}
+use Rattle.token.proofs.Ranges.{every, every-at, member, apart}
+use Rattle.token.proofs.Runs.{many-read, some-read, none-read, run-then, some-then}
 
 -- the exponent is the one of document 002's numbers
 exponent-first : (x : ℕ) (xs : List ℕ) → matches (maybe exponent) (x ∷ xs) ≡ matches (maybe power) (x ∷ xs)

@@ -1,7 +1,5 @@
 pub mod Ranges
 pub mod Operators
-pub mod Lexemes
-pub mod Matching
 pub mod Deciding
 pub mod Spellings
 pub mod Runs

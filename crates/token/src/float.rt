@@ -11,7 +11,8 @@ ghost use Rattle.token.specs.Parts.{unsigned, Small};
 use crate::lexeme::digits;
 use crate::lexeme::is_power;
 
-// Whether Rust's `parse::<f64>` reads the text from `start` up to `end`. For the crates above. Ruled out: `.` as a float, and `1.` or `INF` as none.
+// Whether Rust's `parse::<f64>` reads the text from `start` up to `end`. For the crates above.
+// Ruled out: `.` as a float; `1.` or `INF` as none.
 pub fn is_float(text: &[u8], start: usize, end: usize) -> bool
     requires { ⌜ (start ≤ end) × (end ≤ length (now text)) ⌝ }
     ensures { λ r. ⌜ r ≡ matches float (lexeme (now (text .entry)) start end) ⌝ }

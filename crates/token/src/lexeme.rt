@@ -8,11 +8,12 @@ ghost use Rattle.grammar.specs.Lexeme.{letter, number, string, identifier, Fits
 ghost use Rattle.grammar.specs.Pattern.{byte, matches, digit, some, maybe};
 ghost use Rattle.grammar.specs.Token.{lexeme};
 ghost use Rattle.token.specs.Decides.{Decides};
-ghost use Rattle.token.specs.Parts.{signed, power, inside, letter-or-digit, Keyword, OneOf};
+ghost use Rattle.token.specs.Parts.{signed, power, inside, letter-or-digit, Word, Which};
 ghost use Rattle.token.specs.Run.{Ran};
 use crate::spelling::spelled;
 
-// Whether the text from `start` up to `end` fits a kind of token. For the crates above. Ruled out: `nil` as an Identifier, `1e` as a NumberLiteral.
+// Whether the text from `start` up to `end` fits a kind of token. For the crates above.
+// Ruled out: `nil` as an Identifier; `1e` as a NumberLiteral.
 pub fn fits(kind: u32, text: &[u8], start: usize, end: usize) -> bool
     requires { ⌜ (start ≤ end) × (end ≤ length (now text)) ⌝ }
     ensures { λ r. ⌜ Decides (Fits kind (lexeme (now (text .entry)) start end)) r ⌝ }
@@ -21,7 +22,7 @@ pub fn fits(kind: u32, text: &[u8], start: usize, end: usize) -> bool
         40 => is_number(text, start, end),
         42 => is_string(text, start, end),
         43 => {
-            if is_keyword(text, start, end) {
+            if keyword(text, start, end) != 43 {
                 return false;
             }
             is_identifier(text, start, end)
@@ -31,45 +32,57 @@ pub fn fits(kind: u32, text: &[u8], start: usize, end: usize) -> bool
     }
 }
 
-// One of the 18 keywords: those with the same first letter are compared.
-fn is_keyword(text: &[u8], start: usize, end: usize) -> bool
+// The kind of the keyword that the text from `start` up to `end` is, or 43, Identifier, for any other text: those with the same first letter are compared. For the
+// crates above. Ruled out: 43 for `nil`; 22 for `ands`.
+pub fn keyword(text: &[u8], start: usize, end: usize) -> u32
     requires { ⌜ (start ≤ end) × (end ≤ length (now text)) ⌝ }
-    ensures { λ r. ⌜ Decides (Keyword (lexeme (now (text .entry)) start end)) r ⌝ }
+    ensures { λ r. ⌜ Word (lexeme (now (text .entry)) start end) r ⌝ }
 {
     if start == end {
-        return false;
+        return 43;
     }
     match text[start] {
-        b'a' => spelled(22, text, start, end),
-        b'b' => spelled(31, text, start, end),
-        b'c' => is_one_of(26, 32, text, start, end),
-        b'e' => spelled(34, text, start, end),
+        b'a' => only(22, text, start, end),
+        b'b' => only(31, text, start, end),
+        b'c' => one_of(26, 32, text, start, end),
+        b'e' => only(34, text, start, end),
         b'f' => {
             if spelled(28, text, start, end) {
-                return true;
+                return 28;
             }
-            is_one_of(29, 38, text, start, end)
+            one_of(29, 38, text, start, end)
         }
-        b'i' => is_one_of(33, 36, text, start, end),
-        b'l' => spelled(25, text, start, end),
-        b'n' => is_one_of(24, 39, text, start, end),
-        b'o' => spelled(23, text, start, end),
-        b'r' => is_one_of(27, 35, text, start, end),
-        b't' => spelled(37, text, start, end),
-        b'w' => spelled(30, text, start, end),
-        _ => false,
+        b'i' => one_of(33, 36, text, start, end),
+        b'l' => only(25, text, start, end),
+        b'n' => one_of(24, 39, text, start, end),
+        b'o' => only(23, text, start, end),
+        b'r' => one_of(27, 35, text, start, end),
+        b't' => only(37, text, start, end),
+        b'w' => only(30, text, start, end),
+        _ => 43,
     }
 }
 
-// The spelling of one of two kinds.
-fn is_one_of(first: u32, second: u32, text: &[u8], start: usize, end: usize) -> bool
+// This kind where the text is its spelling, or 43.
+fn only(kind: u32, text: &[u8], start: usize, end: usize) -> u32
     requires { ⌜ (start ≤ end) × (end ≤ length (now text)) ⌝ }
-    ensures { λ r. ⌜ Decides (OneOf (lexeme (now (text .entry)) start end) (first ∷ second ∷ [])) r ⌝ }
+    ensures { λ r. ⌜ Which (lexeme (now (text .entry)) start end) (kind ∷ []) r ⌝ }
+{
+    if spelled(kind, text, start, end) {
+        return kind;
+    }
+    43
+}
+
+// One of two kinds so.
+fn one_of(first: u32, second: u32, text: &[u8], start: usize, end: usize) -> u32
+    requires { ⌜ (start ≤ end) × (end ≤ length (now text)) ⌝ }
+    ensures { λ r. ⌜ Which (lexeme (now (text .entry)) start end) (first ∷ second ∷ []) r ⌝ }
 {
     if spelled(first, text, start, end) {
-        return true;
+        return first;
     }
-    spelled(second, text, start, end)
+    only(second, text, start, end)
 }
 
 // [a-zA-Z_][a-zA-Z0-9_]*
@@ -159,7 +172,8 @@ fn is_number(text: &[u8], start: usize, end: usize) -> bool
     is_power(text, upto, end)
 }
 
-// Nothing, or [eE][+-]?[0-9]+. Ruled out: `e`, and `5`.
+// Nothing, or [eE][+-]?[0-9]+.
+// Ruled out: `e`; `5`.
 pub fn is_power(text: &[u8], start: usize, end: usize) -> bool
     requires { ⌜ (start ≤ end) × (end ≤ length (now text)) ⌝ }
     ensures { λ r. ⌜ r ≡ matches (maybe power) (lexeme (now (text .entry)) start end) ⌝ }
@@ -199,7 +213,8 @@ fn are_digits(text: &[u8], start: usize, end: usize) -> bool
     upto == end
 }
 
-// The end of the run of digits that starts at `start`. Ruled out: an end before a digit, and one past another byte.
+// The end of the run of digits that starts at `start`.
+// Ruled out: an end before a digit; one past another byte.
 pub fn digits(text: &[u8], start: usize, end: usize) -> usize
     requires { ⌜ (start ≤ end) × (end ≤ length (now text)) ⌝ }
     ensures { λ r. ⌜ Ran digit (now (text .entry)) start end r ⌝ }
@@ -236,7 +251,9 @@ fn is_digit(byte: u8) -> bool
     }
 }
 
-fn is_letter_or_digit(byte: u8) -> bool
+// [a-zA-Z0-9_]. For the crates above.
+// Ruled out: false for `_`; true for `-`.
+pub fn is_letter_or_digit(byte: u8) -> bool
     ensures { λ r. ⌜ r ≡ letter-or-digit byte ⌝ }
 {
     if is_letter(byte) {

@@ -17,19 +17,10 @@ start c = c .before .before .before .before .before .before .before .before .bef
 returns : tie.Need-returns
 returns c = passed (c .enum-told .given .1) (c .before .before .before .before .before .before .before .before .before .before .name .ensures) (λ x h. relabelled h)
 
-identifier-requires : tie.Need-identifier-requires
-identifier-requires c κs = free (start (c .before) .pre .lent) (part (c .before) .within)
-
-add-past : tie.Need-add-past
-add-past c =
-    let z = c .before .before .before .before in
-    let f = free (start z .pre .lent) (part z .within) in
-    omega arith
-
 returns-2 : tie.Need-returns-2
 returns-2 c =
     let z = c .before .before .before .before in
     identifier-read (start z .pre) (part z) (c .before .before .identifier .ensures)
 
 pub identifier-spec : {M : Type 1} → statement M
-identifier-spec = tie.close (tie.spec (λ c κs. search needs) (λ c. search needs) (λ c. search needs) (λ c. search needs) (λ c. search needs) (λ c. search needs) (λ c. search needs) returns identifier-requires add-past (λ c. search needs) (λ c. search needs) (λ c. search needs) (λ c. search needs) returns-2)
+identifier-spec = tie.close (tie.spec (λ c κs. search needs) (λ c. search needs) (λ c. search needs) (λ c. search needs) (λ c. search needs) (λ c. search needs) (λ c. search needs) returns (λ c κs. free (start (c .before) .pre .lent) (part (c .before) .within)) (λ c. omega (arith, free (start (c .before .before .before .before) .pre .lent) (part (c .before .before .before .before) .within))) (λ c. search needs) (λ c. search needs) (λ c. search needs) (λ c. search needs) returns-2)

@@ -34,24 +34,10 @@ returns c =
     let k = sees (s .args .text .now) (s .args .tokens .now) (s .args .cur .at) (s .pre .0) (λ e. omega arith) in
     stops-lacking (c .enum-told .given .1) (c .before .before .consume .ensures) (omega arith) (λ s b n. further b (ap (kaori calls) k) (Refuses.missing n))
 
-name-requires : tie.Need-name-requires
-name-requires c κs =
-    let z = c .before .before .before .before in
-    ready-led (start z .pre .1) (dot z) (λ e. omega arith)
-
 returns-2 : tie.Need-returns-2
 returns-2 c =
     let z = c .before .before .before .before .before .before .before .before .before .before .before .before .before .before .before in
     property-refused (start z .pre .1) (dot z) (c .enum-told2 .given .1) (c .before .before .before .before .before .before .before .before .before .before .name .ensures)
-
-property-access-requires : tie.Need-property-access-requires
-property-access-requires c κs = free (start (middle (c .before)) .pre .1 .lent) (part (c .before) .within)
-
-add-past : tie.Need-add-past
-add-past c =
-    let z = c .before .before .before .before in
-    let f = free (start (middle z) .pre .1 .lent) (part z .within) in
-    omega arith
 
 returns-3 : tie.Need-returns-3
 returns-3 c =
@@ -59,4 +45,4 @@ returns-3 c =
     property-read (start (middle z) .pre .1) (dot (middle z)) (part z) (c .before .before .property-access .ensures)
 
 pub property-access-spec : {M : Type 1} → statement M
-property-access-spec = tie.close (tie.spec (λ c κs. search needs) (λ c. search needs) (λ c. search needs) returns name-requires (λ c. search needs) (λ c. search needs) (λ c. search needs) (λ c. search needs) (λ c. search needs) (λ c. search needs) returns-2 property-access-requires add-past (λ c. search needs) (λ c. search needs) (λ c. search needs) (λ c. search needs) returns-3)
+property-access-spec = tie.close (tie.spec (λ c κs. search needs) (λ c. search needs) (λ c. search needs) returns (λ c κs. ready-led (start (c .before .before .before .before) .pre .1) (dot (c .before .before .before .before)) (λ e. omega arith)) (λ c. search needs) (λ c. search needs) (λ c. search needs) (λ c. search needs) (λ c. search needs) (λ c. search needs) returns-2 (λ c κs. free (start (middle (c .before)) .pre .1 .lent) (part (c .before) .within)) (λ c. omega (arith, free (start (middle (c .before .before .before .before)) .pre .1 .lent) (part (c .before .before .before .before) .within))) (λ c. search needs) (λ c. search needs) (λ c. search needs) (λ c. search needs) returns-3)

@@ -19,15 +19,6 @@ returns c =
     let b = single-below (c .before .before .before .before .before .before .before .before .before .pre .0) in
     lacks (c .enum-told .given .1) (c .before .before .consume .ensures) (omega arith) (λ n. Refuses.in-node (Refuses.missing n))
 
-row-requires : tie.Need-row-requires
-row-requires c κs = next-row (start (c .before) .pre .1 .1) (place (c .before))
-
-add-past : tie.Need-add-past
-add-past c =
-    let z = c .before .before .before .before in
-    let f = next-row (start z .pre .1 .1) (place z) in
-    omega arith
-
 returns-2 : tie.Need-returns-2
 returns-2 c =
     let z = c .before .before .before .before in
@@ -35,4 +26,4 @@ returns-2 c =
     single-read (p .1 .1) (p .0) (place z) (p .1 .0) (c .before .before .row .ensures)
 
 pub single-spec : {M : Type 1} → statement M
-single-spec = tie.close (tie.spec (λ c κs. search needs) (λ c. search needs) (λ c. search needs) returns row-requires add-past (λ c. search needs) returns-2)
+single-spec = tie.close (tie.spec (λ c κs. search needs) (λ c. search needs) (λ c. search needs) returns (λ c κs. next-row (start (c .before) .pre .1 .1) (place (c .before))) (λ c. omega (arith, next-row (start (c .before .before .before .before) .pre .1 .1) (place (c .before .before .before .before)))) (λ c. search needs) returns-2)

@@ -18,38 +18,10 @@ place c = token-taken (c .before .read .given .1) (c .before .before .before .co
 returns : tie.Need-returns
 returns c = lacks (c .enum-told .given .1) (c .before .before .consume .ensures) (omega arith) (λ n. Refuses.in-node (Refuses.missing n))
 
-add-get-or-intern : tie.Need-add-get-or-intern
-add-get-or-intern c =
-    let z = c .before .before in
-    let q = string-place (start z .pre) (place z) in
-    omega arith
-
-sub-get-or-intern : tie.Need-sub-get-or-intern
-sub-get-or-intern c =
-    let z = c .before .before .before in
-    let q = string-place (start z .pre) (place z) in
-    omega arith
-
-get-or-intern-requires : tie.Need-get-or-intern-requires
-get-or-intern-requires c κs =
-    let z = c .before .before .before in
-    string-symbol (start z .pre) (place z)
-
-string-requires : tie.Need-string-requires
-string-requires c κs =
-    let z = c .before .before .before .before .before .before .before in
-    next-row (start z .pre) (place z)
-
-add-past : tie.Need-add-past
-add-past c =
-    let z = c .before .before .before .before .before .before .before .before .before .before in
-    let f = next-row (start z .pre) (place z) in
-    omega arith
-
 returns-2 : tie.Need-returns-2
 returns-2 c =
     let z = c .before .before .before .before .before .before .before .before .before .before in
     string-read (start z .pre) (place z) (c .before .before .before .before .before .before .get-or-intern .ensures) (c .before .before .string .ensures)
 
 pub string-spec : {M : Type 1} → statement M
-string-spec = tie.close (tie.spec (λ c κs. search needs) (λ c. search needs) (λ c. search needs) returns add-get-or-intern sub-get-or-intern get-or-intern-requires string-requires add-past (λ c. search needs) (λ c. search needs) returns-2)
+string-spec = tie.close (tie.spec (λ c κs. search needs) (λ c. search needs) (λ c. search needs) returns (λ c. omega (arith, string-place (start (c .before .before) .pre) (place (c .before .before)))) (λ c. omega (arith, string-place (start (c .before .before .before) .pre) (place (c .before .before .before)))) (λ c κs. string-symbol (start (c .before .before .before) .pre) (place (c .before .before .before))) (λ c κs. next-row (start (c .before .before .before .before .before .before .before) .pre) (place (c .before .before .before .before .before .before .before))) (λ c. omega (arith, next-row (start (c .before .before .before .before .before .before .before .before .before .before) .pre) (place (c .before .before .before .before .before .before .before .before .before .before)))) (λ c. search needs) (λ c. search needs) returns-2)

@@ -7,8 +7,8 @@ use Rattle.grammar.specs.Kaori.{bindings, rules}
 use Rattle.grammar.specs.Kind.{Colon}
 use Rattle.grammar.specs.Refusal.{Refuses}
 use Rattle.grammar.specs.Token.{kind}
-use Rattle.parser.proofs.Laws.{sees, nothing, ready-next}
-use Rattle.parser.proofs.Listings.{listed-none, listed-chosen, listed-taken, lists, lists-mapped}
+use Rattle.parser.proofs.Laws.{sees, ready-next}
+use Rattle.parser.proofs.Listings.{listed-chosen, listed-taken, lists-nothing, lists-mapped}
 use Rattle.parser.proofs.Names.{plain, keyed, unkeyed}
 use Rattle.parser.proofs.lists.bindings.Statement.{statement}
 use Rattle.parser.proofs.lists.bindings.Tie as tie
@@ -18,9 +18,7 @@ colon c = rw (c .before .kind-at .ensures) at (c .if1 .left)
 
 returns : tie.Need-returns
 unfolding rules
-returns c =
-    let p = c .before .before .before .before .before .before .before .before .pre in
-    lists (listed-chosen (unkeyed _ _ bindings _ refl (plain Colon tt) (rw (c .before .kind-at .ensures) at (c .if1 .taken))) (listed-none (p .within) (nothing (p .deep))))
+returns c = lists-nothing (c .before .before .before .before .before .before .before .before .pre) (unkeyed _ _ bindings _ refl (plain Colon tt) (rw (c .before .kind-at .ensures) at (c .if1 .taken)))
 
 names-requires : tie.Need-names-requires
 names-requires c κs = (record { known = inr (inr refl) }, ready-next (c .before .before .before .before .before .before .before .before .before .before .before .before .pre) (colon (c .before .before .before .before)) (λ e. omega arith))

@@ -21,6 +21,7 @@ use Rattle.parser.specs.Answers.{node-of}
 use Rattle.parser.specs.State.{state, Rooms}
 use Rattle.parser.specs.declared.Cursor.{Cursor}
 use Rattle.parser.proofs.Entering.{grown-by, link-number, list-made}
+use Rattle.parser.proofs.Gathering.{gather-asks, gathered-free}
 use Rattle.parser.proofs.Laws.{Made, rooms-on, sees, taken, labelled, ready-next, ready-on}
 use Rattle.parser.proofs.Listings.{Held, listed-rooms, listed-from, held-since, listed-both, rows-both}
 use Rattle.parser.proofs.Replies.{Taken, token-taken, answer, lacks, passed-list, listed, after}
@@ -106,23 +107,13 @@ returns-3 c =
     passed-list (c .enum-told3 .given .1) (c .before .before .before .before .before .before .before .before .before .before .bindings .ensures) (λ x h. Refuses.in-node (Refuses.past-token (sees _ _ _ (t .kind-is) (λ e. omega arith)) (after (r .reading) h)))
 
 gather-requires : tie.Need-gather-requires
-gather-requires c κs =
-    let w = words (c .before .before .before .before .before) .within in
-    let z = sizes (c .before .before .before .before .before) in
-    (omega arith, omega (arith, w .links, w .at, w .roomy .scratch), omega (arith, w .links, w .at, w .roomy .links), omega arith)
+gather-requires c κs = let z = sizes (c .before .before .before .before .before) in gather-asks (entry (word (path (c .before .before .before .before .before))) .pre .lent) (words (c .before .before .before .before .before) .within) (omega arith)
 
 end-at-requires : tie.Need-end-at-requires
 end-at-requires c κs = rw (c .before .before .gather .ensures .cursor) (words (c .before .before .before .before .before .before .before .before) .within .at)
 
 import-requires : tie.Need-import-requires
-import-requires c κs =
-    let w = words (c .before .before .before .before .before .before .before .before .before .before) .within in
-    rw (c .before .before .before .before .gather .ensures .cursor) (record { room = omega (arith, w .rows, w .at, w .roomy .nodes); number = omega (arith, w .rows, w .at, entry (word (path (c .before .before .before .before .before .before .before .before .before .before))) .pre .lent .whole .most) })
-
-add-done : tie.Need-add-done
-add-done c =
-    let w = words (c .before .before .before .before .before .before .before .before .before .before .before .before .before) .within in
-    rw (c .before .before .before .before .before .before .before .gather .ensures .cursor) (omega (arith, w .rows, w .at, entry (word (path (c .before .before .before .before .before .before .before .before .before .before .before .before .before))) .pre .lent .whole .most))
+import-requires c κs = gathered-free (entry (word (path (c .before .before .before .before .before .before .before .before .before .before))) .pre .lent) (words (c .before .before .before .before .before .before .before .before .before .before) .within) (c .before .before .before .before .gather .ensures)
 
 returns-4 : tie.Need-returns-4
 unfolding paid spare
@@ -144,4 +135,4 @@ returns-4 c =
 pub import-spec : {M : Type 1} → statement M
 import-spec =
     tie.close
-    (tie.spec (λ c κs. search needs) (λ c. search needs) (λ c. search needs) returns path-requires (λ c. search needs) (λ c. search needs) (λ c. search needs) (λ c. search needs) (λ c. search needs) (λ c. search needs) returns-2 bindings-requires (λ c. search needs) (λ c. search needs) (λ c. search needs) (λ c. search needs) (λ c. search needs) (λ c. search needs) returns-3 (λ c. sizes (c .before) .rises) (λ c. sizes (c .before .before .before) .on) gather-requires end-at-requires (λ c. let z = sizes (c .before .before .before .before .before .before .before .before .before .before) in omega arith) (λ c. let z = sizes (c .before .before .before .before .before .before .before .before .before .before) in omega arith) (λ c. let z = sizes (c .before .before .before .before .before .before .before .before .before .before) in omega arith) (λ c. let z = sizes (c .before .before .before .before .before .before .before .before .before .before) in omega arith) (λ c. let z = sizes (c .before .before .before .before .before .before .before .before .before .before) in omega arith) import-requires add-done (λ c. c .before .before .import .kept .0 ∙ kept (c .before .before .before .before .before .before .before .before .before .before .before .before .before) .nodes) (λ c. c .before .before .before .before .before .before .before .gather .kept .0 ∙ kept (c .before .before .before .before .before .before .before .before .before .before .before .before .before) .links) (λ c. kept (c .before .before .before .before .before .before .before .before .before .before .before .before .before) .symbols) (λ c. kept (c .before .before .before .before .before .before .before .before .before .before .before .before .before) .scratch) returns-4)
+    (tie.spec (λ c κs. search needs) (λ c. search needs) (λ c. search needs) returns path-requires (λ c. search needs) (λ c. search needs) (λ c. search needs) (λ c. search needs) (λ c. search needs) (λ c. search needs) returns-2 bindings-requires (λ c. search needs) (λ c. search needs) (λ c. search needs) (λ c. search needs) (λ c. search needs) (λ c. search needs) returns-3 (λ c. sizes (c .before) .rises) (λ c. sizes (c .before .before .before) .on) gather-requires end-at-requires (λ c. let z = sizes (c .before .before .before .before .before .before .before .before .before .before) in omega arith) (λ c. let z = sizes (c .before .before .before .before .before .before .before .before .before .before) in omega arith) (λ c. let z = sizes (c .before .before .before .before .before .before .before .before .before .before) in omega arith) (λ c. let z = sizes (c .before .before .before .before .before .before .before .before .before .before) in omega arith) (λ c. let z = sizes (c .before .before .before .before .before .before .before .before .before .before) in omega arith) import-requires (λ c. omega (arith, gathered-free (entry (word (path (c .before .before .before .before .before .before .before .before .before .before .before .before .before))) .pre .lent) (words (c .before .before .before .before .before .before .before .before .before .before .before .before .before) .within) (c .before .before .before .before .before .before .before .gather .ensures) .number)) (λ c. c .before .before .import .kept .0 ∙ kept (c .before .before .before .before .before .before .before .before .before .before .before .before .before) .nodes) (λ c. c .before .before .before .before .before .before .before .gather .kept .0 ∙ kept (c .before .before .before .before .before .before .before .before .before .before .before .before .before) .links) (λ c. kept (c .before .before .before .before .before .before .before .before .before .before .before .before .before) .symbols) (λ c. kept (c .before .before .before .before .before .before .before .before .before .before .before .before .before) .scratch) returns-4)

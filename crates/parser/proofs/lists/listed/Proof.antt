@@ -13,13 +13,10 @@ part c = success (c .before .read .given .1) (c .before .before .before .before 
 returns : tie.Need-returns
 returns c = passed (c .enum-told .given .1) (c .before .before .before .before .before .before .before .before .before .before .name .ensures) (λ x h. Refuses.in-first h)
 
-comma-requires : tie.Need-comma-requires
-comma-requires c κs = part c .within .at
-
 returns-2 : tie.Need-returns-2
 returns-2 c = let p = c .before .before .before .before .before .before .before .before .before .before .before .before .before .before .before .before .before .before .before .before .before .before .before .pre in separated _ (p .1) (plain-closer (p .0)) (part (c .before)) (c .comma .ensures)
 
 pub listed-spec : {M : Type 1} → statement M
 listed-spec =
     tie.close
-    (tie.spec (λ c κs. search needs) (λ c. search needs) (λ c. search needs) (λ c. search needs) (λ c. search needs) (λ c. search needs) (λ c. search needs) returns comma-requires (λ c. search needs) (λ c. search needs) (λ c. search needs) (λ c. search needs) returns-2)
+    (tie.spec (λ c κs. search needs) (λ c. search needs) (λ c. search needs) (λ c. search needs) (λ c. search needs) (λ c. search needs) (λ c. search needs) returns (λ c κs. part c .within .at) (λ c. search needs) (λ c. search needs) (λ c. search needs) (λ c. search needs) returns-2)

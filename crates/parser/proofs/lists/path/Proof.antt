@@ -2,7 +2,7 @@
 use Prim.Native.Nat.{_-_}
 use borrow.Author.Needs.{needs}
 use native.Mathlib.Omega.{arith}
-use mathlib.Core.Path.{_≡_, refl, _∙_}
+use mathlib.Core.Path.{_≡_, refl}
 use Rattle.grammar.specs.Float.{seen}
 use Rattle.grammar.specs.Kaori.{path-name, dots, rules, kaori}
 use Rattle.grammar.specs.Kind.{Dot}
@@ -49,12 +49,6 @@ kept c = rooms-on (listed-rooms (started (c .before))) (c .path .inv .rooms)
 returns : tie.Need-returns Inv-path μ-path
 returns c = lists-passed-list (c .enum-told .given .1) (c .before .before .before .before .before .before .before .before .before .before .step .ensures) (λ x h. Refuses.in-start h)
 
-path-holds : tie.Need-path-holds Inv-path μ-path
-path-holds c = longer-none (started c .within)
-
-add-next : tie.Need-add-next Inv-path μ-path
-add-next c = omega (arith, c .before .before .path .inv .within .at, start (c .before .before) .pre .lent .whole .most)
-
 step-requires-2 : tie.Need-step-requires-2 Inv-path μ-path
 step-requires-2 c κs = ready-next (ready-on (start (c .before .before .before .before .before .before) .pre) (c .before .before .before .before .before .before .path .inv .within)) (dot (c .before .before .before .before)) (λ e. omega arith)
 
@@ -78,4 +72,4 @@ returns-3 c =
 pub path-spec : {M : Type 1} → statement M
 path-spec =
     tie.close
-    (tie.spec Inv-path μ-path (λ c κs. search needs) (λ c. search needs) (λ c. search needs) (λ c. search needs) (λ c. search needs) (λ c. search needs) (λ c. search needs) returns path-holds (λ c κs. search needs) add-next step-requires-2 (λ c. search needs) (λ c. search needs) (λ c. c .before .before .before .before .before .before .before .before .before .before .step2 .kept .1 .1 .0 ∙ kept (c .before .before .before .before .before .before .before .before .before .before .before .before .before .before .before .before .before) .nodes) (λ c. c .before .before .before .before .before .before .before .before .before .before .step2 .kept .1 .1 .1 .0 ∙ kept (c .before .before .before .before .before .before .before .before .before .before .before .before .before .before .before .before .before) .links) (λ c. c .before .before .before .before .before .before .before .before .before .before .step2 .kept .1 .1 .1 .1 .0 ∙ kept (c .before .before .before .before .before .before .before .before .before .before .before .before .before .before .before .before .before) .symbols) (λ c. c .before .before .before .before .before .before .before .before .before .before .step2 .kept .1 .1 .1 .1 .1 .0 ∙ kept (c .before .before .before .before .before .before .before .before .before .before .before .before .before .before .before .before .before) .scratch) returns-2 path-less path-again (λ c. kept (c .before .before) .nodes) (λ c. kept (c .before .before) .links) (λ c. kept (c .before .before) .symbols) (λ c. kept (c .before .before) .scratch) returns-3)
+    (tie.spec Inv-path μ-path (λ c κs. search needs) (λ c. search needs) (λ c. search needs) (λ c. search needs) (λ c. search needs) (λ c. search needs) (λ c. search needs) returns (λ c. longer-none (started c .within)) (λ c κs. search needs) (λ c. omega (arith, c .before .before .path .inv .within .at, start (c .before .before) .pre .lent .whole .most)) step-requires-2 (λ c. search needs) (λ c. search needs) (λ c. omega (arith, c .before .before .before .before .before .before .before .before .before .before .step2 .kept, kept (c .before .before .before .before .before .before .before .before .before .before .before .before .before .before .before .before .before))) (λ c. omega (arith, c .before .before .before .before .before .before .before .before .before .before .step2 .kept, kept (c .before .before .before .before .before .before .before .before .before .before .before .before .before .before .before .before .before))) (λ c. omega (arith, c .before .before .before .before .before .before .before .before .before .before .step2 .kept, kept (c .before .before .before .before .before .before .before .before .before .before .before .before .before .before .before .before .before))) (λ c. omega (arith, c .before .before .before .before .before .before .before .before .before .before .step2 .kept, kept (c .before .before .before .before .before .before .before .before .before .before .before .before .before .before .before .before .before))) returns-2 path-less path-again (λ c. kept (c .before .before) .nodes) (λ c. kept (c .before .before) .links) (λ c. kept (c .before .before) .symbols) (λ c. kept (c .before .before) .scratch) returns-3)

@@ -6,8 +6,7 @@ use Rattle.grammar.specs.Kaori.{path-name, rules}
 use Rattle.grammar.specs.Kind.{Eof}
 use Rattle.grammar.specs.Refusal.{Refuses}
 use Rattle.grammar.proofs.Room.{paid, spare}
-use Rattle.parser.proofs.Laws.{nothing}
-use Rattle.parser.proofs.Listings.{listed-none, listed-one, listed-chosen, lists, lists-passed}
+use Rattle.parser.proofs.Listings.{listed-one, lists-nothing, listed-chosen, lists, lists-passed, hold-room, hold-number}
 use Rattle.parser.proofs.Names.{plain, keyed, unkeyed}
 use Rattle.parser.proofs.Replies.{Told, success}
 use Rattle.parser.proofs.lists.step.Statement.{statement}
@@ -19,19 +18,11 @@ item c = success (c .before .read .given .1) (c .before .before .before .before 
 
 returns : tie.Need-returns
 unfolding rules
-returns c =
-    let p = c .before .before .before .before .before .before .before .before .pre in
-    lists (listed-chosen (keyed _ _ path-name _ refl (plain Eof tt) (rw (c .before .kind-at .ensures) at (c .if1 .taken))) (listed-none (p .within) (nothing (p .deep))))
+returns c = lists-nothing (c .before .before .before .before .before .before .before .before .pre) (keyed _ _ path-name _ refl (plain Eof tt) (rw (c .before .kind-at .ensures) at (c .if1 .taken)))
 
 returns-2 : tie.Need-returns-2
 unfolding rules
 returns-2 c = lists-passed (c .enum-told .given .1) (c .before .before .before .before .before .before .before .before .before .before .name .ensures) (λ x h. Refuses.in-choice (unkeyed _ _ path-name _ refl (plain Eof tt) (rw (c .before .before .before .before .before .before .before .before .before .before .before .before .before .before .before .before .kind-at .ensures) at (c .before .before .before .before .before .before .before .before .before .before .before .before .before .before .before .if1 .left))) h)
-
-push-requires : tie.Need-push-requires
-push-requires c κs = let z = item (c .before) in omega (arith, z .within .links, z .within .at, z .within .roomy .scratch)
-
-add-past : tie.Need-add-past
-add-past c = let z = item (c .before .before .before .before) in omega (arith, z .within .links, z .within .at, c .before .before .before .before .before .before .before .before .before .before .before .before .before .before .before .before .before .before .before .before .before .before .before .before .before .before .before .before .pre .lent .whole .most)
 
 returns-3 : tie.Need-returns-3
 unfolding rules paid spare
@@ -40,4 +31,4 @@ returns-3 c = lists (listed-chosen (unkeyed _ _ path-name _ refl (plain Eof tt) 
 pub step-spec : {M : Type 1} → statement M
 step-spec =
     tie.close
-    (tie.spec (λ c κs. search needs) returns (λ c κs. search needs) (λ c. search needs) (λ c. search needs) (λ c. search needs) (λ c. search needs) (λ c. search needs) (λ c. search needs) returns-2 push-requires add-past (λ c. search needs) (λ c. search needs) (λ c. search needs) (λ c. search needs) returns-3)
+    (tie.spec (λ c κs. search needs) returns (λ c κs. search needs) (λ c. search needs) (λ c. search needs) (λ c. search needs) (λ c. search needs) (λ c. search needs) (λ c. search needs) returns-2 (λ c κs. hold-room (item (c .before) .within)) (λ c. omega (arith, hold-number (item (c .before .before .before .before) .within) (c .before .before .before .before .before .before .before .before .before .before .before .before .before .before .before .before .before .before .before .before .before .before .before .before .before .before .before .before .pre .lent))) (λ c. search needs) (λ c. search needs) (λ c. search needs) (λ c. search needs) returns-3)

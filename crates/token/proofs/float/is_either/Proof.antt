@@ -2,7 +2,7 @@
 use mathlib.Core.Path.{sym}
 use borrow.Author.Needs.{needs}
 use borrow.Author.Tests.{eq-eqb, ne-eqb}
-use Rattle.token.proofs.Matching.{or-first, or-second}
+use Rattle.grammar.proofs.Tests.{or-first, or-second}
 use Rattle.token.proofs.float.is_either.Statement.{statement}
 use Rattle.token.proofs.float.is_either.Tie as tie
 

@@ -5,8 +5,8 @@ use native.Mathlib.Omega.{arith}
 use borrow.Author.Needs.{needs}
 use Rattle.grammar.specs.Float.{float}
 use Rattle.grammar.specs.Pattern.{bytes, among}
+use Rattle.grammar.proofs.Lexemes.{at-first, at-end}
 use Rattle.token.specs.Parts.{unsigned}
-use Rattle.token.proofs.Matching.{at-first, at-end}
 use Rattle.token.proofs.Floats.{float-none, float-sign, float-unsigned}
 use Rattle.token.proofs.Ranges.{of-two, not-among}
 use Rattle.token.proofs.float.is_float.Statement.{statement}

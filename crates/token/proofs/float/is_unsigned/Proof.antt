@@ -4,8 +4,8 @@ use native.Mathlib.Omega.{arith}
 use borrow.Author.Needs.{needs}
 use Rattle.grammar.specs.Pattern.{bytes}
 use Rattle.grammar.specs.Token.{lexeme}
+use Rattle.grammar.proofs.Tests.{or-first, or-second}
 use Rattle.token.proofs.Floats.{unsigned-cases, small}
-use Rattle.token.proofs.Matching.{or-first, or-second}
 use Rattle.token.proofs.float.is_unsigned.Statement.{statement}
 use Rattle.token.proofs.float.is_unsigned.Tie as tie
 

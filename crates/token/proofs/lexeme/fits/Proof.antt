@@ -6,15 +6,16 @@ use native.Mathlib.Omega.{arith}
 use borrow.Author.Needs.{needs}
 use Rattle.grammar.specs.Lexeme.{spelling, number, string, identifier}
 use Rattle.grammar.specs.Token.{lexeme}
-use Rattle.token.proofs.Deciding.{holds, fails, held, failed, matching}
+use Rattle.token.proofs.Deciding.{holds, fails, matching}
 use Rattle.token.proofs.Fitting.{literal-decided, spelled-pattern, fits-by-pattern, fits-as-name, keyword-unfit, fits-at-end}
+use Rattle.token.proofs.Keywords.{word-keyword, word-name}
 use Rattle.token.proofs.lexeme.fits.Statement.{statement}
 use Rattle.token.proofs.lexeme.fits.Tie as tie
 
 returns : tie.Need-returns
 returns c =
     let a = c .before .before .before .before .args in
-    fails (keyword-unfit (a .kind) (lexeme (a .text .now) (a .start) (a .end)) (c .before .before .match .keys3) (held (rw (c .if1 .taken) at (c .before .is-keyword .ensures))))
+    fails (keyword-unfit (a .kind) (lexeme (a .text .now) (a .start) (a .end)) (c .before .before .match .keys3) (word-keyword (c .before .keyword .ensures) (c .if1 .taken)))
 
 returns-2 : tie.Need-returns-2
 returns-2 c =
@@ -29,7 +30,7 @@ returns-3 c =
 returns-4 : tie.Need-returns-4
 returns-4 c =
     let a = c .before .before .before .before .before .args in
-    fits-as-name (a .kind) (lexeme (a .text .now) (a .start) (a .end)) (c .before .before .before .match .keys3) (failed (rw (c .before .if1 .left) at (c .before .before .is-keyword .ensures))) (rw (c .before .before .before .match .keys3, c .is-identifier .ensures) (matching identifier (lexeme (a .text .now) (a .start) (a .end))))
+    fits-as-name (a .kind) (lexeme (a .text .now) (a .start) (a .end)) (c .before .before .before .match .keys3) (word-name (c .before .before .keyword .ensures) (c .before .if1 .left)) (rw (c .before .before .before .match .keys3, c .is-identifier .ensures) (matching identifier (lexeme (a .text .now) (a .start) (a .end))))
 
 returns-5 : tie.Need-returns-5
 returns-5 c =

@@ -8,8 +8,8 @@ use borrow.Author.Needs.{needs}
 use borrow.Author.Tests.{eq-eqb}
 use Rattle.grammar.specs.Lexeme.{spelling}
 use Rattle.grammar.specs.Token.{lexeme}
+use Rattle.grammar.proofs.Lexemes.{lexeme-length}
 use Rattle.token.proofs.Deciding.{tested, fails, carried}
-use Rattle.token.proofs.Lexemes.{lexeme-length}
 use Rattle.token.proofs.Spellings.{table, offsets, lengths, offset, entry, spelling-length, no-spelling}
 use Rattle.token.proofs.spelling.spelled.Statement.{statement}
 use Rattle.token.proofs.spelling.spelled.Tie as tie

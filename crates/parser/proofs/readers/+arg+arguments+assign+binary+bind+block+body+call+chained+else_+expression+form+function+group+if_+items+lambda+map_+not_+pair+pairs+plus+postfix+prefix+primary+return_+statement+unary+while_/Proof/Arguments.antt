@@ -1,0 +1,56 @@
+-- The arguments of a call, up to what ends them: the loop keeps a listing, and each turn holds one argument more.
+use Prim.Native.Nat.{ℕ, _-_}
+use borrow.Author.Needs.{needs}
+use native.Mathlib.Omega.{arith}
+use mathlib.Core.Path.{refl}
+use Rattle.grammar.specs.Kaori.{expression, comma, rules, arguments as table}
+use Rattle.grammar.specs.Kind.{RightParen}
+use Rattle.grammar.specs.Phrase.{part, choice}
+use Rattle.grammar.specs.Token.{count}
+use Rattle.parser.specs.State.{state}
+use Rattle.parser.proofs.Listings.{Listing, listing-none, listing-more, listing-end, lists, Item-of, item-refused, item-less, hold-room, hold-number}
+use Rattle.parser.proofs.Names.{plain, items-end, items-on}
+use Rattle.parser.proofs.Replies.{Told, success}
+use Rattle.parser.proofs.readers.+arg+arguments+assign+binary+bind+block+body+call+chained+else_+expression+form+function+group+if_+items+lambda+map_+not_+pair+pairs+plus+postfix+prefix+primary+return_+statement+unary+while_ as cycle
+use Rattle.parser.proofs.readers as readers
+use cycle.Lts-arguments as lts
+use cycle.Proof.Measures.{just, below, arg-at, args-at}
+use readers.arg.Reads as arg
+use readers.arguments.Reads as args
+use Rattle.token.proofs.list.kind_at.Reads as kind-at-reads
+use Rattle.ast.proofs.room.push.Reads as push-reads
+
+abbrev Inv-list : lts.InvT-list
+Inv-list text tokens nodes₀ links₀ symbols₀ scratch₀ limit depth now₀ nodes links symbols scratch now = Listing text tokens limit table depth (state nodes₀ links₀ symbols₀ scratch₀ now₀) (state nodes links symbols scratch now)
+
+abbrev μ-list : lts.MeasureT-list
+μ-list text tokens nodes₀ links₀ symbols₀ scratch₀ limit depth now₀ nodes links symbols scratch now = count tokens - now .at
+
+module _ (t : ℕ) where
+  abbrev claims : lts.Claims
+  claims = (kind-at-reads.Asked, kind-at-reads.Learnt, arg-at (below t), arg.Post, push-reads.Asked, push-reads.Learnt)
+
+  -- where the list goes on: what its table has there
+  on : (c : lts.At-match-rest claims (args-at (just t)) args.Post Inv-list μ-list) → Item-of (c .before .before .list .inv) (part expression (choice (comma RightParen)))
+  unfolding rules
+  on c = items-on _ _ table _ refl (plain RightParen tt) (rw (c .before .kind-at .ensures) at (c .match .rest .1))
+
+  -- where an item is read: what that says
+  item : (c : lts.After-known-told claims (args-at (just t)) args.Post Inv-list μ-list) → Told (c .before .before .before .before .before .before .before .before .before .before .before .arg .ensures) (c .before .read .given .0 .0) (c .before .read .given .0 .1 .0)
+  item c = success (c .before .read .given .1) (c .before .before .before .before .before .before .before .before .before .before .before .arg .ensures)
+
+  returns : lts.Need-returns claims (args-at (just t)) args.Post Inv-list μ-list
+  returns c = item-refused (c .before .before .before .before .before .before .before .before .before .before .before .before .before .before .before .before .before .list .inv) (on (c .before .before .before .before .before .before .before .before .before .before .before .before .before .before .before)) (c .enum-told .given .1) (c .before .before .before .before .before .before .before .before .before .before .arg .ensures)
+
+  list-less : lts.Need-list-less claims (args-at (just t)) args.Post Inv-list μ-list
+  list-less c = item-less (c .before .before .before .before .before .before .before .before .before .before .before .before .before .before .before .before .before .before .before .before .before .before .list .inv) (on (c .before .before .before .before .before .before .before .before .before .before .before .before .before .before .before .before .before .before .before .before)) (item (c .before .before .before .before))
+
+  list-again : lts.Need-list-again claims (args-at (just t)) args.Post Inv-list μ-list
+  list-again c = listing-more (c .before .before .before .before .before .before .before .before .before .before .before .before .before .before .before .before .before .before .before .before .before .before .list .inv) (on (c .before .before .before .before .before .before .before .before .before .before .before .before .before .before .before .before .before .before .before .before)) (item (c .before .before .before .before)) (c .before .before .push .ensures) refl
+
+  returns-2 : lts.Need-returns-2 claims (args-at (just t)) args.Post Inv-list μ-list
+  unfolding rules
+  returns-2 c = lists (listing-end (c .before .before .list .inv) (items-end _ _ table _ refl (plain RightParen tt) (rw (c .before .kind-at .ensures) at (c .match .keys1))))
+
+  pub spec : {M : Type 1} → lts.Closed claims (args-at (just t)) args.Post M
+  spec = lts.spec claims (args-at (just t)) args.Post Inv-list μ-list (λ c. let p = c .before .before .before .before .before .before .pre .1 in listing-none (p .deep) (p .within)) (λ c κs. search needs) (λ c κs. search needs) (λ c. search needs) (λ c. search needs) (λ c. search needs) (λ c. search needs) (λ c. search needs) (λ c. search needs) returns (λ c κs. hold-room (item (c .before) .within)) (λ c. omega (arith, hold-number (item (c .before .before .before .before) .within) (c .before .before .before .before .before .before .before .before .before .before .before .before .before .before .before .before .before .before .before .before .before .before .before .before .before .before .before .before .before .pre .1 .lent))) list-less list-again (λ c. search needs) (λ c. search needs) (λ c. search needs) (λ c. search needs) returns-2

@@ -1,0 +1,69 @@
+-- An expression, and if a `=` comes, another: an Assign of the two.
+use Prim.Native.Nat.{ℕ}
+use borrow.Author.Needs.{needs}
+use native.Mathlib.Omega.{arith}
+use mathlib.Core.Path.{refl, sym, ap, _∙_}
+use Rattle.grammar.specs.Kaori.{above, kaori, rules, assigned}
+use Rattle.grammar.specs.Kind.{Assign}
+use Rattle.grammar.specs.Refusal.{Refuses}
+use Rattle.grammar.specs.Rows.{make, put, fill, numbers, write}
+use Rattle.grammar.specs.Rule.{rule}
+use Rattle.grammar.proofs.Room.{paid, spare}
+use Rattle.parser.proofs.Entering.{row-made}
+use Rattle.parser.proofs.Laws.{sees, alone, joined, taken, ready-next, ready-on}
+use Rattle.parser.proofs.Names.{plain, unkeyed}
+use Rattle.parser.proofs.Replies.{Told, success, passed, answer, after-once}
+use Rattle.parser.proofs.Taking.{free}
+use Rattle.parser.proofs.readers.+arg+arguments+assign+binary+bind+block+body+call+chained+else_+expression+form+function+group+if_+items+lambda+map_+not_+pair+pairs+plus+postfix+prefix+primary+return_+statement+unary+while_ as cycle
+use Rattle.parser.proofs.readers as readers
+use cycle.Lts-assign as lts
+use cycle.Proof.Measures.{just, below, assign-at, expression-at}
+use readers.assign.Reads as assign
+use readers.expression.Reads as expression
+use Rattle.ast.proofs.assign.Reads as assign-reads
+use Rattle.token.proofs.list.kind_at.Reads as kind-at-reads
+
+module _ (t : ℕ) where
+  abbrev claims : lts.Claims
+  claims = (expression-at (below t), expression.Post, kind-at-reads.Asked, kind-at-reads.Learnt, assign-reads.Asked, assign-reads.Learnt)
+
+  -- what the success of the left side and of the right side says, and where the reader began
+  left : (c : lts.After-known-told claims (assign-at (just t)) assign.Post) → Told (c .before .before .before .before .before .before .before .before .before .before .before .expression .ensures) (c .before .read .given .0 .0) (c .before .read .given .0 .1 .0)
+  left c = success (c .before .read .given .1) (c .before .before .before .before .before .before .before .before .before .before .before .expression .ensures)
+
+  right : (c : lts.After-known-told2 claims (assign-at (just t)) assign.Post) → Told (c .before .before .before .before .before .before .before .before .before .before .before .expression2 .ensures) (c .before .turn .given .0 .0) (c .before .turn .given .0 .1 .0)
+  right c = success (c .before .turn .given .1) (c .before .before .before .before .before .before .before .before .before .before .before .expression2 .ensures)
+
+  abbrev start : lts.After-known-told2 claims (assign-at (just t)) assign.Post → lts.Start claims (assign-at (just t)) assign.Post
+  start c = c .before .before .before .before .before .before .before .before .before .before .before .before .before .before .before .before .before .before .before .before .before .before .before .before .before .before .before .before .before .before .before .before .before .before .before .before .before .before .before .before
+
+  returns : lts.Need-returns claims (assign-at (just t)) assign.Post
+  returns c = passed (c .enum-told .given .1) (c .before .before .before .before .before .before .before .before .before .before .expression .ensures) (λ x h. Refuses.in-only h)
+
+  returns-2 : lts.Need-returns-2 claims (assign-at (just t)) assign.Post
+  unfolding paid spare above rules
+  returns-2 c =
+      let z = left (c .before .before) in
+      answer (c .before .before .before .before .before .before .before .before .before .before .before .before .before .before .before .before .before .before .before .before .before .before .before .before .pre .1) (record { pays = tt }) (z .within .at) (z .within .table) (alone (unkeyed _ _ assigned _ refl (plain Assign tt) (rw (c .before .kind-at .ensures) at (c .if1 .taken))) (z .reading))
+
+  expression-requires-2 : lts.Need-expression-requires-2 claims (assign-at (just t)) assign.Post
+  expression-requires-2 c κs =
+      let z = left (c .before .before .before .before .before .before) in
+      (omega (arith, z .past, z .within .at, c .before .before .before .before .before .before .before .before .before .before .before .before .before .before .before .before .before .before .before .before .before .before .before .before .before .before .before .before .pre .0), ready-next (ready-on (c .before .before .before .before .before .before .before .before .before .before .before .before .before .before .before .before .before .before .before .before .before .before .before .before .before .before .before .before .pre .1) (z .within)) (sym (c .before .before .before .before .before .kind-at .ensures) ∙ c .before .before .before .before .if1 .left) (λ e. omega arith))
+
+  returns-3 : lts.Need-returns-3 claims (assign-at (just t)) assign.Post
+  unfolding kaori rules
+  returns-3 c =
+      let k = sees _ _ _ (sym (c .before .before .before .before .before .before .before .before .before .before .before .before .before .before .before .before .kind-at .ensures) ∙ c .before .before .before .before .before .before .before .before .before .before .before .before .before .before .before .if1 .left) (λ e. omega arith) in
+      passed (c .enum-told2 .given .1) (c .before .before .before .before .before .before .before .before .before .before .expression2 .ensures) (λ x h. after-once (left (c .before .before .before .before .before .before .before .before .before .before .before .before .before .before .before .before .before) .reading) (ap (kaori assigned) k) (Refuses.past-token k h))
+
+  returns-4 : lts.Need-returns-4 claims (assign-at (just t)) assign.Post
+  unfolding kaori rules paid spare above make put fill numbers write rule
+  returns-4 c =
+      let k = sees _ _ _ (sym (c .before .before .before .before .before .before .before .before .before .before .before .before .before .before .before .before .before .before .before .before .before .kind-at .ensures) ∙ c .before .before .before .before .before .before .before .before .before .before .before .before .before .before .before .before .before .before .before .before .if1 .left) (λ e. omega arith) in
+      let z = right (c .before .before .before .before) in
+      let w = z .within in
+      answer (start (c .before .before .before .before) .pre .1) (record { pays = tt }) (w .at) (w .table) (joined (left (c .before .before .before .before .before .before .before .before .before .before .before .before .before .before .before .before .before .before .before .before .before .before) .reading) (ap (kaori assigned) k) (taken k (z .reading)) (row-made (c .before .before .assign .ensures) (omega (arith, w .rows, w .at, w .roomy .nodes)) refl))
+
+  pub spec : {M : Type 1} → lts.Closed claims (assign-at (just t)) assign.Post M
+  spec = lts.spec claims (assign-at (just t)) assign.Post (λ c κs. search needs) (λ c. search needs) (λ c. search needs) (λ c. search needs) (λ c. search needs) (λ c. search needs) (λ c. search needs) returns (λ c κs. left c .within .at) (λ c. search needs) (λ c. search needs) (λ c. search needs) (λ c. search needs) returns-2 (λ c. let w = left (c .before .before) .within in omega (arith, w .at, c .before .before .before .before .before .before .before .before .before .before .before .before .before .before .before .before .before .before .before .before .before .before .before .before .pre .1 .lent .whole .most)) expression-requires-2 (λ c. search needs) (λ c. search needs) (λ c. search needs) (λ c. search needs) (λ c. search needs) (λ c. search needs) returns-3 (λ c κs. free (start (c .before) .pre .1 .lent) (right (c .before) .within)) (λ c. omega (arith, free (start (c .before .before .before .before) .pre .1 .lent) (right (c .before .before .before .before) .within) .number)) (λ c. omega (arith, left (c .before .before .before .before .before .before .before .before .before .before .before .before .before .before .before .before .before .before .before .before .before .before) .reading .rooms, right (c .before .before .before .before) .reading .rooms)) (λ c. omega (arith, left (c .before .before .before .before .before .before .before .before .before .before .before .before .before .before .before .before .before .before .before .before .before .before) .reading .rooms, right (c .before .before .before .before) .reading .rooms)) (λ c. omega (arith, left (c .before .before .before .before .before .before .before .before .before .before .before .before .before .before .before .before .before .before .before .before .before .before) .reading .rooms, right (c .before .before .before .before) .reading .rooms)) (λ c. omega (arith, left (c .before .before .before .before .before .before .before .before .before .before .before .before .before .before .before .before .before .before .before .before .before .before) .reading .rooms, right (c .before .before .before .before) .reading .rooms)) returns-4

@@ -1,0 +1,87 @@
+-- The levels of binary operators: an operand, and each operator that binds tighter, with its right operand.
+use Prim.Native.Nat.{ℕ, _-_}
+use borrow.Author.Needs.{needs}
+use native.Mathlib.Omega.{arith}
+use mathlib.Core.Path.{sym}
+use Rattle.grammar.specs.Refusal.{Refuses}
+use Rattle.grammar.specs.Token.{count}
+use Rattle.parser.specs.State.{state}
+use Rattle.parser.proofs.Chains.{going-link}
+use Rattle.parser.proofs.Laws.{ready-next, ready-on, taken}
+use Rattle.parser.proofs.Levels.{Climbing, climbing-none, climbing-on, settled, refused-link, refused-operand}
+use Rattle.parser.proofs.Picks.{level-is, level-most, operator-seen, operator-goes, operator-form, operator-made}
+use Rattle.parser.proofs.Replies.{Told, success, passed, answered, further}
+use Rattle.parser.proofs.Taking.{free}
+use Rattle.parser.proofs.readers.+arg+arguments+assign+binary+bind+block+body+call+chained+else_+expression+form+function+group+if_+items+lambda+map_+not_+pair+pairs+plus+postfix+prefix+primary+return_+statement+unary+while_ as cycle
+use Rattle.parser.proofs.readers as readers
+use cycle.Lts-binary as lts
+use cycle.Proof.Measures.{just, below, binary-at, prefix-at}
+use readers.binary.Reads as binary
+use readers.prefix.Reads as prefix
+use Rattle.parser.proofs.pieces.joined.Reads as joined-reads
+use Rattle.token.proofs.list.kind_at.Reads as kind-at-reads
+use Rattle.token.proofs.ops.level_of.Reads as level-of-reads
+
+abbrev Inv-loop : lts.InvT-loop
+Inv-loop text tokens nodes₀ links₀ symbols₀ scratch₀ limit depth level node₀ now₀ nodes links symbols scratch node now = Climbing text tokens limit level depth (state nodes₀ links₀ symbols₀ scratch₀ now₀) node₀ (state nodes links symbols scratch now) node
+
+abbrev μ-loop : lts.MeasureT-loop
+μ-loop text tokens nodes₀ links₀ symbols₀ scratch₀ limit depth level node₀ now₀ nodes links symbols scratch node now = count tokens - now .at
+
+module _ (t : ℕ) where
+  abbrev claims : lts.Claims
+  claims = (prefix-at (below t), prefix.Post, kind-at-reads.Asked, kind-at-reads.Learnt, level-of-reads.Asked, level-of-reads.Learnt, binary-at (below t), binary.Post, joined-reads.Asked, joined-reads.Learnt)
+
+  -- where prefix has answered a node, and where binary has: what that says, and where the reader began
+  lead : (c : lts.After-known-told claims (binary-at (just t)) binary.Post Inv-loop μ-loop) → Told (c .before .before .before .before .before .before .before .before .before .before .before .prefix .ensures) (c .before .read .given .0 .0) (c .before .read .given .0 .1 .0)
+  lead c = success (c .before .read .given .1) (c .before .before .before .before .before .before .before .before .before .before .before .prefix .ensures)
+
+  part : (c : lts.After-known-told2 claims (binary-at (just t)) binary.Post Inv-loop μ-loop) → Told (c .before .before .before .before .before .before .before .before .before .before .before .binary .ensures) (c .before .turn .given .0 .0) (c .before .turn .given .0 .1 .0)
+  part c = success (c .before .turn .given .1) (c .before .before .before .before .before .before .before .before .before .before .before .binary .ensures)
+
+  abbrev start : lts.After-known-told claims (binary-at (just t)) binary.Post Inv-loop μ-loop → lts.Start claims (binary-at (just t)) binary.Post Inv-loop μ-loop
+  start c = c .before .before .before .before .before .before .before .before .before .before .before .before .before .before .before .before .before .before .before .before .before .before
+
+  returns : lts.Need-returns claims (binary-at (just t)) binary.Post Inv-loop μ-loop
+  returns c = passed (c .enum-told .given .1) (c .before .before .before .before .before .before .before .before .before .before .prefix .ensures) (λ x h. refused-operand _ h)
+
+  binary-requires : lts.Need-binary-requires claims (binary-at (just t)) binary.Post Inv-loop μ-loop
+  binary-requires c κs =
+      let z = lead (c .before .before .before .before .before .before .before .before) in
+      let p = start (c .before .before .before .before .before .before .before .before) .pre in
+      let i = c .before .before .before .before .before .before .before .loop .inv in
+      let l = c .before .before .before .before .if1 .left in
+      (omega (arith, p .0, z .past, i .past, i .within .at), (omega (arith, p .1 .0, l), ready-next (ready-on (p .1 .1) (i .within)) (sym (c .before .before .before .before .before .before .kind-at .ensures)) (operator-goes (c .before .before .before .before .before .level-of .ensures) (omega (arith, p .1 .0, l)))))
+
+  returns-2 : lts.Need-returns-2 claims (binary-at (just t)) binary.Post Inv-loop μ-loop
+  returns-2 c =
+      let p = start (c .before .before .before .before .before .before .before .before .before .before .before .before .before .before .before .before .before .before .before) .pre in
+      let i = c .before .before .before .before .before .before .before .before .before .before .before .before .before .before .before .before .before .before .loop .inv in
+      let k = c .before .before .before .before .before .before .before .before .before .before .before .before .before .before .before .before .before .kind-at .ensures in
+      let e = c .before .before .before .before .before .before .before .before .before .before .before .before .before .before .before .before .level-of .ensures in
+      let l = c .before .before .before .before .before .before .before .before .before .before .before .before .before .before .before .if1 .left in
+      passed (c .enum-told2 .given .1) (c .before .before .before .before .before .before .before .before .before .before .binary .ensures) (λ x h. refused-link l (further (i .grown _ (lead (c .before .before .before .before .before .before .before .before .before .before .before .before .before .before .before .before .before .before .before) .reading) .link _ l (level-is _ _ _ k e)) (operator-form _ _ _ k e (omega (arith, p .1 .0, l))) (Refuses.past-token (operator-seen _ _ _ k e (omega (arith, p .1 .0, l))) h)))
+
+  loop-less : lts.Need-loop-less claims (binary-at (just t)) binary.Post Inv-loop μ-loop
+  loop-less c =
+      let z = part (c .before .before .before .before) in
+      omega (arith, z .past, c .before .before .before .before .before .before .before .before .before .before .before .before .before .before .before .before .before .before .before .before .before .before .before .loop .inv .within .at)
+
+  loop-again : lts.Need-loop-again claims (binary-at (just t)) binary.Post Inv-loop μ-loop
+  loop-again c =
+      let z = part (c .before .before .before .before) in
+      let p = start (c .before .before .before .before .before .before .before .before .before .before .before .before .before .before .before .before .before .before .before .before .before .before .before .before) .pre in
+      let i = c .before .before .before .before .before .before .before .before .before .before .before .before .before .before .before .before .before .before .before .before .before .before .before .loop .inv in
+      let k = c .before .before .before .before .before .before .before .before .before .before .before .before .before .before .before .before .before .before .before .before .before .before .kind-at .ensures in
+      let e = c .before .before .before .before .before .before .before .before .before .before .before .before .before .before .before .before .before .before .before .before .before .level-of .ensures in
+      let l = c .before .before .before .before .before .before .before .before .before .before .before .before .before .before .before .before .before .before .before .before .if1 .left in
+      climbing-on i (level-is _ _ _ k e) l (settled _ (omega (arith, p .1 .0, l)) (z .reading .reads)) (going-link (i .within) (operator-form _ _ _ k e (omega (arith, p .1 .0, l))) (taken (operator-seen _ _ _ k e (omega (arith, p .1 .0, l))) (z .reading)) (operator-made k (c .before .before .joined .ensures) (omega (arith, z .within .rows, z .within .at, z .within .roomy .nodes))) (z .within .at) (z .within .table))
+
+  returns-3 : lts.Need-returns-3 claims (binary-at (just t)) binary.Post Inv-loop μ-loop
+  returns-3 c =
+      let z = lead (c .before .before .before .before) in
+      let i = c .before .before .before .loop .inv in
+      answered (record { reading = i .grown _ (z .reading) .end (level-most _ _ _ (c .before .before .kind-at .ensures) (c .before .level-of .ensures) (c .if1 .taken)); within = i .within; past = omega (arith, z .past, i .past) })
+
+  pub spec : {M : Type 1} → lts.Closed claims (binary-at (just t)) binary.Post M
+  spec = lts.spec claims (binary-at (just t)) binary.Post Inv-loop μ-loop (λ c κs. search needs) (λ c. search needs) (λ c. search needs) (λ c. search needs) (λ c. search needs) (λ c. search needs) (λ c. search needs) returns (λ c. climbing-none (lead c .within)) (λ c κs. search needs) (λ c κs. search needs) (λ c. omega (arith, c .before .before .before .loop .inv .within .at, start (c .before .before .before .before) .pre .1 .1 .lent .whole .most)) binary-requires (λ c. search needs) (λ c. search needs) (λ c. omega (arith, c .before .before .before .before .before .before .before .before .before .before .binary .kept, c .before .before .before .before .before .before .before .before .before .before .before .before .before .before .before .before .before .before .loop .inv .rooms, lead (c .before .before .before .before .before .before .before .before .before .before .before .before .before .before .before .before .before .before .before) .reading .rooms)) (λ c. omega (arith, c .before .before .before .before .before .before .before .before .before .before .binary .kept, c .before .before .before .before .before .before .before .before .before .before .before .before .before .before .before .before .before .before .loop .inv .rooms, lead (c .before .before .before .before .before .before .before .before .before .before .before .before .before .before .before .before .before .before .before) .reading .rooms)) (λ c. search needs) (λ c. search needs) returns-2 (λ c κs. free (start (c .before .before .before .before .before .before .before .before .before .before .before .before .before .before .before .before .before .before .before .before .before) .pre .1 .1 .lent) (part (c .before) .within)) (λ c. omega (arith, free (start (c .before .before .before .before .before .before .before .before .before .before .before .before .before .before .before .before .before .before .before .before .before .before .before .before) .pre .1 .1 .lent) (part (c .before .before .before .before) .within) .number)) loop-less loop-again (λ c. search needs) (λ c. search needs) (λ c. search needs) (λ c. search needs) returns-3

@@ -1,0 +1,118 @@
+-- A `let`, `const` or `ref`, a name, a `=` and an expression: a row of the name and the expression.
+use Prim.Native.Nat.{ℕ}
+use borrow.Author.Needs.{needs}
+use native.Mathlib.Omega.{arith}
+use lib.Dec.{eqb}
+use mathlib.Core.Bool.{Bool, true, false, cond}
+use mathlib.Core.List.{List, [], _∷_}
+use mathlib.Core.Path.{_≡_, refl, ap}
+use Rattle.ast.specs.Inserted.{Inserted}
+use Rattle.ast.specs.declared.Node.{Node as Entry}
+use Rattle.grammar.specs.Handle.{Handle, upto}
+use Rattle.grammar.specs.Kaori.{Form, above}
+use Rattle.grammar.specs.Kind.{Let, Const}
+use Rattle.grammar.specs.Label.{Node, Label, number-of}
+use Rattle.grammar.specs.Phrase.{node, whole}
+use Rattle.grammar.specs.Refusal.{Refuses}
+use Rattle.grammar.specs.Rows.{make, put, fill, numbers, write}
+use Rattle.grammar.specs.Rule.{child, named, writes, rule}
+use Rattle.grammar.specs.Token.{start as start-of}
+use Rattle.grammar.proofs.Room.{paid, spare}
+use Rattle.parser.specs.Answers.{node-of, Answered}
+use Rattle.parser.specs.Parts.{binding-node}
+use Rattle.parser.specs.Reading.{Reading}
+use Rattle.parser.specs.State.{State, state, written, Within, Ready}
+use Rattle.parser.specs.declared.Cursor.{Cursor}
+use Rattle.parser.specs.declared.Read.{Read}
+use Rattle.parser.proofs.Bound.{Paid}
+use Rattle.parser.proofs.Entering.{grown}
+use Rattle.parser.proofs.Laws.{both, ready-on}
+use Rattle.parser.proofs.Replies.{Told, success, token-taken, passed, lacks, after}
+use Rattle.parser.proofs.Taking.{Taken-by, starts, past-at, led, led-refused, ready-led, free, inserted-as, row-answered, binder-low}
+use Rattle.parser.proofs.readers.+arg+arguments+assign+binary+bind+block+body+call+chained+else_+expression+form+function+group+if_+items+lambda+map_+not_+pair+pairs+plus+postfix+prefix+primary+return_+statement+unary+while_ as cycle
+use Rattle.parser.proofs.readers as readers
+use cycle.Lts-bind as lts
+use cycle.Proof.Measures.{just, below, bind-at, expression-at}
+use readers.bind.Reads as bind
+use readers.expression.Reads as expression
+use Rattle.parser.proofs.pieces.bound.Reads as bound-reads
+use Rattle.parser.proofs.lists.consume.Reads as consume-reads
+use Rattle.parser.proofs.lists.name.Reads as name-reads
+
+-- the rows of the three differ in their kind alone
+binds : (ts : List ℕ) (a b : ℕ) (xs ys : List Handle) (x y : Handle) (is-let is-const : Bool) → rule ts (cond is-let Node.Variable (cond is-const Node.Constant Node.Ref)) a b xs ys x y ≡ writes (start-of ts a) (upto y) (named x ∷ child y ∷ [])
+unfolding rule
+binds ts a b xs ys x y true is-const = refl
+binds ts a b xs ys x y false true = refl
+binds ts a b xs ys x y false false = refl
+
+bound-answered : (k : ℕ) {text ts ns ns′ ls ys ss : List ℕ} {limit o i u v j f e : ℕ} {s : State} {p : Form} {c : Cursor} {n : Entry} → Ready text ts limit o s → Paid (node (Label.Row (binding-node k)) p) → Reading text ts limit (whole p) o s (Handle.name i u v ∷ []) (Handle.node j f e ∷ []) (state ns ls ys ss c) → Within text ts (state ns ls ys ss c) →
+    Inserted (c .nodes) (number-of (binding-node k)) (start-of ts (s .cursor .at)) e (i ∷ u ∷ v ∷ j ∷ []) ns ns′ n → Answered text ts limit node-of (whole (node (Label.Row (binding-node k)) p)) o s ns′ ls ys ss (Read.Node n (grown c))
+unfolding make put fill numbers write
+bound-answered k {text} {ts} {ns} {ls = ls} {ys = ys} {ss = ss} {i = i} {u} {v} {j} {f} {e} {s} {c = c} h p r w z =
+    let x : Handle = Handle.name i u v in
+    let y : Handle = Handle.node j f e in
+    row-answered h p r w z (ap (λ q. put text (number-of (binding-node k)) q (written (state ns ls ys ss c))) (binds ts (s .cursor .at) (c .at) (x ∷ []) (y ∷ []) x y (eqb k Let) (eqb k Const)))
+
+module _ (t : ℕ) where
+  abbrev claims : lts.Claims
+  claims = (consume-reads.Asked, consume-reads.Learnt, name-reads.Asked, name-reads.Learnt, expression-at (below t), expression.Post, bound-reads.Asked, bound-reads.Learnt)
+
+  -- the first token, what the name's success says, the `=`, what the expression's success says, and where the reader began
+  lead : (c : lts.After-known-told claims (bind-at (just t)) bind.Post) → Taken-by (c .before .before .before .consume .ensures) (c .before .read .given .0 .0) (c .before .read .given .0 .1 .0)
+  lead c = token-taken (c .before .read .given .1) (c .before .before .before .consume .ensures)
+
+  word : (c : lts.After-known-told2 claims (bind-at (just t)) bind.Post) → Told (c .before .before .before .before .before .before .before .before .before .before .before .name .ensures) (c .before .read2 .given .0 .0) (c .before .read2 .given .0 .1 .0)
+  word c = success (c .before .read2 .given .1) (c .before .before .before .before .before .before .before .before .before .before .before .name .ensures)
+
+  sign : (c : lts.After-known-told3 claims (bind-at (just t)) bind.Post) → Taken-by (c .before .before .before .consume2 .ensures) (c .before .read3 .given .0 .0) (c .before .read3 .given .0 .1 .0)
+  sign c = token-taken (c .before .read3 .given .1) (c .before .before .before .consume2 .ensures)
+
+  right : (c : lts.After-known-told4 claims (bind-at (just t)) bind.Post) → Told (c .before .before .before .before .before .before .before .before .before .before .before .expression .ensures) (c .before .read4 .given .0 .0) (c .before .read4 .given .0 .1 .0)
+  right c = success (c .before .read4 .given .1) (c .before .before .before .before .before .before .before .before .before .before .before .expression .ensures)
+
+  abbrev start : lts.After-known-told4 claims (bind-at (just t)) bind.Post → lts.Start claims (bind-at (just t)) bind.Post
+  start c = c .before .before .before .before .before .before .before .before .before .before .before .before .before .before .before .before .before .before .before .before .before .before .before .before .before .before .before .before .before .before .before .before .before .before .before .before .before .before .before .before .before .before .before .before .before .before
+
+  returns : lts.Need-returns claims (bind-at (just t)) bind.Post
+  returns c =
+      let l = binder-low (c .before .before .before .before .before .before .before .before .before .pre .1 .0) in
+      lacks (c .enum-told .given .1) (c .before .before .consume .ensures) (omega arith) (λ h. Refuses.in-node (Refuses.missing h))
+
+  name-requires : lts.Need-name-requires claims (bind-at (just t)) bind.Post
+  name-requires c κs =
+      let l = binder-low (c .before .before .before .before .before .before .before .before .before .before .before .before .before .before .pre .1 .0) in
+      ready-led (c .before .before .before .before .before .before .before .before .before .before .before .before .before .before .pre .1 .1) (lead (c .before .before .before .before)) (λ e. omega arith)
+
+  returns-2 : lts.Need-returns-2 claims (bind-at (just t)) bind.Post
+  returns-2 c =
+      let l = binder-low (c .before .before .before .before .before .before .before .before .before .before .before .before .before .before .before .before .before .before .before .before .before .before .before .before .before .pre .1 .0) in
+      passed (c .enum-told2 .given .1) (c .before .before .before .before .before .before .before .before .before .before .name .ensures) (λ x h. Refuses.in-node (led-refused _ (lead (c .before .before .before .before .before .before .before .before .before .before .before .before .before .before .before)) (λ e. omega arith) (Refuses.in-first h)))
+
+  returns-3 : lts.Need-returns-3 claims (bind-at (just t)) bind.Post
+  returns-3 c =
+      let l = binder-low (c .before .before .before .before .before .before .before .before .before .before .before .before .before .before .before .before .before .before .before .before .before .before .before .before .before .before .before .before .before .pre .1 .0) in
+      lacks (c .enum-told3 .given .1) (c .before .before .consume2 .ensures) (omega arith) (λ h. Refuses.in-node (led-refused _ (lead (c .before .before .before .before .before .before .before .before .before .before .before .before .before .before .before .before .before .before .before)) (λ e. omega arith) (after (word (c .before .before .before) .reading) (Refuses.missing h))))
+
+  expression-requires : lts.Need-expression-requires claims (bind-at (just t)) bind.Post
+  expression-requires c κs =
+      let z = word (c .before .before .before .before .before .before .before .before) in
+      let k = sign (c .before .before .before .before) in
+      (omega (arith, past-at (lead (c .before .before .before .before .before .before .before .before .before .before .before .before .before .before .before .before .before .before .before .before .before .before .before .before)), z .past, z .within .at, past-at k, c .before .before .before .before .before .before .before .before .before .before .before .before .before .before .before .before .before .before .before .before .before .before .before .before .before .before .before .before .before .before .before .before .before .before .pre .0), ready-led (ready-on (c .before .before .before .before .before .before .before .before .before .before .before .before .before .before .before .before .before .before .before .before .before .before .before .before .before .before .before .before .before .before .before .before .before .before .pre .1 .1) (z .within)) k (λ e. omega arith))
+
+  returns-4 : lts.Need-returns-4 claims (bind-at (just t)) bind.Post
+  returns-4 c =
+      let l = binder-low (c .before .before .before .before .before .before .before .before .before .before .before .before .before .before .before .before .before .before .before .before .before .before .before .before .before .before .before .before .before .before .before .before .before .before .before .before .before .before .before .before .before .before .before .before .before .pre .1 .0) in
+      passed (c .enum-told4 .given .1) (c .before .before .before .before .before .before .before .before .before .before .expression .ensures) (λ x h. Refuses.in-node (led-refused _ (lead (c .before .before .before .before .before .before .before .before .before .before .before .before .before .before .before .before .before .before .before .before .before .before .before .before .before .before .before .before .before .before .before .before .before .before .before)) (λ e. omega arith) (after (word (c .before .before .before .before .before .before .before .before .before .before .before .before .before .before .before .before .before .before .before) .reading) (led-refused _ (sign (c .before .before .before .before .before .before .before .before .before .before .before .before .before .before .before)) (λ e. omega arith) h))))
+
+  returns-5 : lts.Need-returns-5 claims (bind-at (just t)) bind.Post
+  unfolding paid spare above
+  returns-5 c =
+      let k = lead (c .before .before .before .before .before .before .before .before .before .before .before .before .before .before .before .before .before .before .before .before .before .before .before .before .before .before .before .before .before .before .before .before .before .before .before .before .before .before .before .before) in
+      let z = right (c .before .before .before .before) in
+      let p = start (c .before .before .before .before) .pre .1 in
+      let l = binder-low (p .0) in
+      bound-answered (c .before .before .before .before .before .before .before .before .before .before .before .before .before .before .before .before .before .before .before .before .before .before .before .before .before .before .before .before .before .before .before .before .before .before .before .before .before .before .before .before .before .before .before .before .before .before .before .before .before .before .args .kind) (p .1) (record { pays = tt }) (led k (λ e. omega arith) (both (word (c .before .before .before .before .before .before .before .before .before .before .before .before .before .before .before .before .before .before .before .before .before .before .before .before) .reading) (led (sign (c .before .before .before .before .before .before .before .before .before .before .before .before .before .before .before .before .before .before .before .before)) (λ e. omega arith) (z .reading)))) (z .within) (inserted-as (starts k) refl refl (c .before .before .bound .ensures))
+
+  pub spec : {M : Type 1} → lts.Closed claims (bind-at (just t)) bind.Post M
+  spec = lts.spec claims (bind-at (just t)) bind.Post (λ c κs. search needs) (λ c. search needs) (λ c. search needs) returns name-requires (λ c. search needs) (λ c. search needs) (λ c. search needs) (λ c. search needs) (λ c. search needs) (λ c. search needs) returns-2 (λ c κs. word c .within .at) (λ c. search needs) (λ c. search needs) (λ c. search needs) (λ c. search needs) (λ c. search needs) (λ c. search needs) returns-3 expression-requires (λ c. search needs) (λ c. search needs) (λ c. omega (arith, word (c .before .before .before .before .before .before .before .before .before .before .before .before .before .before .before .before .before .before .before) .reading .rooms)) (λ c. omega (arith, word (c .before .before .before .before .before .before .before .before .before .before .before .before .before .before .before .before .before .before .before) .reading .rooms)) (λ c. omega (arith, word (c .before .before .before .before .before .before .before .before .before .before .before .before .before .before .before .before .before .before .before) .reading .rooms)) (λ c. search needs) returns-4 (λ c κs. free (start (c .before) .pre .1 .1 .lent) (right (c .before) .within)) (λ c. omega (arith, free (start (c .before .before .before .before) .pre .1 .1 .lent) (right (c .before .before .before .before) .within) .number)) (λ c. omega (arith, word (c .before .before .before .before .before .before .before .before .before .before .before .before .before .before .before .before .before .before .before .before .before .before .before .before) .reading .rooms, right (c .before .before .before .before) .reading .rooms)) (λ c. omega (arith, word (c .before .before .before .before .before .before .before .before .before .before .before .before .before .before .before .before .before .before .before .before .before .before .before .before) .reading .rooms, right (c .before .before .before .before) .reading .rooms)) (λ c. omega (arith, word (c .before .before .before .before .before .before .before .before .before .before .before .before .before .before .before .before .before .before .before .before .before .before .before .before) .reading .rooms, right (c .before .before .before .before) .reading .rooms)) (λ c. omega (arith, word (c .before .before .before .before .before .before .before .before .before .before .before .before .before .before .before .before .before .before .before .before .before .before .before .before) .reading .rooms, right (c .before .before .before .before) .reading .rooms)) returns-5

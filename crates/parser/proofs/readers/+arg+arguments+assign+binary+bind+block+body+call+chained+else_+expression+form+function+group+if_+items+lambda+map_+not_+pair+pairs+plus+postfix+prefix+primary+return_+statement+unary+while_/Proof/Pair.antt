@@ -1,0 +1,62 @@
+-- A key, and its value if it has one, and the comma after them unless the map ends there.
+use Prim.Native.Nat.{ℕ}
+use borrow.Author.Needs.{needs}
+use native.Mathlib.Omega.{arith}
+use mathlib.Core.Path.{refl}
+use Rattle.grammar.specs.Kaori.{value, rules}
+use Rattle.grammar.specs.Kind.{Colon, RightBrace}
+use Rattle.grammar.specs.Refusal.{Refuses}
+use Rattle.parser.proofs.Entries.{entry-alone, entry-pair}
+use Rattle.parser.proofs.Laws.{sees, ready-next, ready-on}
+use Rattle.parser.proofs.Names.{plain, keyed, separated}
+use Rattle.parser.proofs.Replies.{Told, success, passed, after}
+use Rattle.parser.proofs.readers.+arg+arguments+assign+binary+bind+block+body+call+chained+else_+expression+form+function+group+if_+items+lambda+map_+not_+pair+pairs+plus+postfix+prefix+primary+return_+statement+unary+while_ as cycle
+use Rattle.parser.proofs.readers as readers
+use cycle.Lts-pair as lts
+use cycle.Proof.Measures.{just, below, expression-at, pair-at}
+use readers.expression.Reads as expression
+use readers.pair.Reads as pair
+use Rattle.parser.proofs.lists.comma.Reads as comma-reads
+use Rattle.token.proofs.list.kind_at.Reads as kind-at-reads
+
+module _ (t : ℕ) where
+  abbrev claims : lts.Claims
+  claims = (expression-at (below t), expression.Post, kind-at-reads.Asked, kind-at-reads.Learnt, comma-reads.Asked, comma-reads.Learnt)
+
+  -- where the key is read: what that says, and where the reader began
+  key : (c : lts.After-known-told claims (pair-at (just t)) pair.Post) → Told (c .before .before .before .before .before .before .before .before .before .before .before .expression .ensures) (c .before .read .given .0 .0) (c .before .read .given .0 .1 .0)
+  key c = success (c .before .read .given .1) (c .before .before .before .before .before .before .before .before .before .before .before .expression .ensures)
+
+  abbrev start : lts.After-known-told claims (pair-at (just t)) pair.Post → lts.Start claims (pair-at (just t)) pair.Post
+  start c = c .before .before .before .before .before .before .before .before .before .before .before .before .before .before .before .before .before .before .before .before .before .before
+
+  -- where the value is read
+  second : (c : lts.After-known-told2 claims (pair-at (just t)) pair.Post) → Told (c .before .before .before .before .before .before .before .before .before .before .before .expression2 .ensures) (c .before .turn .given .0 .0) (c .before .turn .given .0 .1 .0)
+  second c = success (c .before .turn .given .1) (c .before .before .before .before .before .before .before .before .before .before .before .expression2 .ensures)
+
+  returns : lts.Need-returns claims (pair-at (just t)) pair.Post
+  returns c = passed (c .enum-told .given .1) (c .before .before .before .before .before .before .before .before .before .before .expression .ensures) (λ x h. Refuses.in-first (Refuses.in-node (Refuses.in-first h)))
+
+  returns-2 : lts.Need-returns-2 claims (pair-at (just t)) pair.Post
+  returns-2 c =
+      let p = start (c .before .before .before) .pre .1 in
+      separated _ p (plain RightBrace tt) (entry-alone (key (c .before .before .before)) p (rw (c .before .before .kind-at .ensures) at (c .before .if1 .taken))) (c .comma .ensures)
+
+  expression-requires-2 : lts.Need-expression-requires-2 claims (pair-at (just t)) pair.Post
+  expression-requires-2 c κs =
+      let z = key (c .before .before .before .before .before .before) in
+      let p = start (c .before .before .before .before .before .before) .pre in
+      (omega (arith, p .0, z .past, z .within .at), ready-next (ready-on (p .1) (z .within)) (rw (c .before .before .before .before .before .kind-at .ensures) at (c .before .before .before .before .if1 .left)) (λ e. omega arith))
+
+  returns-3 : lts.Need-returns-3 claims (pair-at (just t)) pair.Post
+  unfolding rules
+  returns-3 c =
+      let z = key (c .before .before .before .before .before .before .before .before .before .before .before .before .before .before .before .before .before) in
+      let k = rw (c .before .before .before .before .before .before .before .before .before .before .before .before .before .before .before .before .kind-at .ensures) at (c .before .before .before .before .before .before .before .before .before .before .before .before .before .before .before .if1 .left) in
+      passed (c .enum-told2 .given .1) (c .before .before .before .before .before .before .before .before .before .before .expression2 .ensures) (λ x h. Refuses.in-first (Refuses.in-node (after (z .reading) (Refuses.in-choice (keyed _ _ value _ refl (plain Colon tt) k) (Refuses.past-token (sees _ _ _ k (λ e. omega arith)) h)))))
+
+  returns-4 : lts.Need-returns-4 claims (pair-at (just t)) pair.Post
+  returns-4 c = separated _ (start (c .before .before .before .before .before .before .before .before .before .before .before .before .before .before .before .before .before .before .before) .pre .1) (plain RightBrace tt) (entry-pair (key (c .before .before .before .before .before .before .before .before .before .before .before .before .before .before .before .before .before .before .before)) (rw (c .before .before .before .before .before .before .before .before .before .before .before .before .before .before .before .before .before .before .kind-at .ensures) at (c .before .before .before .before .before .before .before .before .before .before .before .before .before .before .before .before .before .if1 .left)) (second (c .before))) (c .comma2 .ensures)
+
+  pub spec : {M : Type 1} → lts.Closed claims (pair-at (just t)) pair.Post M
+  spec = lts.spec claims (pair-at (just t)) pair.Post (λ c κs. search needs) (λ c. search needs) (λ c. search needs) (λ c. search needs) (λ c. search needs) (λ c. search needs) (λ c. search needs) returns (λ c κs. key c .within .at) (λ c κs. key (c .before .before) .within .at) (λ c. search needs) (λ c. search needs) (λ c. search needs) (λ c. search needs) returns-2 (λ c. omega (arith, key (c .before .before) .within .at, start (c .before .before) .pre .1 .lent .whole .most)) expression-requires-2 (λ c. search needs) (λ c. search needs) (λ c. search needs) (λ c. search needs) (λ c. search needs) (λ c. search needs) returns-3 (λ c κs. second c .within .at) (λ c. omega (arith, key (c .before .before .before .before .before .before .before .before .before .before .before .before .before .before .before .before .before .before .before) .reading .rooms, second (c .before) .reading .rooms)) (λ c. omega (arith, key (c .before .before .before .before .before .before .before .before .before .before .before .before .before .before .before .before .before .before .before) .reading .rooms, second (c .before) .reading .rooms)) (λ c. omega (arith, key (c .before .before .before .before .before .before .before .before .before .before .before .before .before .before .before .before .before .before .before) .reading .rooms, second (c .before) .reading .rooms)) (λ c. omega (arith, key (c .before .before .before .before .before .before .before .before .before .before .before .before .before .before .before .before .before .before .before) .reading .rooms, second (c .before) .reading .rooms)) returns-4

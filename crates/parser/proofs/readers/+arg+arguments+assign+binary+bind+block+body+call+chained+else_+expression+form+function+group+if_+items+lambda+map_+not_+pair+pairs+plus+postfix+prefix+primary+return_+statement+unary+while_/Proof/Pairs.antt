@@ -1,0 +1,57 @@
+-- The entries of a map, up to what ends them: the loop keeps a listing, and each turn holds one entry more.
+use Prim.Native.Nat.{ℕ, _-_}
+use borrow.Author.Needs.{needs}
+use native.Mathlib.Omega.{arith}
+use mathlib.Core.Path.{refl}
+use Rattle.grammar.specs.Kaori.{comma, rules, entries as table}
+use Rattle.grammar.specs.Kind.{RightBrace}
+use Rattle.grammar.specs.Phrase.{part, choice}
+use Rattle.grammar.specs.Token.{count}
+use Rattle.parser.specs.State.{state}
+use Rattle.parser.proofs.Entries.{entry}
+use Rattle.parser.proofs.Listings.{Listing, listing-none, listing-more, listing-end, lists, Item-of, item-refused, item-less, hold-room, hold-number}
+use Rattle.parser.proofs.Names.{plain, items-end, items-on}
+use Rattle.parser.proofs.Replies.{Told, success}
+use Rattle.parser.proofs.readers.+arg+arguments+assign+binary+bind+block+body+call+chained+else_+expression+form+function+group+if_+items+lambda+map_+not_+pair+pairs+plus+postfix+prefix+primary+return_+statement+unary+while_ as cycle
+use Rattle.parser.proofs.readers as readers
+use cycle.Lts-pairs as lts
+use cycle.Proof.Measures.{just, below, pairs-at, pair-at}
+use readers.pairs.Reads as pairs
+use readers.pair.Reads as pair
+use Rattle.token.proofs.list.kind_at.Reads as kind-at-reads
+use Rattle.ast.proofs.room.push.Reads as push-reads
+
+abbrev Inv-list : lts.InvT-list
+Inv-list text tokens nodes₀ links₀ symbols₀ scratch₀ limit depth now₀ nodes links symbols scratch now = Listing text tokens limit table depth (state nodes₀ links₀ symbols₀ scratch₀ now₀) (state nodes links symbols scratch now)
+
+abbrev μ-list : lts.MeasureT-list
+μ-list text tokens nodes₀ links₀ symbols₀ scratch₀ limit depth now₀ nodes links symbols scratch now = count tokens - now .at
+
+module _ (t : ℕ) where
+  abbrev claims : lts.Claims
+  claims = (kind-at-reads.Asked, kind-at-reads.Learnt, pair-at (below t), pair.Post, push-reads.Asked, push-reads.Learnt)
+
+  -- where the list goes on: what its table has there
+  on : (c : lts.At-match-rest claims (pairs-at (just t)) pairs.Post Inv-list μ-list) → Item-of (c .before .before .list .inv) (part entry (choice (comma RightBrace)))
+  unfolding rules
+  on c = items-on _ _ table _ refl (plain RightBrace tt) (rw (c .before .kind-at .ensures) at (c .match .rest .1))
+
+  -- where an item is read: what that says
+  item : (c : lts.After-known-told claims (pairs-at (just t)) pairs.Post Inv-list μ-list) → Told (c .before .before .before .before .before .before .before .before .before .before .before .pair .ensures) (c .before .read .given .0 .0) (c .before .read .given .0 .1 .0)
+  item c = success (c .before .read .given .1) (c .before .before .before .before .before .before .before .before .before .before .before .pair .ensures)
+
+  returns : lts.Need-returns claims (pairs-at (just t)) pairs.Post Inv-list μ-list
+  returns c = item-refused (c .before .before .before .before .before .before .before .before .before .before .before .before .before .before .before .before .before .list .inv) (on (c .before .before .before .before .before .before .before .before .before .before .before .before .before .before .before)) (c .enum-told .given .1) (c .before .before .before .before .before .before .before .before .before .before .pair .ensures)
+
+  list-less : lts.Need-list-less claims (pairs-at (just t)) pairs.Post Inv-list μ-list
+  list-less c = item-less (c .before .before .before .before .before .before .before .before .before .before .before .before .before .before .before .before .before .before .before .before .before .before .list .inv) (on (c .before .before .before .before .before .before .before .before .before .before .before .before .before .before .before .before .before .before .before .before)) (item (c .before .before .before .before))
+
+  list-again : lts.Need-list-again claims (pairs-at (just t)) pairs.Post Inv-list μ-list
+  list-again c = listing-more (c .before .before .before .before .before .before .before .before .before .before .before .before .before .before .before .before .before .before .before .before .before .before .list .inv) (on (c .before .before .before .before .before .before .before .before .before .before .before .before .before .before .before .before .before .before .before .before)) (item (c .before .before .before .before)) (c .before .before .push .ensures) refl
+
+  returns-2 : lts.Need-returns-2 claims (pairs-at (just t)) pairs.Post Inv-list μ-list
+  unfolding rules
+  returns-2 c = lists (listing-end (c .before .before .list .inv) (items-end _ _ table _ refl (plain RightBrace tt) (rw (c .before .kind-at .ensures) at (c .match .keys1))))
+
+  pub spec : {M : Type 1} → lts.Closed claims (pairs-at (just t)) pairs.Post M
+  spec = lts.spec claims (pairs-at (just t)) pairs.Post Inv-list μ-list (λ c. let p = c .before .before .before .before .before .before .pre .1 in listing-none (p .deep) (p .within)) (λ c κs. search needs) (λ c κs. search needs) (λ c. search needs) (λ c. search needs) (λ c. search needs) (λ c. search needs) (λ c. search needs) (λ c. search needs) returns (λ c κs. hold-room (item (c .before) .within)) (λ c. omega (arith, hold-number (item (c .before .before .before .before) .within) (c .before .before .before .before .before .before .before .before .before .before .before .before .before .before .before .before .before .before .before .before .before .before .before .before .before .before .before .before .before .pre .1 .lent))) list-less list-again (λ c. search needs) (λ c. search needs) (λ c. search needs) (λ c. search needs) returns-2

@@ -1,0 +1,42 @@
+-- A sign or `not` picks an operand's form; any other kind is left to what is unsigned.
+use Prim.Native.Nat.{ℕ}
+use borrow.Author.Needs.{needs}
+use native.Mathlib.Omega.{arith}
+use mathlib.Core.Logic.{inl, inr}
+use mathlib.Core.Path.{refl, sym, _∙_}
+use Rattle.grammar.specs.Kaori.{kaori, rules, operand}
+use Rattle.parser.proofs.Picks.{picked, picked-as, signed}
+use Rattle.parser.proofs.readers.+arg+arguments+assign+binary+bind+block+body+call+chained+else_+expression+form+function+group+if_+items+lambda+map_+not_+pair+pairs+plus+postfix+prefix+primary+return_+statement+unary+while_ as cycle
+use Rattle.parser.proofs.readers as readers
+use cycle.Lts-prefix as lts
+use cycle.Proof.Measures.{just, below, not--at, plus-at, prefix-at, primary-at, unary-at}
+use readers.not_.Reads as not-
+use readers.plus.Reads as plus
+use readers.prefix.Reads as prefix
+use readers.primary.Reads as primary
+use readers.unary.Reads as unary
+use Rattle.token.proofs.list.kind_at.Reads as kind-at-reads
+
+module _ (t : ℕ) where
+  abbrev claims : lts.Claims
+  claims = (kind-at-reads.Asked, kind-at-reads.Learnt, plus-at (below t), plus.Post, unary-at (below t), unary.Post, not--at (below t), not-.Post, primary-at (below t), primary.Post)
+
+  primary-requires : lts.Need-primary-requires claims (prefix-at (just t)) prefix.Post
+  primary-requires c κs =
+      let k = c .before .before .before .before .before .kind-at .ensures in
+      let n = c .before .before .before .before .match .rest in
+      (search needs, (record { not-plus = λ e. n .0 .0 .1 (k ∙ e); not-minus = λ e. n .0 .1 (inl (k ∙ e)); not-caret = λ e. n .0 .1 (inr (k ∙ e)); not-not = λ e. n .1 (k ∙ e) }, c .before .before .before .before .before .before .before .before .before .before .before .before .pre .1))
+
+  returns : lts.Need-returns claims (prefix-at (just t)) prefix.Post
+  unfolding kaori rules
+  returns c = picked-as _ operand (c .before .before .before .before .before .before .before .before .before .before .before .before .before .before .kind-at .ensures) (c .before .before .before .before .before .before .before .before .before .before .before .before .before .match .keys1) (λ e. omega arith) refl (c .before .before .before .before .before .before .before .before .plus .ensures)
+
+  returns-2 : lts.Need-returns-2 claims (prefix-at (just t)) prefix.Post
+  returns-2 c = picked _ (signed _ _ _ (sym (c .before .before .before .before .before .before .before .before .before .before .before .before .before .before .kind-at .ensures)) (record { known = c .before .before .before .before .before .before .before .before .before .before .before .before .before .match .keys2 })) (c .before .before .before .before .before .before .before .before .unary .ensures)
+
+  returns-3 : lts.Need-returns-3 claims (prefix-at (just t)) prefix.Post
+  unfolding kaori rules
+  returns-3 c = picked-as _ operand (c .before .before .before .before .before .before .before .before .before .before .before .before .before .before .kind-at .ensures) (c .before .before .before .before .before .before .before .before .before .before .before .before .before .match .keys3) (λ e. omega arith) refl (c .before .before .before .before .before .before .before .before .not- .ensures)
+
+  pub spec : {M : Type 1} → lts.Closed claims (prefix-at (just t)) prefix.Post M
+  spec = lts.spec claims (prefix-at (just t)) prefix.Post (λ c κs. search needs) (λ c κs. search needs) (λ c κs. search needs) (λ c κs. search needs) primary-requires (λ c. search needs) (λ c. search needs) (λ c. search needs) (λ c. search needs) returns (λ c. search needs) (λ c. search needs) (λ c. search needs) (λ c. search needs) returns-2 (λ c. search needs) (λ c. search needs) (λ c. search needs) (λ c. search needs) returns-3 (λ c. search needs) (λ c. search needs) (λ c. search needs) (λ c. search needs) (λ c. search needs)

@@ -1,0 +1,66 @@
+-- A `while`, an expression and a block: a WhileLoop of the two.
+use Prim.Native.Nat.{ℕ}
+use borrow.Author.Needs.{needs}
+use native.Mathlib.Omega.{arith}
+use mathlib.Core.Path.{refl}
+use Rattle.grammar.specs.Kaori.{above}
+use Rattle.grammar.specs.Refusal.{Refuses}
+use Rattle.grammar.specs.Rows.{make, put, fill, numbers, write}
+use Rattle.grammar.specs.Rule.{rule}
+use Rattle.grammar.proofs.Room.{paid, spare}
+use Rattle.parser.proofs.Laws.{both, ready-on}
+use Rattle.parser.proofs.Replies.{Told, success, token-taken, passed, lacks, after}
+use Rattle.parser.proofs.Taking.{Taken-by, starts, past-at, led, led-refused, ready-led, free, inserted-as, row-answered}
+use Rattle.parser.proofs.readers.+arg+arguments+assign+binary+bind+block+body+call+chained+else_+expression+form+function+group+if_+items+lambda+map_+not_+pair+pairs+plus+postfix+prefix+primary+return_+statement+unary+while_ as cycle
+use Rattle.parser.proofs.readers as readers
+use cycle.Lts-while_ as lts
+use cycle.Proof.Measures.{just, below, block-at, expression-at, while--at}
+use readers.block.Reads as block
+use readers.expression.Reads as expression
+use readers.while_.Reads as while-
+use Rattle.parser.proofs.lists.consume.Reads as consume-reads
+use Rattle.ast.proofs.while_loop.Reads as while-loop-reads
+
+module _ (t : ℕ) where
+  abbrev claims : lts.Claims
+  claims = (consume-reads.Asked, consume-reads.Learnt, expression-at (below t), expression.Post, block-at (below t), block.Post, while-loop-reads.Asked, while-loop-reads.Learnt)
+
+  -- the token, what the condition's and the body's success say, and where the reader began
+  lead : (c : lts.After-known-told claims (while--at (just t)) while-.Post) → Taken-by (c .before .before .before .consume .ensures) (c .before .read .given .0 .0) (c .before .read .given .0 .1 .0)
+  lead c = token-taken (c .before .read .given .1) (c .before .before .before .consume .ensures)
+
+  condition : (c : lts.After-known-told2 claims (while--at (just t)) while-.Post) → Told (c .before .before .before .before .before .before .before .before .before .before .before .expression .ensures) (c .before .read2 .given .0 .0) (c .before .read2 .given .0 .1 .0)
+  condition c = success (c .before .read2 .given .1) (c .before .before .before .before .before .before .before .before .before .before .before .expression .ensures)
+
+  body : (c : lts.After-known-told3 claims (while--at (just t)) while-.Post) → Told (c .before .before .before .before .before .before .before .before .before .before .before .block .ensures) (c .before .read3 .given .0 .0) (c .before .read3 .given .0 .1 .0)
+  body c = success (c .before .read3 .given .1) (c .before .before .before .before .before .before .before .before .before .before .before .block .ensures)
+
+  abbrev start : lts.After-known-told3 claims (while--at (just t)) while-.Post → lts.Start claims (while--at (just t)) while-.Post
+  start c = c .before .before .before .before .before .before .before .before .before .before .before .before .before .before .before .before .before .before .before .before .before .before .before .before .before .before .before .before .before .before .before .before .before .before .before .before .before .before .before .before .before .before
+
+  returns : lts.Need-returns claims (while--at (just t)) while-.Post
+  returns c = lacks (c .enum-told .given .1) (c .before .before .consume .ensures) (omega arith) (λ h. Refuses.in-node (Refuses.missing h))
+
+  expression-requires : lts.Need-expression-requires claims (while--at (just t)) while-.Post
+  expression-requires c κs = let e = past-at (lead (c .before .before .before .before)) in (search needs, ready-led (c .before .before .before .before .before .before .before .before .before .before .before .before .before .before .pre .1) (lead (c .before .before .before .before)) (λ e. omega arith))
+
+  returns-2 : lts.Need-returns-2 claims (while--at (just t)) while-.Post
+  returns-2 c = passed (c .enum-told2 .given .1) (c .before .before .before .before .before .before .before .before .before .before .expression .ensures) (λ x h. Refuses.in-node (led-refused _ (lead (c .before .before .before .before .before .before .before .before .before .before .before .before .before .before .before)) (λ e. omega arith) (Refuses.in-first h)))
+
+  block-requires : lts.Need-block-requires claims (while--at (just t)) while-.Post
+  block-requires c κs =
+      let z = condition (c .before .before .before .before) in
+      (omega (arith, past-at (lead (c .before .before .before .before .before .before .before .before .before .before .before .before .before .before .before .before .before .before .before .before)), z .past, z .within .at, c .before .before .before .before .before .before .before .before .before .before .before .before .before .before .before .before .before .before .before .before .before .before .before .before .before .before .before .before .before .before .pre .0), ready-on (c .before .before .before .before .before .before .before .before .before .before .before .before .before .before .before .before .before .before .before .before .before .before .before .before .before .before .before .before .before .before .pre .1) (z .within))
+
+  returns-3 : lts.Need-returns-3 claims (while--at (just t)) while-.Post
+  returns-3 c = passed (c .enum-told3 .given .1) (c .before .before .before .before .before .before .before .before .before .before .block .ensures) (λ x h. Refuses.in-node (led-refused _ (lead (c .before .before .before .before .before .before .before .before .before .before .before .before .before .before .before .before .before .before .before .before .before .before .before .before .before .before .before .before .before .before .before)) (λ e. omega arith) (after (condition (c .before .before .before .before .before .before .before .before .before .before .before .before .before .before .before) .reading) h)))
+
+  returns-4 : lts.Need-returns-4 claims (while--at (just t)) while-.Post
+  unfolding paid spare above make put fill numbers write rule
+  returns-4 c =
+      let k = lead (c .before .before .before .before .before .before .before .before .before .before .before .before .before .before .before .before .before .before .before .before .before .before .before .before .before .before .before .before .before .before .before .before .before .before .before .before) in
+      let z = body (c .before .before .before .before) in
+      row-answered (start (c .before .before .before .before) .pre .1) (record { pays = tt }) (led k (λ e. omega arith) (both (condition (c .before .before .before .before .before .before .before .before .before .before .before .before .before .before .before .before .before .before .before .before) .reading) (z .reading))) (z .within) (inserted-as (starts k) refl refl (c .before .before .while-loop .ensures)) refl
+
+  pub spec : {M : Type 1} → lts.Closed claims (while--at (just t)) while-.Post M
+  spec = lts.spec claims (while--at (just t)) while-.Post (λ c κs. search needs) (λ c. search needs) (λ c. search needs) returns expression-requires (λ c. search needs) (λ c. search needs) (λ c. search needs) (λ c. search needs) (λ c. search needs) (λ c. search needs) returns-2 block-requires (λ c. search needs) (λ c. search needs) (λ c. search needs) (λ c. search needs) (λ c. search needs) (λ c. search needs) returns-3 (λ c κs. free (start (c .before) .pre .1 .lent) (body (c .before) .within)) (λ c. omega (arith, free (start (c .before .before .before .before) .pre .1 .lent) (body (c .before .before .before .before) .within) .number)) (λ c. omega (arith, condition (c .before .before .before .before .before .before .before .before .before .before .before .before .before .before .before .before .before .before .before .before) .reading .rooms, body (c .before .before .before .before) .reading .rooms)) (λ c. omega (arith, condition (c .before .before .before .before .before .before .before .before .before .before .before .before .before .before .before .before .before .before .before .before) .reading .rooms, body (c .before .before .before .before) .reading .rooms)) (λ c. omega (arith, condition (c .before .before .before .before .before .before .before .before .before .before .before .before .before .before .before .before .before .before .before .before) .reading .rooms, body (c .before .before .before .before) .reading .rooms)) (λ c. omega (arith, condition (c .before .before .before .before .before .before .before .before .before .before .before .before .before .before .before .before .before .before .before .before) .reading .rooms, body (c .before .before .before .before) .reading .rooms)) returns-4
