@@ -1,0 +1,64 @@
+-- What is told of the rows of an accepted call, in its node room and by its count: the last row is the root, a Block with the span 0, 0.
+use Prim.Native.Nat.{ℕ, _-_, _*_, _≤_, _<_}
+use native.Mathlib.Omega.{arith}
+use mathlib.Core.List.{List, [], _∷_, _++_, append-assoc}
+use mathlib.Core.Path.{_≡_, ap, _∙_}
+use lib.ListN.{length, getD, replicate, length-append}
+use lib.Seq.{getD-append-add}
+use Rattle.grammar.specs.Answer.{success, rooms-filled}
+use Rattle.grammar.specs.Call.{Call}
+use Rattle.grammar.specs.Door.{Admitted}
+use Rattle.grammar.specs.Handle.{absent}
+use Rattle.grammar.specs.Label.{Node, number-of}
+use Rattle.grammar.specs.Outcome.{accepted, Comes}
+use Rattle.grammar.specs.Room.{node-width}
+use Rattle.grammar.specs.Rows.{Rows, padded}
+use Rattle.grammar.proofs.Calls.{accepted-rows}
+use Rattle.grammar.proofs.Decoding.{Whole}
+use Rattle.grammar.proofs.Trees.{script-whole}
+use Rattle.view.specs.View.{number, Last-told, Kind-told, Span-told}
+use Rattle.view.specs.declared.KindAnswer.{KindAnswer}
+use Rattle.view.specs.declared.RowAnswer.{RowAnswer}
+use Rattle.view.specs.declared.SpanAnswer.{SpanAnswer}
+
+-- the numbers of a row, whatever stands before and after it
+number-at : (before ys after : List ℕ) (row i : ℕ) → node-width * row ≡ length before → number ((before ++ ys) ++ after) row i ≡ getD (ys ++ after) i 0
+number-at before ys after row i e = rw (e, append-assoc before ys after) (getD-append-add before (ys ++ after) i 0)
+
+accepted-whole : {text ts : List ℕ} {limit : ℕ} {w : Rows} → Comes text ts limit (accepted w) → Whole w
+accepted-whole {text} {ts} (Comes.read x h) = script-whole text ts x
+
+module _ {c : Call} {w : Rows} (d : Admitted c) (o : Comes (c .text) (c .tokens) (c .limit) (accepted w)) where
+  abbrev nodes : List ℕ
+  nodes = rooms-filled w (c .rooms) .nodes
+
+  abbrev count : ℕ
+  count = success w .nodes
+
+  abbrev root : List ℕ
+  root = padded (number-of Node.Block ∷ 0 ∷ 0 ∷ accepted-rows d o .root .1 ∷ accepted-rows d o .root .2 ∷ absent ∷ [])
+
+  abbrev zeros : List ℕ
+  zeros = replicate (length (c .rooms .nodes) - length (w .nodes)) 0
+
+  enough : node-width * count ≤ length nodes
+  enough = simp length-append (omega arith)
+
+  some : 0 < count
+  some = accepted-rows d o .tree .some
+
+  -- the numbers of the root, which stand after those of all other rows and before the zeros
+  root-number : (i : ℕ) → number nodes (count - 1) i ≡ getD (root ++ zeros) i 0
+  root-number i =
+      let (before, first, items, e) = accepted-rows d o .root in
+      let k : node-width * (count - 1) ≡ length before = omega (arith, accepted-whole o .nodes, ap (λ (xs : List ℕ). length xs) e ∙ length-append before root) in
+      ap (λ (xs : List ℕ). number (xs ++ zeros) (count - 1) i) e ∙ number-at before root zeros (count - 1) i k
+
+  pub last-is-root : {r : RowAnswer} → Last-told nodes count r → r ≡ record { code = 0; row = count - 1 }
+  last-is-root p = p .there enough (omega (arith, some))
+
+  pub root-kind : {r : KindAnswer} → Kind-told nodes count (count - 1) r → r ≡ record { code = 0; kind = number-of Node.Block }
+  root-kind p = rw (root-number 0) at (p .there enough (omega (arith, some)))
+
+  pub root-span : {r : SpanAnswer} → Span-told nodes count (count - 1) r → r ≡ record { code = 0; start = 0; end = 0 }
+  root-span p = rw (root-number 1, root-number 2) at (p .there enough (omega (arith, some)))
