@@ -1,0 +1,65 @@
+-- The demands on `parse`, said of any outcome that its contract allows (`Parsed`). That every call has one is `parse-spec`: the function has no `requires`, it ends,
+-- and it meets its contract.
+use Prim.Native.Nat.{ℕ, _-_, _≤_}
+use native.Mathlib.Omega.{arith}
+use mathlib.Core.List.{List}
+use mathlib.Core.Logic.{_⊎_, inl, inr}
+use mathlib.Core.Path.{_≡_, ap}
+use Rattle.grammar.specs.Answer.{Answer as Numbers}
+use Rattle.grammar.specs.Door.{Admitted}
+use Rattle.grammar.specs.Float.{seen}
+use Rattle.grammar.specs.Kaori.{Script}
+use Rattle.grammar.specs.Label.{Label}
+use Rattle.grammar.specs.Phrase.{Tree, depth}
+use Rattle.grammar.specs.Room.{Rooms}
+use Rattle.grammar.specs.Token.{count}
+use Rattle.grammar.proofs.Answers.{admitted-not-wrong, one-answer}
+use Rattle.grammar.proofs.Demands.{Read-as, Refused-at, Sorts, sorts}
+use Rattle.grammar.proofs.Outcomes.{script-not-refused}
+use Rattle.syntax.specs.Parsed.{numbers, call, Parsed}
+use Rattle.syntax.specs.declared.Answer.{Answer}
+
+-- the answer that has these numbers
+abbrev answer-of : Numbers → Answer
+answer-of n = record { code = n .code; nodes = n .nodes; links = n .links; symbols = n .symbols; at = n .at; start = n .start; end = n .end; expected = n .expected }
+
+-- demand 1: two outcomes that the contract allows are equal, the answer and every number of every room
+pub one-parse : {text ts : List ℕ} {limit : ℕ} {before after after′ : Rooms} {r r′ : Answer} → Parsed text ts limit before after r → Parsed text ts limit before after′ r′ → (r ≡ r′) × (after ≡ after′)
+one-parse p q = let (n, m) = one-answer (p .answers) (q .answers) in (ap answer-of n, m)
+
+module _ {text ts : List ℕ} {limit : ℕ} {before after : Rooms} {r : Answer} (p : Parsed text ts limit before after r) where
+  -- demand 3: what succeeds has a reading, which is the only one, and just its rows are in the rooms
+  pub success-reads : r .code ≡ 0 → (t : Tree Label) × Read-as (call text ts limit before) (numbers r) after t
+  success-reads e = by (sorts (p .answers))
+    where
+      by : Sorts (call text ts limit before) (numbers r) after → (t : Tree Label) × Read-as (call text ts limit before) (numbers r) after t
+      by (Sorts.read d {t = t} x) = (t, x)
+      by (Sorts.stopped d x) = absurd (omega (arith, x .codes .0))
+      by (Sorts.turned x) = absurd (omega (arith, x .codes .0))
+
+  -- and what the door lets in and has a reading no deeper than the limit succeeds
+  pub reading-succeeds : Admitted (call text ts limit before) → {t : Tree Label} → Script (seen text ts) (count ts - 1) t → depth t ≤ limit → r .code ≡ 0
+  reading-succeeds d x h = by (sorts (p .answers))
+    where
+      by : Sorts (call text ts limit before) (numbers r) after → r .code ≡ 0
+      by (Sorts.read f y) = ap (λ n. n .code) (y .numbers-are)
+      by (Sorts.stopped f y) = absurd (script-not-refused x h (y .refusal))
+      by (Sorts.turned y) = absurd (admitted-not-wrong d (y .turned .wrong))
+
+  -- codes 1 to 7 are for what the door does not let in, and leave the rooms as they were
+  pub turned-away-unchanged : (Admitted (call text ts limit before) → ⊥) → (1 ≤ r .code) × (r .code ≤ 7) × (after ≡ before)
+  turned-away-unchanged n = by (sorts (p .answers))
+    where
+      by : Sorts (call text ts limit before) (numbers r) after → (1 ≤ r .code) × (r .code ≤ 7) × (after ≡ before)
+      by (Sorts.read d x) = absurd (n d)
+      by (Sorts.stopped d x) = absurd (n d)
+      by (Sorts.turned x) = (x .codes .0, x .codes .1, x .rooms-are)
+
+  -- and what it lets in is read, or refused in reading
+  pub let-in-read : Admitted (call text ts limit before) → (r .code ≡ 0) ⊎ Refused-at (call text ts limit before) (numbers r) after
+  let-in-read d = by (sorts (p .answers))
+    where
+      by : Sorts (call text ts limit before) (numbers r) after → (r .code ≡ 0) ⊎ Refused-at (call text ts limit before) (numbers r) after
+      by (Sorts.read f y) = inl (ap (λ n. n .code) (y .numbers-are))
+      by (Sorts.stopped f y) = inr y
+      by (Sorts.turned y) = absurd (admitted-not-wrong d (y .turned .wrong))

@@ -1,0 +1,206 @@
+// The public entry: a port of `parse` of parser.rs. The door, then the statements up to Eof, the root's row, and zeros.
+use ast::Node;
+use ast::room::clear;
+use ast::room::link;
+use ast::room::push;
+use door::Entry;
+use door::check;
+use parser::Cursor;
+use parser::Read;
+use parser::Refusal;
+use parser::readers::statement;
+use token::list::end_at;
+use token::list::kind_at;
+use token::list::start_at;
+ghost use mathlib.Core.Path.{_≡_};
+ghost use Prim.Native.Nat.{_≤_, _<_};
+ghost use Rattle.grammar.specs.Answer.{refuse};
+ghost use Rattle.grammar.specs.Kaori as form;
+ghost use Rattle.grammar.specs.Phrase.{empty, chain, whole};
+ghost use Rattle.grammar.specs.Token.{count};
+ghost use Rattle.parser.specs.Answers.{Lists};
+ghost use Rattle.parser.specs.State.{state, Ready};
+ghost use Rattle.syntax.specs.Parsed.{numbers, rooms, Parsed, Let-in, Cut, Fitting, Rooted};
+
+// No row.
+const ABSENT: u32 = 4294967295;
+
+// The answer of a call: a code, which is 0 or a refusal's; how many rows each room has, 0 for a refusal; and a refusal's place and the kind that was
+// required there (255: no certain kind).
+pub struct Answer {
+    pub code: u32,
+    pub nodes: u32,
+    pub links: u32,
+    pub symbols: u32,
+    pub at: u32,
+    pub start: u32,
+    pub end: u32,
+    pub expected: u32,
+}
+
+// The answer of a refusal: no rows are counted. Public for the crates above.
+// Ruled out: a count that is not 0; a start and an end in each other's place.
+pub fn refused(code: u32, at: u32, start: u32, end: u32, expected: u32) -> Answer
+    ensures { λ r. ⌜ numbers r ≡ refuse code at start end expected ⌝ }
+{
+    let rows = 0;
+    Answer {
+        code: code,
+        nodes: rows,
+        links: rows,
+        symbols: rows,
+        at: at,
+        start: start,
+        end: end,
+        expected: expected,
+    }
+}
+
+// The statements up to Eof: their rows are held, as those of a list.
+fn statements(
+    text: &[u8],
+    tokens: &[u32],
+    nodes: &mut [u32],
+    links: &mut [u32],
+    symbols: &mut [u32],
+    scratch: &mut [u32],
+    limit: u32,
+    cur: Cursor,
+) -> Read
+    requires { ⌜ Ready (now text) (now tokens) limit 0 (state (now nodes) (now links) (now symbols) (now scratch) cur) ⌝ }
+    ensures { λ r. ⌜ Lists (now (text .entry)) (now (tokens .entry)) limit (whole (chain empty form.script-items)) 0 (state (now (nodes .entry)) (now (links .entry)) (now (symbols .entry)) (now (scratch .entry)) cur) (now (nodes .exit)) (now (links .exit)) (now (symbols .exit)) (now (scratch .exit)) r ⌝ }
+{
+    let mut now = cur;
+    'list: loop {
+        let at = now.at;
+        if kind_at(tokens, at) == 44 {
+            break 'list;
+        }
+        let read = statement(text, tokens, nodes, links, symbols, scratch, limit, 0, now);
+        let Read::Node(item, end) = read else {
+            return read;
+        };
+        let held = end.held;
+        push(scratch, held, item.id, 0, 0);
+        now = end;
+        now.held = held + 1;
+    }
+    let list = Node {
+        id: 0,
+        start: 0,
+        end: 0,
+    };
+    Read::Node(list, now)
+}
+
+// The answer of a script that is read: the statements that are held become the root's links, the root is the last row, and zeros follow in each room.
+fn root(
+    nodes: &mut [u32],
+    links: &mut [u32],
+    symbols: &mut [u32],
+    scratch: &mut [u32],
+    end: Cursor,
+) -> Answer
+    requires { ⌜ Fitting end (rooms (now nodes) (now links) (now symbols) (now scratch)) ⌝ }
+    ensures { λ r. ⌜ Rooted end (rooms (now (nodes .entry)) (now (links .entry)) (now (symbols .entry)) (now (scratch .entry))) (rooms (now (nodes .exit)) (now (links .exit)) (now (symbols .exit)) (now (scratch .exit))) r ⌝ }
+{
+    let first = end.links;
+    let count = end.held;
+    let used = first + count;
+    let known = end.symbols;
+    let n = end.nodes;
+    link(links, first, scratch, 0, count);
+    let last = ast::block(nodes, n, first as u32, count as u32, ABSENT, 0, 0);
+    clear(nodes, 9 * (n + 1));
+    clear(links, 3 * used);
+    clear(symbols, 2 * known);
+    clear(scratch, 0);
+    Answer {
+        code: 0,
+        nodes: last.id + 1,
+        links: used as u32,
+        symbols: known as u32,
+        at: 0,
+        start: 0,
+        end: 0,
+        expected: 255,
+    }
+}
+
+// The answer of a reading that is refused: zeros in each room.
+fn cut(
+    tokens: &[u32],
+    nodes: &mut [u32],
+    links: &mut [u32],
+    symbols: &mut [u32],
+    scratch: &mut [u32],
+    why: Refusal,
+) -> Answer
+    requires { ⌜ (why .at < count (now tokens)) × (count (now tokens) ≤ 4096) ⌝ }
+    ensures { λ r. ⌜ Cut (now (tokens .entry)) why (rooms (now (nodes .entry)) (now (links .entry)) (now (symbols .entry)) (now (scratch .entry))) (rooms (now (nodes .exit)) (now (links .exit)) (now (symbols .exit)) (now (scratch .exit))) r ⌝ }
+{
+    clear(nodes, 0);
+    clear(links, 0);
+    clear(symbols, 0);
+    clear(scratch, 0);
+    let at = why.at;
+    let start = start_at(tokens, at);
+    let end = end_at(tokens, at);
+    refused(why.code, at as u32, start, end, why.expected)
+}
+
+// The answer of a call that is let in.
+fn script(
+    text: &[u8],
+    tokens: &[u32],
+    limit: u32,
+    nodes: &mut [u32],
+    links: &mut [u32],
+    symbols: &mut [u32],
+    scratch: &mut [u32],
+) -> Answer
+    requires { ⌜ Let-in (now text) (now tokens) limit (rooms (now nodes) (now links) (now symbols) (now scratch)) ⌝ }
+    ensures { λ r. ⌜ Parsed (now (text .entry)) (now (tokens .entry)) limit (rooms (now (nodes .entry)) (now (links .entry)) (now (symbols .entry)) (now (scratch .entry))) (rooms (now (nodes .exit)) (now (links .exit)) (now (symbols .exit)) (now (scratch .exit))) r ⌝ }
+{
+    let start = Cursor {
+        at: 0,
+        nodes: 0,
+        links: 0,
+        symbols: 0,
+        held: 0,
+    };
+    let read = statements(text, tokens, nodes, links, symbols, scratch, limit, start);
+    match read {
+        Read::Refused(why) => cut(tokens, nodes, links, symbols, scratch, why),
+        Read::Node(_, end) => root(nodes, links, symbols, scratch, end),
+    }
+}
+
+// Reads a script. Refusals 1 to 7 leave the rooms as they are, and 8 to 12 leave zeros throughout; success leaves the script's rows and then zeros, and
+// zeros throughout in `scratch`. Any text, list, limit and rooms have an answer.
+// Ruled out: a row count that is not the tree's; a room that is not zero after a refusal in reading.
+pub fn parse(
+    text: &[u8],
+    tokens: &[u32],
+    limit: u32,
+    nodes: &mut [u32],
+    links: &mut [u32],
+    symbols: &mut [u32],
+    scratch: &mut [u32],
+) -> Answer
+    ensures { λ r. ⌜ Parsed (now (text .entry)) (now (tokens .entry)) limit (rooms (now (nodes .entry)) (now (links .entry)) (now (symbols .entry)) (now (scratch .entry))) (rooms (now (nodes .exit)) (now (links .exit)) (now (symbols .exit)) (now (scratch .exit))) r ⌝ }
+{
+    let entry = check(
+        text,
+        tokens,
+        limit,
+        nodes.len(),
+        links.len(),
+        symbols.len(),
+        scratch.len(),
+    );
+    match entry {
+        Entry::Refused(why) => refused(why.code, why.at, why.start, why.end, 255),
+        Entry::Open => script(text, tokens, limit, nodes, links, symbols, scratch),
+    }
+}
