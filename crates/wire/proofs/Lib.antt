@@ -1,0 +1,5 @@
+pub mod Decimals
+pub mod Fields
+pub mod Lines
+pub mod Scanning
+pub mod Outputs

@@ -1,0 +1,3 @@
+// The bytes that the program `rows` reads and prints.
+pub mod input;
+pub mod output;

@@ -1,0 +1,141 @@
+// The output of the program `rows`: the lines of an answer.
+use diagnostics::text::message;
+use token::display::put;
+ghost use mathlib.Core.List.{[], _∷_};
+ghost use mathlib.Core.Path.{_≡_};
+ghost use Prim.Native.Nat.{_+_, _*_, _≤_, _<_};
+ghost use lib.ListN.{length};
+ghost use Rattle.diagnostics.specs.Message.{text-of};
+ghost use Rattle.grammar.specs.Token.{kind};
+ghost use Rattle.token.specs.Display.{Put};
+ghost use Rattle.wire.specs.Number.{digit as Number·digit, decimal as Number·decimal};
+ghost use Rattle.wire.specs.Printed.{fields, row as Printed·row, rows as Printed·rows, listed as Printed·listed, refused as Printed·refused};
+ghost use Rattle.wire.specs.Lines.{Within, Line, Lines, Listing, line-size};
+
+// A digit.
+fn digit(d: u32, room: &mut [u8], at: usize) -> usize
+    requires { ⌜ (d < 10) × (at < length (now room)) ⌝ }
+    ensures { λ r. ⌜ Put (Number·digit d ∷ []) at (now (room .entry)) (now (room .exit)) r ⌝ }
+{
+    room[at] = 48 + d as u8;
+    at + 1
+}
+
+// A number in decimal.
+fn decimal(n: u32, room: &mut [u8], at: usize) -> usize
+    requires { ⌜ at + length (Number·decimal n) ≤ length (now room) ⌝ }
+    ensures { λ r. ⌜ Put (Number·decimal n) at (now (room .entry)) (now (room .exit)) r ⌝ }
+{
+    if n < 10 {
+        return digit(n, room, at);
+    }
+    let last = decimal(n / 10, room, at);
+    digit(n % 10, room, last)
+}
+
+// Numbers, each after a blank.
+fn numbers(values: &[u32], room: &mut [u8], at: usize) -> usize
+    requires { ⌜ at + 11 * length (now values) ≤ length (now room) ⌝ }
+    ensures { λ r. ⌜ Within (11 * length (now (values .entry))) (fields (now (values .entry))) at (now (room .entry)) (now (room .exit)) r ⌝ }
+{
+    let mut k = at;
+    let mut i = 0;
+    while i < values.len() {
+        let blank = put(b" ", room, k);
+        k = decimal(values[i], room, blank);
+        i += 1;
+    }
+    k
+}
+
+// The line of a row.
+fn row(lead: &[u8], width: usize, source: &[u32], i: usize, room: &mut [u8], at: usize) -> usize
+    requires { ⌜ Line (now lead) width (now source) i (now room) at ⌝ }
+    ensures { λ r. ⌜ Within line-size (Printed·row (now (lead .entry)) width (now (source .entry)) i) at (now (room .entry)) (now (room .exit)) r ⌝ }
+{
+    let from = width * i;
+    let to = from + width;
+    let a = put(lead, room, at);
+    let b = decimal(i as u32, room, a);
+    let c = numbers(&source[from..to], room, b);
+    put(b"\n", room, c)
+}
+
+// The lines of the first n rows.
+fn rows(lead: &[u8], width: usize, source: &[u32], n: usize, room: &mut [u8], at: usize) -> usize
+    requires { ⌜ Lines (now lead) width (now source) n (now room) at ⌝ }
+    ensures { λ r. ⌜ Within (line-size * n) (Printed·rows (now (lead .entry)) width (now (source .entry)) n) at (now (room .entry)) (now (room .exit)) r ⌝ }
+{
+    let mut k = at;
+    let mut i: usize = 0;
+    while i < n {
+        k = row(lead, width, source, i, room, k);
+        i += 1;
+    }
+    k
+}
+
+// What is printed for a success, at the start of a room that has 262,144 bytes.
+// Ruled out: rows that are counted from 1; the counts in another order.
+pub fn listed(
+    nodes: &[u32],
+    links: &[u32],
+    symbols: &[u32],
+    n: u32,
+    l: u32,
+    s: u32,
+    room: &mut [u8],
+) -> usize
+    requires { ⌜ Listing n l s (now nodes) (now links) (now symbols) (now room) ⌝ }
+    ensures { λ r. ⌜ Put (Printed·listed n l s (now (nodes .entry)) (now (links .entry)) (now (symbols .entry))) 0 (now (room .entry)) (now (room .exit)) r ⌝ }
+{
+    let counts = [n, l, s];
+    let a = put(b"ok", room, 0);
+    let b = numbers(&counts, room, a);
+    let c = put(b"\n", room, b);
+    let d = rows(b"", 9, nodes, n as usize, room, c);
+    let e = rows(b"link ", 3, links, l as usize, room, d);
+    rows(b"sym ", 2, symbols, s as usize, room, e)
+}
+
+// The kind of the token at a place; 0 where there is none, whose refusals have no message.
+fn found(tokens: &[u32], at: u32) -> u32
+    ensures { λ r. ⌜ r ≡ kind (now (tokens .entry)) at ⌝ }
+{
+    let i = 3 * (at as usize);
+    if i < tokens.len() {
+        return tokens[i];
+    }
+    0
+}
+
+// The message of a refusal.
+fn told(code: u32, expected: u32, found: u32, room: &mut [u8], at: usize) -> usize
+    requires { ⌜ at + 52 ≤ length (now room) ⌝ }
+    ensures { λ r. ⌜ Put (text-of code expected found) at (now (room .entry)) (now (room .exit)) r ⌝ }
+{
+    let text = message(code, expected, found, &mut room[at..]);
+    at + text.length
+}
+
+// What is printed for a refusal, at the start of a room that has 256 bytes.
+// Ruled out: the line of a message that is empty left out; the message of the token after the place.
+pub fn refused(
+    tokens: &[u32],
+    code: u32,
+    at: u32,
+    start: u32,
+    end: u32,
+    expected: u32,
+    room: &mut [u8],
+) -> usize
+    requires { ⌜ 256 ≤ length (now room) ⌝ }
+    ensures { λ r. ⌜ Put (Printed·refused code at start end expected (kind (now (tokens .entry)) at)) 0 (now (room .entry)) (now (room .exit)) r ⌝ }
+{
+    let place = [code, at, start, end, expected];
+    let a = put(b"refused", room, 0);
+    let b = numbers(&place, room, a);
+    let c = put(b"\n", room, b);
+    let d = told(code, expected, found(tokens, at), room, c);
+    put(b"\n", room, d)
+}
