@@ -1,0 +1,10 @@
+pub mod Stretches
+pub mod Numbers
+pub mod Strings
+pub mod Sorts
+pub mod Signs
+pub mod Standing
+pub mod Making
+pub mod Once
+pub mod Passing
+pub mod Sample

@@ -1,0 +1,4 @@
+-- in the order of reading
+pub mod Reads
+pub mod Parts
+pub mod Lexes

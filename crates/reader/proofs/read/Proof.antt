@@ -1,0 +1,29 @@
+-- `read` meets its contract: the token maker's refusal, or what `parse` answers of the list that it made.
+use borrow.Author.Needs.{needs}
+use native.Mathlib.Omega.{arith}
+use mathlib.Core.Path.{sym}
+use lib.Seq.{length-take-le}
+use Rattle.reader.specs.Answered.{Answers-text}
+use Rattle.reader.proofs.Texts.{made-fits}
+use Rattle.reader.proofs.read.Statement.{statement}
+use Rattle.reader.proofs.read.Tie as tie
+
+returns : tie.Need-returns
+returns c = record { answers = rw (c .refused .ensures) (Answers-text.unmade (c .before .before .before .before .before .lex .ensures) (c .before .if1 .taken)) }
+
+mul-used : tie.Need-mul-used
+mul-used c = omega (arith, made-fits (c .before .before .before .before .before .lex .ensures) (c .before .if1 .left) .1)
+
+slice-reshare-prefix-parse : tie.Need-slice-reshare-prefix-parse
+slice-reshare-prefix-parse c = omega (arith, made-fits (c .before .before .before .before .before .lex .ensures) (c .before .if1 .left) .0)
+
+slice-aggregate-parse : tie.Need-slice-aggregate-parse
+slice-aggregate-parse c = sym (length-take-le _ _ (made-fits (c .before .before .before .before .before .before .lex .ensures) (c .before .before .if1 .left) .0))
+
+returns-2 : tie.Need-returns-2
+returns-2 c = record { answers = Answers-text.made (c .before .before .before .before .before .before .before .before .before .before .before .before .before .before .before .before .before .before .before .lex .ensures) (c .before .before .before .before .before .before .before .before .before .before .before .before .before .before .before .if1 .left) (c .before .before .before .before .before .before .before .before .parse .ensures .answers) }
+
+pub read-spec : {M : Type 1} → statement M
+read-spec =
+    tie.close
+    (tie.spec (λ c κs. search needs) (λ c κs. search needs) (λ c. search needs) returns (λ c. search needs) mul-used slice-reshare-prefix-parse slice-aggregate-parse (λ c κs. search needs) (λ c. search needs) (λ c. search needs) (λ c. search needs) (λ c. search needs) (λ c. search needs) returns-2)

@@ -1,0 +1,29 @@
+// From a script's text to its rows, in one call: the token maker, and `parse` on the list that it makes.
+use lexer::lex;
+use syntax::Answer;
+use syntax::parse;
+use syntax::refused;
+ghost use Rattle.reader.specs.Answered.{Read};
+ghost use Rattle.syntax.specs.Parsed.{rooms};
+
+// Reads a script's text. `list` takes its tokens, three numbers each, and then zeros. Refusals 2, 5, 16 and 1 of the token maker come first and leave the four
+// rooms as they are; then `parse` answers, whose refusals 6 and 7 are never met.
+// Ruled out: an answer of other tokens than those that the text reads as; a room that changes where no list is made.
+pub fn read(
+    text: &[u8],
+    list: &mut [u32],
+    limit: u32,
+    nodes: &mut [u32],
+    links: &mut [u32],
+    symbols: &mut [u32],
+    scratch: &mut [u32],
+) -> Answer
+    ensures { λ r. ⌜ Read (now (text .entry)) limit (now (list .entry)) (now (list .exit)) (rooms (now (nodes .entry)) (now (links .entry)) (now (symbols .entry)) (now (scratch .entry))) (rooms (now (nodes .exit)) (now (links .exit)) (now (symbols .exit)) (now (scratch .exit))) r ⌝ }
+{
+    let made = lex(text, list);
+    if made.code != 0 {
+        return refused(made.code, made.at, made.start, made.end, made.expected);
+    }
+    let used = 3 * (made.count as usize);
+    parse(text, &list[..used], limit, nodes, links, symbols, scratch)
+}
