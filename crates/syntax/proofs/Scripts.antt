@@ -3,9 +3,9 @@
 use Prim.Native.Nat.{ℕ, _+_, _-_, _*_, _/_, _≤_, _<_}
 use native.Mathlib.Decide.{ℕ-discrete}
 use native.Mathlib.Omega.{arith}
-use mathlib.Core.List.{List, [], _∷_, _++_}
+use mathlib.Core.List.{List, [], _∷_}
 use mathlib.Core.Path.{_≡_, refl, sym, ap, subst, _∙_}
-use lib.ListN.{length, take, replicate}
+use lib.ListN.{length, take}
 use Rattle.ast.specs.Inserted.{Inserted}
 use Rattle.ast.specs.Written.{Written, Cleared}
 use Rattle.ast.specs.declared.Node.{Node}
@@ -14,10 +14,9 @@ use Rattle.door.specs.Entry.{Case, Entered}
 use Rattle.door.specs.declared.Entry.{Entry}
 use Rattle.door.specs.declared.Refusal.{Refusal as Turned}
 use Rattle.grammar.specs.Answer.{success, rooms-cleared, rooms-filled, Answers}
-use Rattle.grammar.specs.Door.{Admitted}
 use Rattle.grammar.specs.Float.{seen}
 use Rattle.grammar.specs.Handle.{absent}
-use Rattle.grammar.specs.Kaori.{kaori, script, script-items, Script}
+use Rattle.grammar.specs.Kaori.{script, script-items, Script}
 use Rattle.grammar.specs.Kind.{Eof}
 use Rattle.grammar.specs.Label.{Label}
 use Rattle.grammar.specs.Outcome.{Comes}
@@ -31,13 +30,13 @@ use Rattle.grammar.proofs.Outcomes.{ends-at-eof}
 use Rattle.interner.proofs.Grown.{empty-table}
 use Rattle.parser.specs.Answers.{Listed, List-case, Lists}
 use Rattle.parser.specs.Reading.{refusal, Refusing}
-use Rattle.parser.specs.State.{State, state, Lent, Within, Ready}
+use Rattle.parser.specs.State.{State, state, Lent, Ready}
 use Rattle.parser.specs.declared.Cursor.{Cursor}
 use Rattle.parser.specs.declared.Read.{Read}
 use Rattle.parser.specs.declared.Refusal.{Refusal}
 use Rattle.parser.proofs.Gathering.{first-link}
 use Rattle.parser.proofs.Laws.{sees-not}
-use Rattle.syntax.specs.Parsed.{numbers, rooms, call, Parsed, Let-in, turned-numbers, refused-numbers, Cut, with-root, Fitting, Rooted}
+use Rattle.syntax.specs.Parsed.{numbers, rooms, Parsed, Let-in, turned-numbers, refused-numbers, Cut, with-root, Fitting, Rooted}
 use Rattle.syntax.specs.declared.Answer.{Answer}
 
 -- a room that is cleared from its start

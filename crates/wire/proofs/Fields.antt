@@ -1,17 +1,17 @@
 -- Numbers after blanks, one more at a time, and lines of rows.
-use Prim.Native.Nat.{ℕ, suc, _+_, _*_, _^_, _≤_, _<_}
+use Prim.Native.Nat.{ℕ, _+_, _*_, _^_, _<_}
 use native.Mathlib.Numerals.{add-one}
 use native.Mathlib.Omega.{arith}
 use mathlib.Core.List.{List, [], _∷_, _++_, append-assoc, append-nil}
-use mathlib.Core.Path.{_≡_, refl, sym, ap, _∙_}
-use lib.ListN.{length, getD, take, drop}
+use mathlib.Core.Path.{_≡_, sym, ap, _∙_}
+use lib.ListN.{length, getD, take}
 use lib.Seq.{take-suc, take-all}
 use Rattle.token.specs.Display.{Put}
 use Rattle.token.proofs.display.Writing.{nothing, joined}
 use Rattle.wire.specs.Lines.{Within}
 use Rattle.wire.specs.Number.{decimal}
 use Rattle.wire.proofs.Decimals.{decimal-short}
-use Rattle.wire.specs.Printed.{fields, row, rows}
+use Rattle.wire.specs.Printed.{fields, rows}
 
 fields-more : (xs : List ℕ) (x : ℕ) → fields (xs ++ (x ∷ [])) ≡ fields xs ++ (32 ∷ decimal x)
 unfolding fields

@@ -1,15 +1,14 @@
 -- Lines: that of a row from its parts, one row more, and the message of a refusal in a part of a room.
-use Prim.Native.Nat.{ℕ, suc, _+_, _-_, _*_, _^_, _≤_, _<_}
+use Prim.Native.Nat.{ℕ, _+_, _-_, _*_, _≤_, _<_}
 use native.Mathlib.Nat.{mul-suc, mul-le-mul-left, add-sub-cancel-left}
 use native.Mathlib.Numerals.{add-one}
 use native.Mathlib.Omega.{arith}
-use mathlib.Core.List.{List, [], _∷_, _++_, append-assoc, append-nil}
+use mathlib.Core.List.{List, [], _++_, append-assoc, append-nil}
 use mathlib.Core.Path.{_≡_, refl, sym, ap, _∙_}
-use lib.ListN.{length, getD, take, drop, length-take, length-drop, length-append, drop-of-length-le}
+use lib.ListN.{length, take, drop, length-take, length-drop, length-append, drop-of-length-le}
 use lib.Seq.{take-all, take-at, drop-at, drop-drop, length-take-le}
 use Rattle.diagnostics.specs.Message.{text-of, Written}
 use Rattle.diagnostics.specs.declared.Message.{Message}
-use Rattle.diagnostics.proofs.Messages.{text-fits}
 use Rattle.token.specs.Display.{Put}
 use Rattle.token.proofs.display.Writing.{nothing, joined}
 use Rattle.wire.specs.Lines.{Within, Line, line-size}

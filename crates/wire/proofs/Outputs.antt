@@ -7,7 +7,7 @@ use native.Mathlib.Omega.{arith}
 use mathlib.Core.List.{List, [], _∷_, _++_}
 use mathlib.Core.Path.{_≡_, refl, sym, ap, _∙_}
 use borrow.Author.Tests.{eq-eqb, ne-eqb}
-use lib.ListN.{length, getD, replicate, length-append, length-take, length-replicate, getD-replicate, List·getD-eq-default}
+use lib.ListN.{length, replicate, length-append, length-take, length-replicate, getD-replicate, List·getD-eq-default}
 use Rattle.grammar.specs.Answer.{Answer, Answers}
 use Rattle.grammar.specs.Pattern.{bytes}
 use Rattle.grammar.specs.Call.{Call}
@@ -16,7 +16,7 @@ use Rattle.grammar.specs.Token.{kind}
 use Rattle.grammar.proofs.Answers.{one-answer}
 use Rattle.token.specs.Display.{Put}
 use Rattle.token.proofs.display.Writing.{one-room}
-use Rattle.wire.specs.Input.{Marked, Token-record, Holds, Broken}
+use Rattle.wire.specs.Input.{Holds, Broken}
 use Rattle.wire.specs.Number.{decimal, digits}
 use Rattle.wire.specs.Output.{call, Outputs, Blank, Answered}
 use Rattle.wire.specs.Printed.{fields, row, rows, listed, refused, printed}

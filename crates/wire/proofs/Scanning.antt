@@ -1,6 +1,6 @@
 -- Inputs. What an input holds has the form that the code measures, so an input that has no such form is bad; and an input of that form, with its tokens
 -- written into a list, holds them. An input holds one text and one list at most: its bytes say every number of both.
-use Prim.Native.Nat.{ℕ, zero, suc, _+_, _-_, _*_, _/_, _%_, _≤_, _<_}
+use Prim.Native.Nat.{ℕ, _+_, _-_, _*_, _/_, _%_, _≤_, _<_}
 use native.Mathlib.Decide.{ℕ-discrete}
 use native.Mathlib.Omega.{arith}
 use mathlib.Core.List.{List}

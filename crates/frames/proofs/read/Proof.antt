@@ -4,64 +4,46 @@ use borrow.Author.Needs.{needs}
 use lib.Seq.{length-take-le}
 use Rattle.frames.proofs.read.Statement.{statement}
 use Rattle.frames.proofs.read.Tie as tie
-use Rattle.frames.proofs.read.Reads as reads
-use Rattle.frames.proofs.read.Lts as lts
-use Rattle.io.proofs.read_full.Reads as read-full-reads
-use Rattle.wire.proofs.input.four.Reads as four-reads
 
--- src/lib.rt:17:32
 slice-aggregate-read-full : tie.Need-slice-aggregate-read-full
 slice-aggregate-read-full c = search needs
 
--- src/lib.rt:17:9
 read-full-requires : tie.Need-read-full-requires
 read-full-requires c κs = search needs
 
--- src/lib.rt:19:9
 returns : tie.Need-returns
 returns c = search needs
 
--- src/lib.rt:21:21
 slice-aggregate-four : tie.Need-slice-aggregate-four
 slice-aggregate-four c = search needs
 
--- src/lib.rt:21:16
 four-requires : tie.Need-four-requires
 four-requires c κs = search needs
 
--- src/lib.rt:21:16
 cast-size : tie.Need-cast-size
 cast-size c = search needs
 
--- src/lib.rt:23:9
 returns-2 : tie.Need-returns-2
 returns-2 c = search needs
 
--- src/lib.rt:25:32
 slice-relend-prefix-read-full : tie.Need-slice-relend-prefix-read-full
 slice-relend-prefix-read-full c = search needs
 
--- src/lib.rt:25:32
 slice-aggregate-read-full-2 : tie.Need-slice-aggregate-read-full-2
 slice-aggregate-read-full-2 c = sym (length-take-le (c .before .before .four .result) (c .before .before .before .before .before .before .before .before .before .args .room .now) (search needs))
 
--- src/lib.rt:25:9
 read-full-requires-2 : tie.Need-read-full-requires-2
 read-full-requires-2 c κs = search needs
 
--- src/lib.rt:27:9
 same-length : tie.Need-same-length
 same-length c = search needs
 
--- src/lib.rt:27:9
 returns-3 : tie.Need-returns-3
 returns-3 c = search needs
 
--- src/lib.rt:13:1
 same-length-2 : tie.Need-same-length-2
 same-length-2 c = search needs
 
--- src/lib.rt:13:1
 returns-4 : tie.Need-returns-4
 returns-4 c = search needs
 

@@ -5,13 +5,6 @@ use mathlib.Core.Path.{_≡_}
 use lib.ListN.{length}
 use Rattle.replay.proofs.main.Statement.{statement}
 use Rattle.replay.proofs.main.Tie as tie
-use Rattle.replay.proofs.main.Reads as reads
-use Rattle.replay.proofs.main.Lts as lts
-use Rattle.io.proofs.large_buffer.Reads as large-buffer-reads
-use Rattle.io.proofs.print_decimal.Reads as print-decimal-reads
-use Rattle.io.proofs.write_all.Reads as write-all-reads
-use Rattle.listing.proofs.blank.Reads as blank-reads
-use Rattle.replay.proofs.turn.Reads as turn-reads
 
 abbrev Inv-cases : tie.InvT-cases
 Inv-cases case₀ given₀ out₀ agree₀ all₀ t7 t8 case given out agree all = (65536 ≡ length case) × (262144 ≡ length given) × (262144 ≡ length out) × (agree ≤ all) × (all ≤ 1000000)
@@ -19,79 +12,60 @@ Inv-cases case₀ given₀ out₀ agree₀ all₀ t7 t8 case given out agree all
 abbrev μ-cases : tie.MeasureT-cases
 μ-cases case₀ given₀ out₀ agree₀ all₀ t7 t8 case given out agree all = 1000000 - all
 
--- src/main.rt:32:20
 large-buffer-requires : tie.Need-large-buffer-requires Inv-cases μ-cases
 large-buffer-requires c κs = search needs
 
--- src/main.rt:33:21
 blank-requires : tie.Need-blank-requires Inv-cases μ-cases
 blank-requires c κs = search needs
 
--- src/main.rt:34:19
 blank-requires-2 : tie.Need-blank-requires-2 Inv-cases μ-cases
 blank-requires-2 c κs = search needs
 
--- src/main.rt:37:5
 cases-holds : tie.Need-cases-holds Inv-cases μ-cases
 cases-holds c = search needs
 
--- src/main.rt:38:26
 slice-aggregate-turn : tie.Need-slice-aggregate-turn Inv-cases μ-cases
 slice-aggregate-turn c = search needs
 
--- src/main.rt:38:37
 slice-aggregate-turn-2 : tie.Need-slice-aggregate-turn-2 Inv-cases μ-cases
 slice-aggregate-turn-2 c = search needs
 
--- src/main.rt:38:49
 slice-aggregate-turn-3 : tie.Need-slice-aggregate-turn-3 Inv-cases μ-cases
 slice-aggregate-turn-3 c = search needs
 
--- src/main.rt:38:13
 turn-requires : tie.Need-turn-requires Inv-cases μ-cases
 turn-requires c κs = search needs
 
--- src/main.rt:42:9
 add-agree : tie.Need-add-agree Inv-cases μ-cases
 add-agree c = search needs
 
--- src/main.rt:43:9
 add-all : tie.Need-add-all Inv-cases μ-cases
 add-all c = search needs
 
--- src/main.rt:37:5
 cases-less : tie.Need-cases-less Inv-cases μ-cases
 cases-less c = search needs
 
--- src/main.rt:37:5
 cases-again : tie.Need-cases-again Inv-cases μ-cases
 cases-again c = search needs
 
--- src/main.rt:45:5
 print-decimal-requires : tie.Need-print-decimal-requires Inv-cases μ-cases
 print-decimal-requires c κs = search needs
 
--- src/main.rt:46:22
 slice-aggregate-write-all : tie.Need-slice-aggregate-write-all Inv-cases μ-cases
 slice-aggregate-write-all c = search needs
 
--- src/main.rt:46:5
 write-all-requires : tie.Need-write-all-requires Inv-cases μ-cases
 write-all-requires c κs = search needs
 
--- src/main.rt:47:5
 print-decimal-requires-2 : tie.Need-print-decimal-requires-2 Inv-cases μ-cases
 print-decimal-requires-2 c κs = search needs
 
--- src/main.rt:48:22
 slice-aggregate-write-all-2 : tie.Need-slice-aggregate-write-all-2 Inv-cases μ-cases
 slice-aggregate-write-all-2 c = search needs
 
--- src/main.rt:48:5
 write-all-requires-2 : tie.Need-write-all-requires-2 Inv-cases μ-cases
 write-all-requires-2 c κs = search needs
 
--- src/main.rt:31:1
 returns : tie.Need-returns Inv-cases μ-cases
 returns c = search needs
 

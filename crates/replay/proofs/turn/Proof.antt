@@ -6,117 +6,85 @@ use Rattle.wire.proofs.Outputs.{inside}
 use borrow.Author.Needs.{needs}
 use Rattle.replay.proofs.turn.Statement.{statement}
 use Rattle.replay.proofs.turn.Tie as tie
-use Rattle.replay.proofs.turn.Reads as reads
-use Rattle.replay.proofs.turn.Lts as lts
-use Rattle.check.proofs.same.Reads as same-reads
-use Rattle.frames.proofs.read.Reads as read-reads
-use Rattle.listing.proofs.answer.Reads as answer-reads
 
--- src/main.rt:15:9
 read-requires : tie.Need-read-requires
 read-requires c κs = search needs
 
--- src/main.rt:16:22
 enum-known-first : tie.Need-enum-known-first
 enum-known-first c = search needs
 
--- src/main.rt:17:9
 enum-told : tie.Need-enum-told
 enum-told c = search needs
 
--- src/main.rt:17:9
 same-length : tie.Need-same-length
 same-length c = search needs
 
--- src/main.rt:17:9
 returns : tie.Need-returns
 returns c = search needs
 
--- src/main.rt:19:9
 read-requires-2 : tie.Need-read-requires-2
 read-requires-2 c κs = search needs
 
--- src/main.rt:20:22
 enum-known-second : tie.Need-enum-known-second
 enum-known-second c = search needs
 
--- src/main.rt:21:9
 enum-told-2 : tie.Need-enum-told-2
 enum-told-2 c = search needs
 
--- src/main.rt:21:9
 same-length-2 : tie.Need-same-length-2
 same-length-2 c = search needs
 
--- src/main.rt:21:9
 same-length-3 : tie.Need-same-length-3
 same-length-3 c = search needs
 
--- src/main.rt:21:9
 returns-2 : tie.Need-returns-2
 returns-2 c = search needs
 
--- src/main.rt:23:20
 slice-reshare-prefix-answer : tie.Need-slice-reshare-prefix-answer
 slice-reshare-prefix-answer c = framed (c .before .before .before .before .before .before .before .before .first .given .1) (c .before .before .before .before .before .before .before .before .before .before .before .before .read .ensures)
 
--- src/main.rt:23:20
 slice-aggregate-answer : tie.Need-slice-aggregate-answer
 slice-aggregate-answer c = sym (length-take-le _ _ (framed (c .before .before .before .before .before .before .before .before .before .first .given .1) (c .before .before .before .before .before .before .before .before .before .before .before .before .before .read .ensures)))
 
--- src/main.rt:23:9
 answer-requires : tie.Need-answer-requires
 answer-requires c κs = search needs
 
--- src/main.rt:24:13
 slice-reshare-prefix-same : tie.Need-slice-reshare-prefix-same
 slice-reshare-prefix-same c = inside (c .before .before .answer .ensures)
 
--- src/main.rt:24:13
 slice-aggregate-same : tie.Need-slice-aggregate-same
 slice-aggregate-same c = sym (length-take-le _ _ (inside (c .before .before .before .answer .ensures)))
 
--- src/main.rt:24:24
 slice-reshare-prefix-same-2 : tie.Need-slice-reshare-prefix-same-2
 slice-reshare-prefix-same-2 c = framed (c .before .before .before .before .before .before .before .second .given .1) (c .before .before .before .before .before .before .before .before .before .before .before .read2 .ensures)
 
--- src/main.rt:24:24
 slice-aggregate-same-2 : tie.Need-slice-aggregate-same-2
 slice-aggregate-same-2 c = sym (length-take-le _ _ (framed (c .before .before .before .before .before .before .before .before .second .given .1) (c .before .before .before .before .before .before .before .before .before .before .before .before .read2 .ensures)))
 
--- src/main.rt:24:8
 same-requires : tie.Need-same-requires
 same-requires c κs = search needs
 
--- src/main.rt:25:9
 same-length-4 : tie.Need-same-length-4
 same-length-4 c = search needs
 
--- src/main.rt:25:9
 same-length-5 : tie.Need-same-length-5
 same-length-5 c = search needs
 
--- src/main.rt:25:9
 same-length-6 : tie.Need-same-length-6
 same-length-6 c = search needs
 
--- src/main.rt:25:9
 returns-3 : tie.Need-returns-3
 returns-3 c = search needs
 
--- src/main.rt:11:1
 same-length-7 : tie.Need-same-length-7
 same-length-7 c = search needs
 
--- src/main.rt:11:1
 same-length-8 : tie.Need-same-length-8
 same-length-8 c = search needs
 
--- src/main.rt:11:1
 same-length-9 : tie.Need-same-length-9
 same-length-9 c = search needs
 
--- src/main.rt:11:1
 returns-4 : tie.Need-returns-4
 returns-4 c = search needs
 

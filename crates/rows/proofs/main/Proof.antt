@@ -1,64 +1,44 @@
 -- `rows::main` is safe and ends: the answer lies in its room.
-use native.Mathlib.Omega.{arith}
 use mathlib.Core.Path.{sym}
 use lib.Seq.{length-take-le}
 use Rattle.wire.proofs.Outputs.{inside}
 use borrow.Author.Needs.{needs}
 use Rattle.rows.proofs.main.Statement.{statement}
 use Rattle.rows.proofs.main.Tie as tie
-use Rattle.rows.proofs.main.Reads as reads
-use Rattle.rows.proofs.main.Lts as lts
-use Rattle.io.proofs.large_buffer.Reads as large-buffer-reads
-use Rattle.io.proofs.read_full.Reads as read-full-reads
-use Rattle.io.proofs.write_all.Reads as write-all-reads
-use Rattle.listing.proofs.answer.Reads as answer-reads
-use Rattle.listing.proofs.blank.Reads as blank-reads
 
--- src/main.rt:7:21
 large-buffer-requires : tie.Need-large-buffer-requires
 large-buffer-requires c κs = search needs
 
--- src/main.rt:8:19
 blank-requires : tie.Need-blank-requires
 blank-requires c κs = search needs
 
--- src/main.rt:9:30
 slice-aggregate-read-full : tie.Need-slice-aggregate-read-full
 slice-aggregate-read-full c = search needs
 
--- src/main.rt:9:9
 read-full-requires : tie.Need-read-full-requires
 read-full-requires c κs = search needs
 
--- src/main.rt:10:20
 array-share-prefix-input : tie.Need-array-share-prefix-input
 array-share-prefix-input c = search needs
 
--- src/main.rt:10:20
 slice-aggregate-answer : tie.Need-slice-aggregate-answer
 slice-aggregate-answer c = search needs
 
--- src/main.rt:10:33
 slice-aggregate-answer-2 : tie.Need-slice-aggregate-answer-2
 slice-aggregate-answer-2 c = search needs
 
--- src/main.rt:10:9
 answer-requires : tie.Need-answer-requires
 answer-requires c κs = search needs
 
--- src/main.rt:11:22
 array-share-prefix-out : tie.Need-array-share-prefix-out
 array-share-prefix-out c = inside (c .before .answer .ensures)
 
--- src/main.rt:11:22
 slice-aggregate-write-all : tie.Need-slice-aggregate-write-all
 slice-aggregate-write-all c = sym (length-take-le _ _ (inside (c .before .before .answer .ensures)))
 
--- src/main.rt:11:5
 write-all-requires : tie.Need-write-all-requires
 write-all-requires c κs = search needs
 
--- src/main.rt:6:1
 returns : tie.Need-returns
 returns c = search needs
 

@@ -1,6 +1,5 @@
 -- The answer of a call that is let in: that of its statements' refusal, or of the script that they are.
 use borrow.Author.Needs.{needs}
-use native.Mathlib.Omega.{arith}
 use Rattle.syntax.proofs.Scripts.{ready, lent, refused-told, refused-at, refused-answer, listed-told, fitting, accepted-answer}
 use Rattle.syntax.proofs.script.Statement.{statement}
 use Rattle.syntax.proofs.script.Tie as tie

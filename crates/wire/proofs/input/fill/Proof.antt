@@ -1,17 +1,14 @@
 use borrow.Author.Needs.{needs}
 -- `wire::input::fill` meets its contract: the tokens up to i are written.
-use Prim.Native.Nat.{ℕ, _+_, _-_, _*_, _≤_, _<_}
+use Prim.Native.Nat.{ℕ, _+_, _-_, _*_, _≤_}
 use native.Mathlib.Omega.{arith}
 use mathlib.Core.List.{List}
 use mathlib.Core.Path.{_≡_, refl}
 use lib.ListN.{length, length-set}
-use Rattle.wire.proofs.Scanning.{filled-none, filled-more}
+use Rattle.wire.proofs.Scanning.{filled-more}
 use Rattle.wire.specs.Scanned.{Filled}
 use Rattle.wire.proofs.input.fill.Statement.{statement}
 use Rattle.wire.proofs.input.fill.Tie as tie
-use Rattle.wire.proofs.input.fill.Reads as reads
-use Rattle.wire.proofs.input.fill.Lts as lts
-use Rattle.wire.proofs.input.four.Reads as four-reads
 
 record Going (input : List ℕ) (from n : ℕ) (before after : List ℕ) (i : ℕ) : Type 0 where
   within : i ≤ n
@@ -24,99 +21,75 @@ Inv-loop input from n tokens₀ i₀ tokens i = Going input from n tokens₀ tok
 abbrev μ-loop : tie.MeasureT-loop
 μ-loop input from n tokens₀ i₀ tokens i = n - i
 
--- src/input.rt:89:5
 loop-holds : tie.Need-loop-holds Inv-loop μ-loop
 loop-holds c = search needs
 
--- src/input.rt:90:25
 mul-at : tie.Need-mul-at Inv-loop μ-loop
 mul-at c = search needs
 
--- src/input.rt:90:18
 add-at : tie.Need-add-at Inv-loop μ-loop
 add-at c = search needs
 
--- src/input.rt:91:31
 add-tokens : tie.Need-add-tokens Inv-loop μ-loop
 add-tokens c = search needs
 
--- src/input.rt:91:25
 shared-slice-read-tokens : tie.Need-shared-slice-read-tokens Inv-loop μ-loop
 shared-slice-read-tokens c = search needs
 
--- src/input.rt:91:25
 cast-tokens : tie.Need-cast-tokens Inv-loop μ-loop
 cast-tokens c = omega (arith, c .shared-slice-known2 .given (c .before .before .before .before .before .args .from + 11 * c .before .before .loop .i + 2))
 
--- src/input.rt:91:16
 mul-tokens : tie.Need-mul-tokens Inv-loop μ-loop
 mul-tokens c = search needs
 
--- src/input.rt:91:9
 mul-tokens-2 : tie.Need-mul-tokens-2 Inv-loop μ-loop
 mul-tokens-2 c = search needs
 
--- src/input.rt:91:9
 slice-write-tokens : tie.Need-slice-write-tokens Inv-loop μ-loop
 slice-write-tokens c = search needs
 
--- src/input.rt:92:41
 add-four : tie.Need-add-four Inv-loop μ-loop
 add-four c = search needs
 
--- src/input.rt:92:29
 four-requires : tie.Need-four-requires Inv-loop μ-loop
 four-requires c κs = search needs
 
--- src/input.rt:92:16
 mul-tokens-3 : tie.Need-mul-tokens-3 Inv-loop μ-loop
 mul-tokens-3 c = search needs
 
--- src/input.rt:92:16
 add-tokens-2 : tie.Need-add-tokens-2 Inv-loop μ-loop
 add-tokens-2 c = search needs
 
--- src/input.rt:92:9
 mul-tokens-4 : tie.Need-mul-tokens-4 Inv-loop μ-loop
 mul-tokens-4 c = search needs
 
--- src/input.rt:92:9
 slice-write-tokens-2 : tie.Need-slice-write-tokens-2 Inv-loop μ-loop
 slice-write-tokens-2 c = simp length-set (omega arith)
 
--- src/input.rt:93:41
 add-four-2 : tie.Need-add-four-2 Inv-loop μ-loop
 add-four-2 c = search needs
 
--- src/input.rt:93:29
 four-requires-2 : tie.Need-four-requires-2 Inv-loop μ-loop
 four-requires-2 c κs = search needs
 
--- src/input.rt:93:16
 mul-tokens-5 : tie.Need-mul-tokens-5 Inv-loop μ-loop
 mul-tokens-5 c = search needs
 
--- src/input.rt:93:16
 add-tokens-3 : tie.Need-add-tokens-3 Inv-loop μ-loop
 add-tokens-3 c = search needs
 
--- src/input.rt:93:9
 mul-tokens-6 : tie.Need-mul-tokens-6 Inv-loop μ-loop
 mul-tokens-6 c = search needs
 
--- src/input.rt:93:9
 slice-write-tokens-3 : tie.Need-slice-write-tokens-3 Inv-loop μ-loop
 slice-write-tokens-3 c = simp length-set (omega arith)
 
--- src/input.rt:94:9
 add-i : tie.Need-add-i Inv-loop μ-loop
 add-i c = search needs
 
--- src/input.rt:89:5
 loop-less : tie.Need-loop-less Inv-loop μ-loop
 loop-less c = search needs
 
--- src/input.rt:89:5
 loop-again : tie.Need-loop-again Inv-loop μ-loop
 loop-again c =
     let start = c .before .before .before .before .before .before .before in
@@ -127,11 +100,9 @@ loop-again c =
       so-far = filled-more (turn .inv .so-far) (omega arith) (start .pre .0 .marked (turn .i) (search needs)) refl (c .before .four .ensures) (c .four2 .ensures);
     }
 
--- src/input.rt:84:1
 same-length : tie.Need-same-length Inv-loop μ-loop
 same-length c = search needs
 
--- src/input.rt:84:1
 returns : tie.Need-returns Inv-loop μ-loop
 returns c =
     let all : c .before .loop .i ≡ c .before .before .before .before .args .n = omega arith in

@@ -1,16 +1,13 @@
 use borrow.Author.Needs.{needs}
 -- `wire::input::marked` meets its contract: the records up to i have their marks.
-use Prim.Native.Nat.{ℕ, _+_, _-_, _*_, _≤_, _<_}
+use Prim.Native.Nat.{_-_, _≤_}
 use native.Mathlib.Omega.{arith}
 use mathlib.Core.Path.{_≡_}
 use Rattle.token.proofs.Deciding.{holds, fails}
-use Rattle.wire.proofs.Scanning.{marks-none, marks-more}
-use Rattle.wire.specs.Input.{Marked}
+use Rattle.wire.proofs.Scanning.{marks-more}
 use Rattle.wire.specs.Scanned.{Marks}
 use Rattle.wire.proofs.input.marked.Statement.{statement}
 use Rattle.wire.proofs.input.marked.Tie as tie
-use Rattle.wire.proofs.input.marked.Reads as reads
-use Rattle.wire.proofs.input.marked.Lts as lts
 
 abbrev Inv-loop : tie.InvT-loop
 Inv-loop input from n i₀ i = (i ≤ n) × Marks input from i
@@ -18,51 +15,39 @@ Inv-loop input from n i₀ i = (i ≤ n) × Marks input from i
 abbrev μ-loop : tie.MeasureT-loop
 μ-loop input from n i₀ i = n - i
 
--- src/input.rt:33:5
 loop-holds : tie.Need-loop-holds Inv-loop μ-loop
 loop-holds c = search needs
 
--- src/input.rt:34:25
 mul-at : tie.Need-mul-at Inv-loop μ-loop
 mul-at c = search needs
 
--- src/input.rt:34:18
 add-at : tie.Need-add-at Inv-loop μ-loop
 add-at c = search needs
 
--- src/input.rt:35:12
 shared-slice-read-if1 : tie.Need-shared-slice-read-if1 Inv-loop μ-loop
 shared-slice-read-if1 c = search needs
 
--- src/input.rt:36:13
 returns : tie.Need-returns Inv-loop μ-loop
 returns c = fails (λ m. c .if1 .taken (m .marked (c .before .before .before .loop .i) (search needs) .first))
 
--- src/input.rt:38:18
 add-if2 : tie.Need-add-if2 Inv-loop μ-loop
 add-if2 c = search needs
 
--- src/input.rt:38:12
 shared-slice-read-if2 : tie.Need-shared-slice-read-if2 Inv-loop μ-loop
 shared-slice-read-if2 c = search needs
 
--- src/input.rt:39:13
 returns-2 : tie.Need-returns-2 Inv-loop μ-loop
 returns-2 c = fails (λ m. c .if2 .taken (m .marked (c .before .before .before .before .before .loop .i) (search needs) .next))
 
--- src/input.rt:41:9
 add-i : tie.Need-add-i Inv-loop μ-loop
 add-i c = search needs
 
--- src/input.rt:33:5
 loop-less : tie.Need-loop-less Inv-loop μ-loop
 loop-less c = search needs
 
--- src/input.rt:33:5
 loop-again : tie.Need-loop-again Inv-loop μ-loop
 loop-again c = (search needs, marks-more (c .before .before .before .before .before .loop .inv .1) (record { first = search needs; next = search needs }))
 
--- src/input.rt:28:1
 returns-3 : tie.Need-returns-3 Inv-loop μ-loop
 returns-3 c =
     let all : c .before .loop .i ≡ c .before .before .args .n = omega arith in

@@ -8,68 +8,49 @@ use Rattle.wire.proofs.Scanning.{bad, sized}
 use borrow.Author.Needs.{needs}
 use Rattle.wire.proofs.input.scan.Statement.{statement}
 use Rattle.wire.proofs.input.scan.Tie as tie
-use Rattle.wire.proofs.input.scan.Reads as reads
-use Rattle.wire.proofs.input.scan.Lts as lts
-use Rattle.wire.proofs.input.four.Reads as four-reads
-use Rattle.wire.proofs.input.marked.Reads as marked-reads
 
--- src/input.rt:52:9
 returns : tie.Need-returns
 returns c = bad (λ size n m. omega (arith, m .ends))
 
--- src/input.rt:54:8
 shared-slice-read-if2 : tie.Need-shared-slice-read-if2
 shared-slice-read-if2 c = search needs
 
--- src/input.rt:55:9
 returns-2 : tie.Need-returns-2
 returns-2 c = bad (λ size n m. c .if2 .taken (m .marked .first))
 
--- src/input.rt:57:8
 shared-slice-read-if3 : tie.Need-shared-slice-read-if3
 shared-slice-read-if3 c = search needs
 
--- src/input.rt:58:9
 returns-3 : tie.Need-returns-3
 returns-3 c = bad (λ size n m. c .if3 .taken (m .marked .next))
 
--- src/input.rt:60:16
 four-requires : tie.Need-four-requires
 four-requires c κs = search needs
 
--- src/input.rt:60:16
 cast-size : tie.Need-cast-size
 cast-size c = search needs
 
--- src/input.rt:62:9
 returns-4 : tie.Need-returns-4
 returns-4 c = bad (λ size n m. omega (arith, m .size-is, m .most-bytes, c .before .four .ensures))
 
--- src/input.rt:64:16
 add-from : tie.Need-add-from
 add-from c = search needs
 
--- src/input.rt:66:9
 returns-5 : tie.Need-returns-5
 returns-5 c = bad (λ size n m. omega (arith, m .size-is, m .ends, c .before .before .four .ensures))
 
--- src/input.rt:68:16
 sub-left : tie.Need-sub-left
 sub-left c = search needs
 
--- src/input.rt:71:9
 returns-6 : tie.Need-returns-6
 returns-6 c = bad (λ size n m. omega (arith, m .size-is, m .ends, c .before .before .before .four .ensures))
 
--- src/input.rt:74:9
 returns-7 : tie.Need-returns-7
 returns-7 c = bad (λ size n m. omega (arith, m .size-is, m .ends, m .most-tokens, c .before .before .before .before .four .ensures))
 
--- src/input.rt:76:8
 marked-requires : tie.Need-marked-requires
 marked-requires c κs = search needs
 
--- src/input.rt:77:9
 returns-8 : tie.Need-returns-8
 returns-8 c =
     sized
@@ -82,7 +63,6 @@ returns-8 c =
       marks = held (rw (c .if8 .taken) at (c .before .marked .ensures));
     })
 
--- src/input.rt:48:1
 returns-9 : tie.Need-returns-9
 returns-9 c =
     let read = c .before .before .before .before .before .before .four in

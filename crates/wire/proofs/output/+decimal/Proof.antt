@@ -24,7 +24,6 @@ decimal-at t = and 1 decimal-kinds.ps (is 1 decimal-kinds.ps μ-decimal t) decim
 abbrev decimal-below : ℕ → In 1 decimal-kinds.ps
 decimal-below t = and 1 decimal-kinds.ps (falls 1 decimal-kinds.ps _<_ μ-decimal t) decimal.Pre
 
--- src/output.rt:30:9
 decimal-digit-requires : (t : ℕ) → decimal-lts.Need-digit-requires (
   digit-reads.Asked,
   digit-reads.Learnt,
@@ -35,7 +34,6 @@ decimal-digit-requires t c κs =
     let start = c .before .before .before in
     (search needs, omega (arith, ap length (decimal-one (start .args .n) (search needs))))
 
--- src/output.rt:30:9
 decimal-same-length : (t : ℕ) → decimal-lts.Need-same-length (
   digit-reads.Asked,
   digit-reads.Learnt,
@@ -44,7 +42,6 @@ decimal-same-length : (t : ℕ) → decimal-lts.Need-same-length (
 ) (decimal-at t) decimal.Post
 decimal-same-length t c = search needs
 
--- src/output.rt:30:9
 decimal-returns : (t : ℕ) → decimal-lts.Need-returns (
   digit-reads.Asked,
   digit-reads.Learnt,
@@ -55,7 +52,6 @@ decimal-returns t c =
     let start = c .before .before .before .before .before .before in
     rw (decimal-one (start .args .n) (search needs)) (c .before .before .digit .ensures)
 
--- src/output.rt:32:9
 decimal-decimal-requires : (t : ℕ) → decimal-lts.Need-decimal-requires (
   digit-reads.Asked,
   digit-reads.Learnt,
@@ -66,7 +62,6 @@ decimal-decimal-requires t c κs =
     let start = c .before .before .before in
     (omega arith, omega (arith, longer (start .args .n) (search needs)))
 
--- src/output.rt:33:5
 decimal-digit-requires-2 : (t : ℕ) → decimal-lts.Need-digit-requires-2 (
   digit-reads.Asked,
   digit-reads.Learnt,
@@ -77,7 +72,6 @@ decimal-digit-requires-2 t c κs =
     let start = c .before .before .before .before .before .before .before in
     (omega arith, omega (arith, longer (start .args .n) (search needs), c .before .before .before .decimal .ensures .ends))
 
--- src/output.rt:25:1
 decimal-same-length-2 : (t : ℕ) → decimal-lts.Need-same-length-2 (
   digit-reads.Asked,
   digit-reads.Learnt,
@@ -86,7 +80,6 @@ decimal-same-length-2 : (t : ℕ) → decimal-lts.Need-same-length-2 (
 ) (decimal-at t) decimal.Post
 decimal-same-length-2 t c = search needs
 
--- src/output.rt:25:1
 decimal-returns-2 : (t : ℕ) → decimal-lts.Need-returns-2 (
   digit-reads.Asked,
   digit-reads.Learnt,

@@ -3,30 +3,22 @@ use borrow.Author.Needs.{needs}
 use Rattle.token.proofs.display.Writing.{nothing, one-more}
 use Rattle.wire.proofs.output.digit.Statement.{statement}
 use Rattle.wire.proofs.output.digit.Tie as tie
-use Rattle.wire.proofs.output.digit.Reads as reads
-use Rattle.wire.proofs.output.digit.Lts as lts
 
--- src/output.rt:20:21
 cast-room : tie.Need-cast-room
 cast-room c = search needs
 
--- src/output.rt:20:16
 add-room : tie.Need-add-room
 add-room c = search needs
 
--- src/output.rt:20:5
 slice-write-room : tie.Need-slice-write-room
 slice-write-room c = search needs
 
--- src/output.rt:21:5
 add-result : tie.Need-add-result
 add-result c = search needs
 
--- src/output.rt:16:1
 same-length : tie.Need-same-length
 same-length c = search needs
 
--- src/output.rt:16:1
 returns : tie.Need-returns
 returns c = one-more _ (nothing _ _) (c .pre .1)
 

@@ -6,26 +6,19 @@ use lib.ListN.{List·getD-eq-default}
 use borrow.Author.Needs.{needs}
 use Rattle.wire.proofs.output.found.Statement.{statement}
 use Rattle.wire.proofs.output.found.Tie as tie
-use Rattle.wire.proofs.output.found.Reads as reads
-use Rattle.wire.proofs.output.found.Lts as lts
 
--- src/output.rt:105:13
 mul-i : tie.Need-mul-i
 mul-i c = search needs
 
--- src/output.rt:107:16
 mul-result : tie.Need-mul-result
 mul-result c = search needs
 
--- src/output.rt:107:16
 shared-slice-read-result : tie.Need-shared-slice-read-result
 shared-slice-read-result c = search needs
 
--- src/output.rt:107:9
 returns : tie.Need-returns
 returns c = search needs
 
--- src/output.rt:102:1
 returns-2 : tie.Need-returns-2
 returns-2 c = sym (List·getD-eq-default (c .before .args .tokens .now) 0 {n = 3 * c .before .args .at} (omega arith))
 

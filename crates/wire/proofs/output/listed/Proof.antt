@@ -1,63 +1,45 @@
 -- `wire::output::listed` meets its contract: its parts one after the other.
 use native.Mathlib.Omega.{arith}
-use mathlib.Core.Path.{_≡_, _∙_}
-use lib.ListN.{length}
+use mathlib.Core.Path.{_∙_}
 use Rattle.token.proofs.display.Writing.{joined}
 use Rattle.wire.specs.Printed.{listed}
 use borrow.Author.Needs.{needs}
 use Rattle.wire.proofs.output.listed.Statement.{statement}
 use Rattle.wire.proofs.output.listed.Tie as tie
-use Rattle.wire.proofs.output.listed.Reads as reads
-use Rattle.wire.proofs.output.listed.Lts as lts
-use Rattle.token.proofs.display.put.Reads as put-reads
-use Rattle.wire.proofs.output.numbers.Reads as numbers-reads
-use Rattle.wire.proofs.output.rows.Reads as rows-reads
 
--- src/output.rt:93:17
 slice-aggregate-put : tie.Need-slice-aggregate-put
 slice-aggregate-put c = search needs
 
--- src/output.rt:93:9
 put-requires : tie.Need-put-requires
 put-requires c κs = search needs
 
--- src/output.rt:94:21
 slice-aggregate-numbers : tie.Need-slice-aggregate-numbers
 slice-aggregate-numbers c = search needs
 
--- src/output.rt:94:9
 numbers-requires : tie.Need-numbers-requires
 numbers-requires c κs = search needs
 
--- src/output.rt:95:17
 slice-aggregate-put-2 : tie.Need-slice-aggregate-put-2
 slice-aggregate-put-2 c = search needs
 
--- src/output.rt:95:9
 put-requires-2 : tie.Need-put-requires-2
 put-requires-2 c κs = search needs
 
--- src/output.rt:96:18
 slice-aggregate-rows : tie.Need-slice-aggregate-rows
 slice-aggregate-rows c = search needs
 
--- src/output.rt:96:9
 rows-requires : tie.Need-rows-requires
 rows-requires c κs = search needs
 
--- src/output.rt:97:18
 slice-aggregate-rows-2 : tie.Need-slice-aggregate-rows-2
 slice-aggregate-rows-2 c = search needs
 
--- src/output.rt:97:9
 rows-requires-2 : tie.Need-rows-requires-2
 rows-requires-2 c κs = search needs
 
--- src/output.rt:98:10
 slice-aggregate-rows-3 : tie.Need-slice-aggregate-rows-3
 slice-aggregate-rows-3 c = search needs
 
--- src/output.rt:98:5
 rows-requires-3 : tie.Need-rows-requires-3
 rows-requires-3 c κs =
     let start = c .before .before .before .before .before .before .before .before .before .before .before .before .before .before .before .before .before .before .before .before .before .before .before .before .before .before .before .before .before .before .before in
@@ -82,11 +64,9 @@ rows-requires-3 c κs =
           );
     }
 
--- src/output.rt:80:1
 same-length : tie.Need-same-length
 same-length c = c .before .before .rows3 .kept .1 .1 .1 .1 .0 ∙ c .before .before .before .before .before .before .before .rows2 .kept .1 .1 .1 .1 .0 ∙ c .before .before .before .before .before .before .before .before .before .before .before .before .rows .kept .1 .1 .1 .1 .0 ∙ c .before .before .before .before .before .before .before .before .before .before .before .before .before .before .before .before .before .put2 .kept .1 .0 ∙ c .before .before .before .before .before .before .before .before .before .before .before .before .before .before .before .before .before .before .before .before .before .before .numbers .kept .1 .0 ∙ c .before .before .before .before .before .before .before .before .before .before .before .before .before .before .before .before .before .before .before .before .before .before .before .before .before .before .before .put .kept .1 .0
 
--- src/output.rt:80:1
 returns : tie.Need-returns
 unfolding listed
 returns c =

@@ -1,6 +1,6 @@
 use borrow.Author.Needs.{needs}
 -- `wire::output::numbers` meets its contract: the numbers up to i are written.
-use Prim.Native.Nat.{ℕ, _+_, _-_, _*_, _≤_, _<_}
+use Prim.Native.Nat.{ℕ, _-_, _*_, _≤_}
 use native.Mathlib.Omega.{arith}
 use mathlib.Core.List.{List}
 use mathlib.Core.Path.{_≡_, refl, _∙_}
@@ -11,10 +11,6 @@ use Rattle.wire.specs.Lines.{Within}
 use Rattle.wire.specs.Printed.{fields}
 use Rattle.wire.proofs.output.numbers.Statement.{statement}
 use Rattle.wire.proofs.output.numbers.Tie as tie
-use Rattle.wire.proofs.output.numbers.Reads as reads
-use Rattle.wire.proofs.output.numbers.Lts as lts
-use Rattle.token.proofs.display.put.Reads as put-reads
-use Rattle.wire.proofs.output.decimal.Reads as decimal-reads
 
 record Blanks (values : List ℕ) (at : ℕ) (before after : List ℕ) (k i : ℕ) : Type 0 where
   within : i ≤ length values
@@ -27,27 +23,21 @@ Inv-loop values room₀ at k₀ i₀ t7 room k i = Blanks values at room₀ room
 abbrev μ-loop : tie.MeasureT-loop
 μ-loop values room₀ at k₀ i₀ t7 room k i = length values - i
 
--- src/output.rt:43:5
 loop-holds : tie.Need-loop-holds Inv-loop μ-loop
 loop-holds c = record { within = omega arith; size = refl; so-far = no-field (c .before .before .args .values .now) _ _ }
 
--- src/output.rt:44:25
 slice-aggregate-put : tie.Need-slice-aggregate-put Inv-loop μ-loop
 slice-aggregate-put c = search needs
 
--- src/output.rt:44:13
 put-requires : tie.Need-put-requires Inv-loop μ-loop
 put-requires c κs = search needs
 
--- src/output.rt:45:21
 mul-decimal : tie.Need-mul-decimal Inv-loop μ-loop
 mul-decimal c = search needs
 
--- src/output.rt:45:21
 shared-slice-read-decimal : tie.Need-shared-slice-read-decimal Inv-loop μ-loop
 shared-slice-read-decimal c = search needs
 
--- src/output.rt:45:9
 decimal-requires : tie.Need-decimal-requires Inv-loop μ-loop
 decimal-requires c κs =
     let start = c .before .before .before .before .before .before .before .before .before .before .before in
@@ -55,15 +45,12 @@ decimal-requires c κs =
     let x = getD (start .args .values .now) (turn .i) 0 in
     omega (arith, turn .inv .so-far .most, c .before .before .before .before .put .ensures .ends, decimal-short x (omega (arith, c .before .shared-slice-known2 .given (turn .i))))
 
--- src/output.rt:46:9
 add-i : tie.Need-add-i Inv-loop μ-loop
 add-i c = search needs
 
--- src/output.rt:43:5
 loop-less : tie.Need-loop-less Inv-loop μ-loop
 loop-less c = search needs
 
--- src/output.rt:43:5
 loop-again : tie.Need-loop-again Inv-loop μ-loop
 loop-again c =
     let turn = c .before .before .before .before .before .before .before .before .before .before .before .loop in
@@ -73,11 +60,9 @@ loop-again c =
       so-far = another _ (turn .inv .so-far) (c .before .before .before .before .before .before .before .put .ensures) (c .before .before .decimal .ensures) (search needs) (omega (arith, c .before .before .before .before .shared-slice-known2 .given (turn .i)));
     }
 
--- src/output.rt:37:1
 same-length : tie.Need-same-length Inv-loop μ-loop
 same-length c = search needs
 
--- src/output.rt:37:1
 returns : tie.Need-returns Inv-loop μ-loop
 returns c = all-fields _ (c .before .loop .inv .so-far) (omega arith)
 

@@ -6,50 +6,34 @@ use Rattle.wire.specs.Printed.{refused}
 use borrow.Author.Needs.{needs}
 use Rattle.wire.proofs.output.refused.Statement.{statement}
 use Rattle.wire.proofs.output.refused.Tie as tie
-use Rattle.wire.proofs.output.refused.Reads as reads
-use Rattle.wire.proofs.output.refused.Lts as lts
-use Rattle.token.proofs.display.put.Reads as put-reads
-use Rattle.wire.proofs.output.found.Reads as found-reads
-use Rattle.wire.proofs.output.numbers.Reads as numbers-reads
-use Rattle.wire.proofs.output.told.Reads as told-reads
 
--- src/output.rt:136:17
 slice-aggregate-put : tie.Need-slice-aggregate-put
 slice-aggregate-put c = search needs
 
--- src/output.rt:136:9
 put-requires : tie.Need-put-requires
 put-requires c κs = search needs
 
--- src/output.rt:137:21
 slice-aggregate-numbers : tie.Need-slice-aggregate-numbers
 slice-aggregate-numbers c = search needs
 
--- src/output.rt:137:9
 numbers-requires : tie.Need-numbers-requires
 numbers-requires c κs = search needs
 
--- src/output.rt:138:17
 slice-aggregate-put-2 : tie.Need-slice-aggregate-put-2
 slice-aggregate-put-2 c = search needs
 
--- src/output.rt:138:9
 put-requires-2 : tie.Need-put-requires-2
 put-requires-2 c κs = search needs
 
--- src/output.rt:139:34
 found-requires : tie.Need-found-requires
 found-requires c κs = search needs
 
--- src/output.rt:139:9
 told-requires : tie.Need-told-requires
 told-requires c κs = search needs
 
--- src/output.rt:140:9
 slice-aggregate-put-3 : tie.Need-slice-aggregate-put-3
 slice-aggregate-put-3 c = search needs
 
--- src/output.rt:140:5
 put-requires-3 : tie.Need-put-requires-3
 put-requires-3 c κs =
     let start = c .before .before .before .before .before .before .before .before .before .before .before .before .before .before .before .before .before .before .before .before .before .before .before .before in
@@ -63,11 +47,9 @@ put-requires-3 c κs =
       text-fits (start .args .code) (start .args .expected) (c .before .before .before .before .before .before .found .result),
     )
 
--- src/output.rt:123:1
 same-length : tie.Need-same-length
 same-length c = search needs
 
--- src/output.rt:123:1
 returns : tie.Need-returns
 unfolding refused
 returns c =

@@ -6,71 +6,52 @@ use Rattle.wire.proofs.Lines.{part-short, row-made}
 use borrow.Author.Needs.{needs}
 use Rattle.wire.proofs.output.row.Statement.{statement}
 use Rattle.wire.proofs.output.row.Tie as tie
-use Rattle.wire.proofs.output.row.Reads as reads
-use Rattle.wire.proofs.output.row.Lts as lts
-use Rattle.token.proofs.display.put.Reads as put-reads
-use Rattle.wire.proofs.output.decimal.Reads as decimal-reads
-use Rattle.wire.proofs.output.numbers.Reads as numbers-reads
 
--- src/output.rt:56:16
 mul-from : tie.Need-mul-from
 mul-from c = search needs
 
--- src/output.rt:57:14
 add-to : tie.Need-add-to
 add-to c = search needs
 
--- src/output.rt:58:9
 put-requires : tie.Need-put-requires
 put-requires c κs = search needs
 
--- src/output.rt:59:21
 cast-decimal : tie.Need-cast-decimal
 cast-decimal c = search needs
 
--- src/output.rt:59:9
 decimal-requires : tie.Need-decimal-requires
 decimal-requires c κs =
     let start = c .before .before .before .before .before .before .before .before in
     omega (arith, start .pre .short, start .pre .fits, c .before .before .before .put .ensures .ends, decimal-short (start .args .i) (omega (arith, start .pre .few)))
 
--- src/output.rt:60:21
 mul-numbers : tie.Need-mul-numbers
 mul-numbers c = search needs
 
--- src/output.rt:60:21
 sub-numbers : tie.Need-sub-numbers
 sub-numbers c = search needs
 
--- src/output.rt:60:21
 part-numbers-start : tie.Need-part-numbers-start
 part-numbers-start c = search needs
 
--- src/output.rt:60:21
 part-numbers-end : tie.Need-part-numbers-end
 part-numbers-end c = search needs
 
--- src/output.rt:60:9
 numbers-requires : tie.Need-numbers-requires
 numbers-requires c κs =
     let start = c .before .before .before .before .before .before .before .before .before .before .before .before .before in
     omega (arith, start .pre .short, start .pre .narrow, start .pre .fits, c .before .before .before .before .before .before .before .before .put .ensures .ends, c .before .before .before .before .decimal .ensures .ends, decimal-short (start .args .i) (omega (arith, start .pre .few)), part-short (start .args .width * start .args .i) (start .args .width) (start .args .source .now))
 
--- src/output.rt:61:9
 slice-aggregate-put : tie.Need-slice-aggregate-put
 slice-aggregate-put c = search needs
 
--- src/output.rt:61:5
 put-requires-2 : tie.Need-put-requires-2
 put-requires-2 c κs =
     let start = c .before .before .before .before .before .before .before .before .before .before .before .before .before .before .before .before .before .before in
     omega (arith, start .pre .short, start .pre .narrow, start .pre .fits, c .before .before .before .before .before .before .before .before .before .before .before .before .before .put .ensures .ends, c .before .before .before .before .before .before .before .before .before .decimal .ensures .ends, c .before .before .before .before .numbers .ensures .most, decimal-short (start .args .i) (omega (arith, start .pre .few)), part-short (start .args .width * start .args .i) (start .args .width) (start .args .source .now))
 
--- src/output.rt:52:1
 same-length : tie.Need-same-length
 same-length c = search needs
 
--- src/output.rt:52:1
 returns : tie.Need-returns
 returns c =
     let start = c .before .before .before .before .before .before .before .before .before .before .before .before .before .before .before .before .before .before .before .before .before in

@@ -1,5 +1,5 @@
 -- `wire::output::rows` meets its contract: the lines of the rows up to i are written.
-use Prim.Native.Nat.{ℕ, _+_, _-_, _*_, _≤_, _<_}
+use Prim.Native.Nat.{ℕ, _-_, _*_, _≤_}
 use native.Mathlib.Omega.{arith}
 use mathlib.Core.List.{List}
 use mathlib.Core.Path.{_≡_, refl, _∙_}
@@ -10,9 +10,6 @@ use Rattle.wire.proofs.Lines.{no-row, another-row, row-there}
 use borrow.Author.Needs.{needs}
 use Rattle.wire.proofs.output.rows.Statement.{statement}
 use Rattle.wire.proofs.output.rows.Tie as tie
-use Rattle.wire.proofs.output.rows.Reads as reads
-use Rattle.wire.proofs.output.rows.Lts as lts
-use Rattle.wire.proofs.output.row.Reads as row-reads
 
 record Going (lead : List ℕ) (width : ℕ) (source : List ℕ) (n at : ℕ) (before after : List ℕ) (k i : ℕ) : Type 0 where
   within : i ≤ n
@@ -25,11 +22,9 @@ Inv-loop lead width source n room₀ at k₀ i₀ room k i = Going lead width so
 abbrev μ-loop : tie.MeasureT-loop
 μ-loop lead width source n room₀ at k₀ i₀ room k i = n - i
 
--- src/output.rt:71:5
 loop-holds : tie.Need-loop-holds Inv-loop μ-loop
 loop-holds c = record { within = omega arith; size = refl; so-far = no-row _ _ _ _ _ }
 
--- src/output.rt:72:9
 row-requires : tie.Need-row-requires Inv-loop μ-loop
 row-requires c κs =
     let start = c .before .before .before .before .before .before in
@@ -42,15 +37,12 @@ row-requires c κs =
       fits = omega (arith, start .pre .fits, turn .inv .so-far .most, turn .inv .size);
     }
 
--- src/output.rt:73:9
 add-i : tie.Need-add-i Inv-loop μ-loop
 add-i c = search needs
 
--- src/output.rt:71:5
 loop-less : tie.Need-loop-less Inv-loop μ-loop
 loop-less c = search needs
 
--- src/output.rt:71:5
 loop-again : tie.Need-loop-again Inv-loop μ-loop
 loop-again c =
     let turn = c .before .before .before .before .before .loop in
@@ -60,11 +52,9 @@ loop-again c =
       so-far = another-row _ _ _ (turn .i) (turn .inv .so-far) (c .before .before .row .ensures);
     }
 
--- src/output.rt:65:1
 same-length : tie.Need-same-length Inv-loop μ-loop
 same-length c = c .before .loop .inv .size
 
--- src/output.rt:65:1
 returns : tie.Need-returns Inv-loop μ-loop
 returns c =
     let all : c .before .loop .i ≡ c .before .before .before .before .before .args .n = omega arith in
