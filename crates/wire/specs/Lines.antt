@@ -18,7 +18,7 @@ line-size = 128
 pub record Line (lead : List ℕ) (width : ℕ) (source : List ℕ) (i : ℕ) (room : List ℕ) (at : ℕ) : Type 0 where
   pub short : length lead ≤ 5
   pub narrow : width ≤ node-width
-  pub few : i < 512
+  pub few : i < 4096
   pub there : width * i + width ≤ length source
   pub fits : at + line-size ≤ length room
 

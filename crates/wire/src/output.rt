@@ -33,8 +33,9 @@ fn decimal(n: u32, room: &mut [u8], at: usize) -> usize
     digit(n % 10, room, last)
 }
 
-// Numbers, each after a blank.
-fn numbers(values: &[u32], room: &mut [u8], at: usize) -> usize
+// Numbers, each after a blank. Public for the crates above, which see that they fit.
+// Ruled out: a number without its blank; a byte before `at` that changes.
+pub fn numbers(values: &[u32], room: &mut [u8], at: usize) -> usize
     requires { ⌜ at + 11 * length (now values) ≤ length (now room) ⌝ }
     ensures { λ r. ⌜ Within (11 * length (now (values .entry))) (fields (now (values .entry))) at (now (room .entry)) (now (room .exit)) r ⌝ }
 {
@@ -48,8 +49,9 @@ fn numbers(values: &[u32], room: &mut [u8], at: usize) -> usize
     k
 }
 
-// The line of a row.
-fn row(lead: &[u8], width: usize, source: &[u32], i: usize, room: &mut [u8], at: usize) -> usize
+// The line of a row. Public for the crates above, which see that the row is there and its line fits.
+// Ruled out: the row's number counted from 1; a line without its newline.
+pub fn row(lead: &[u8], width: usize, source: &[u32], i: usize, room: &mut [u8], at: usize) -> usize
     requires { ⌜ Line (now lead) width (now source) i (now room) at ⌝ }
     ensures { λ r. ⌜ Within line-size (Printed·row (now (lead .entry)) width (now (source .entry)) i) at (now (room .entry)) (now (room .exit)) r ⌝ }
 {

@@ -1,0 +1,27 @@
+-- `report::put_columns` meets its contract: the place stays in the room from column to column.
+use borrow.Author.Needs.{needs}
+use Prim.Native.Nat.{_-_, _≤_}
+use lib.ListN.{length}
+use Rattle.kaori.proofs.report.put_columns.Statement.{statement}
+use Rattle.kaori.proofs.report.put_columns.Tie as tie
+
+abbrev Inv-loop : tie.InvT-loop
+Inv-loop part out₀ at now₀ i₀ out now i = now ≤ 4096
+
+abbrev μ-loop : tie.MeasureT-loop
+μ-loop part out₀ at now₀ i₀ out now i = length part - i
+
+pub put-columns-spec : {M : Type 1} → statement M
+put-columns-spec =
+    tie.close
+    (tie.spec
+    Inv-loop
+    μ-loop
+    (λ c. search needs)
+    (λ c. search needs)
+    (λ c κs. search needs)
+    (λ c κs. search needs)
+    (λ c. search needs)
+    (λ c. search needs)
+    (λ c. search needs)
+    (λ c. search needs))

@@ -1,0 +1,179 @@
+// One file: its text is read, then its tokens and rows are made, and what the command asks for is shown.
+use crate::cover::cover;
+use crate::cover::part_of;
+use crate::listing::list_refusal;
+use crate::listing::list_rows;
+use crate::page::end_line;
+use crate::page::put;
+use crate::page::put_byte;
+use crate::page::put_line;
+use crate::page::put_number;
+use crate::reads::is_closed;
+use crate::reads::say;
+use crate::report::Why;
+use crate::report::report;
+use crate::row::below;
+use crate::row::child;
+use crate::row::node;
+use crate::row::places;
+use crate::tree::tree;
+use crate::words::indent;
+use crate::words::put_first_line;
+use diagnostics::line::place;
+use reader::read;
+use syntax::Answer;
+ghost use Prim.Native.Nat.{_≤_};
+
+// What is asked for: the report of a refusal, the statements with their trees, the rows; and the names of files above them.
+pub struct Wish {
+    pub report: bool,
+    pub tree: bool,
+    pub rows: bool,
+    pub heads: bool,
+}
+
+// The line where a statement starts.
+fn show_head(text: &[u8], covers: &[u32], out: &mut [u8; 4096], row: u32) {
+    let part = part_of(covers, row);
+    let here = place(text, part.start as usize);
+    let led = put(b"line ", out, 0);
+    let numbered = put_number(here.line, out, led);
+    let colon = put(b": ", out, numbered);
+    let head = put_first_line(text, part.start, part.end, 72, out, colon);
+    end_line(out, head);
+}
+
+// A statement as it is read.
+fn show_reads(text: &[u8], nodes: &[u32], links: &[u32], out: &mut [u8; 4096], row: u32) {
+    let from = indent(4, 0, out, 0);
+    let said = say(text, nodes, links, out, row, 0, from);
+    if is_closed(node(nodes, row, 0)) {
+        end_line(out, said);
+        return;
+    }
+    let all = put_byte(b';', out, said);
+    end_line(out, all);
+}
+
+// A statement: where it starts, how it is read, and its tree.
+fn show(text: &[u8], nodes: &[u32], links: &[u32], covers: &[u32], out: &mut [u8; 4096], row: u32) {
+    put_line(b"", out);
+    show_head(text, covers, out, row);
+    put_line(b"  reads as", out);
+    show_reads(text, nodes, links, out, row);
+    put_line(b"  tree", out);
+    tree(text, nodes, links, covers, out, row, 0, false);
+}
+
+// The statements of a script, whose root is `root`.
+fn show_all(
+    text: &[u8],
+    nodes: &[u32],
+    links: &[u32],
+    covers: &[u32],
+    out: &mut [u8; 4096],
+    root: u32,
+) {
+    let b = below(nodes, root);
+    let n = places(b);
+    let mut i = 0;
+    while i < n {
+        let kid = child(links, b, i);
+        if kid < root {
+            show(text, nodes, links, covers, out, kid);
+        }
+        i += 1;
+    }
+}
+
+// The kind of a token of a list, and no token's kind where there is none.
+fn kind_at(list: &[u32], at: u32) -> u32 {
+    let i = 3 * (at as usize);
+    if i < list.len() {
+        return list[i];
+    }
+    255
+}
+
+// How many tokens a list has: up to Eof, which is the last.
+fn count(list: &[u32]) -> u32 {
+    let mut n: u32 = 0;
+    while n < 4096 {
+        if kind_at(list, n) == 44 {
+            return n + 1;
+        }
+        n += 1;
+    }
+    n
+}
+
+// The statements of a script that is read.
+fn show_read(
+    text: &[u8],
+    list: &[u32],
+    nodes: &[u32],
+    links: &[u32],
+    rows: u32,
+    out: &mut [u8; 4096],
+) {
+    if rows == 0 {
+        return;
+    }
+    let mut covers = [0u32; 8192];
+    cover(list, count(list), nodes, links, rows, &mut covers);
+    show_all(text, nodes, links, &covers, out, rows - 1);
+}
+
+// What is shown of a script that is refused: a report, and its numbers as the listing has them.
+fn show_refused(
+    wish: Wish,
+    path: &[u8],
+    text: &[u8],
+    list: &[u32],
+    a: Answer,
+    out: &mut [u8; 4096],
+) {
+    if wish.report {
+        let why = Why {
+            code: a.code,
+            start: a.start,
+            expected: a.expected,
+            found: kind_at(list, a.at),
+        };
+        report(path, text, why, out);
+    }
+    if wish.rows {
+        list_refusal(list, a.code, a.at, a.start, a.end, a.expected);
+    }
+}
+
+// Reads a text, and shows what is asked for. The answer is the status: 0 for a good script, 1 for one that is refused.
+pub fn script(wish: Wish, path: &[u8], text: &[u8], out: &mut [u8; 4096]) -> u32
+    ensures { λ r. ⌜ r ≤ 1 ⌝ }
+{
+    let mut list = [0u32; 12288];
+    let mut nodes = [0u32; 36864];
+    let mut links = [0u32; 12288];
+    let mut symbols = [0u32; 8192];
+    let mut scratch = [0u32; 12288];
+    let a = read(
+        text,
+        &mut list,
+        64,
+        &mut nodes,
+        &mut links,
+        &mut symbols,
+        &mut scratch,
+    );
+    if a.code != 0 {
+        show_refused(wish, path, text, &list, a, out);
+        return 1;
+    }
+    if wish.tree {
+        show_read(text, &list, &nodes, &links, a.nodes, out);
+    }
+    if wish.rows {
+        list_rows(&nodes, &links, &symbols, a.nodes, a.links, a.symbols);
+    }
+    0
+}

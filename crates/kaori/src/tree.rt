@@ -1,0 +1,111 @@
+// The tree of a statement: a line for each node, with its place, its name and operator, and the text that it covers.
+use crate::cover::part_of;
+use crate::page::end_line;
+use crate::page::pad;
+use crate::page::put;
+use crate::page::put_byte;
+use crate::page::put_number;
+use crate::row::Children;
+use crate::row::below;
+use crate::row::child;
+use crate::row::linked;
+use crate::row::node;
+use crate::row::places;
+use crate::words::indent;
+use crate::words::put_excerpt;
+use crate::words::put_name;
+use crate::words::put_sign;
+use diagnostics::line::place;
+ghost use Prim.Native.Nat.{_+_, _≤_, _<_};
+
+// Line and column of an offset.
+fn put_place(text: &[u8], offset: u32, out: &mut [u8; 4096], at: usize) -> usize
+    requires { ⌜ at ≤ 4096 ⌝ }
+    ensures { λ r. ⌜ r ≤ 4096 ⌝ }
+{
+    let here = place(text, offset as usize);
+    let line = put_number(here.line, out, at);
+    let colon = put_byte(b':', out, line);
+    put_number(here.column, out, colon)
+}
+
+// A node's name, with its operator where it has one.
+fn put_node(nodes: &[u32], row: u32, out: &mut [u8; 4096], at: usize) -> usize
+    requires { ⌜ at ≤ 4096 ⌝ }
+    ensures { λ r. ⌜ r ≤ 4096 ⌝ }
+{
+    let kind = node(nodes, row, 0);
+    let named = put_name(kind, out, at);
+    if kind > 6 {
+        return named;
+    }
+    let gap = put_byte(b' ', out, named);
+    put_sign(kind, node(nodes, row, 3), out, gap)
+}
+
+// The mark of a tail.
+fn put_tail(tail: bool, out: &mut [u8; 4096], at: usize) -> usize
+    requires { ⌜ at ≤ 4096 ⌝ }
+    ensures { λ r. ⌜ r ≤ 4096 ⌝ }
+{
+    if tail {
+        return put(b" (tail)", out, at);
+    }
+    at
+}
+
+// The line of a node.
+fn line(
+    text: &[u8],
+    nodes: &[u32],
+    covers: &[u32],
+    out: &mut [u8; 4096],
+    row: u32,
+    level: u32,
+    tail: bool,
+) {
+    let part = part_of(covers, row);
+    let margin = pad(4, out, 0);
+    let placed = put_place(text, part.start, out, margin);
+    let deep = indent(13, level, out, placed);
+    let named = put_node(nodes, row, out, deep);
+    let marked = put_tail(tail, out, named);
+    let gap = pad(46, out, marked);
+    let all = put_excerpt(text, part.start, part.end, 52, out, gap);
+    end_line(out, all);
+}
+
+// Whether a place of a row is its tail: only a block has one.
+fn is_tail(nodes: &[u32], row: u32, b: Children, place: usize) -> bool {
+    if node(nodes, row, 0) == 20 {
+        return place > linked(b);
+    }
+    false
+}
+
+// The lines of a row and of all that stands below it. A child has a lower number than its parent, or it is left out: so the walk ends.
+pub fn tree(
+    text: &[u8],
+    nodes: &[u32],
+    links: &[u32],
+    covers: &[u32],
+    out: &mut [u8; 4096],
+    row: u32,
+    level: u32,
+    tail: bool,
+)
+    requires { ⌜ level + row < 4294967296 ⌝ }
+{
+    line(text, nodes, covers, out, row, level, tail);
+    let b = below(nodes, row);
+    let n = places(b);
+    let mut i = 0;
+    while i < n {
+        let kid = child(links, b, i);
+        if kid < row {
+            let last = is_tail(nodes, row, b, i);
+            tree(text, nodes, links, covers, out, kid, level + 1, last);
+        }
+        i += 1;
+    }
+}

@@ -1,0 +1,206 @@
+// The names and signs of nodes, and parts of the text.
+use crate::page::pad;
+use crate::page::put;
+use crate::page::put_byte;
+ghost use Prim.Native.Nat.{_≤_, _<_};
+ghost use lib.ListN.{length};
+
+// The name of a node's kind, as ast.rs has it.
+pub fn put_name(kind: u32, out: &mut [u8; 4096], at: usize) -> usize
+    requires { ⌜ at ≤ 4096 ⌝ }
+    ensures { λ r. ⌜ r ≤ 4096 ⌝ }
+{
+    match kind {
+        1 => put(b"Binary", out, at),
+        2 => put(b"LogicalAnd", out, at),
+        3 => put(b"LogicalOr", out, at),
+        4 => put(b"LogicalNot", out, at),
+        5 => put(b"Unary", out, at),
+        6 => put(b"Assign", out, at),
+        7 => put(b"Variable", out, at),
+        8 => put(b"Constant", out, at),
+        9 => put(b"Ref", out, at),
+        10 => put(b"Identifier", out, at),
+        11 => put(b"String", out, at),
+        12 => put(b"Number", out, at),
+        13 => put(b"Boolean", out, at),
+        14 => put(b"Nil", out, at),
+        15 => put(b"FunctionCall", out, at),
+        16 => put(b"PropertyAccess", out, at),
+        17 => put(b"Map", out, at),
+        18 => put(b"Function", out, at),
+        19 => put(b"Lambda", out, at),
+        20 => put(b"Block", out, at),
+        21 => put(b"If", out, at),
+        22 => put(b"WhileLoop", out, at),
+        23 => put(b"Return", out, at),
+        24 => put(b"Break", out, at),
+        25 => put(b"Continue", out, at),
+        26 => put(b"Import", out, at),
+        _ => put(b"?", out, at),
+    }
+}
+
+// The sign of a Binary's operator, as ops.rs counts them.
+fn put_binary(operator: u32, out: &mut [u8; 4096], at: usize) -> usize
+    requires { ⌜ at ≤ 4096 ⌝ }
+    ensures { λ r. ⌜ r ≤ 4096 ⌝ }
+{
+    match operator {
+        0 => put(b"+", out, at),
+        1 => put(b"-", out, at),
+        2 => put(b"*", out, at),
+        3 => put(b"/", out, at),
+        4 => put(b"%", out, at),
+        5 => put(b"==", out, at),
+        6 => put(b"!=", out, at),
+        7 => put(b">", out, at),
+        8 => put(b">=", out, at),
+        9 => put(b"<", out, at),
+        10 => put(b"<=", out, at),
+        _ => put(b"?", out, at),
+    }
+}
+
+// The sign of a node of this kind, whose first number is `operator`; nothing where it has none.
+pub fn put_sign(kind: u32, operator: u32, out: &mut [u8; 4096], at: usize) -> usize
+    requires { ⌜ at ≤ 4096 ⌝ }
+    ensures { λ r. ⌜ r ≤ 4096 ⌝ }
+{
+    match kind {
+        1 => put_binary(operator, out, at),
+        2 => put(b"and", out, at),
+        3 => put(b"or", out, at),
+        4 => put(b"not", out, at),
+        5 => {
+            if operator == 0 {
+                return put(b"-", out, at);
+            }
+            put(b"^", out, at)
+        }
+        6 => put(b"=", out, at),
+        _ => at,
+    }
+}
+
+// The least of two numbers.
+fn least(a: usize, b: usize) -> usize
+    ensures { λ r. ⌜ (r ≤ a) × (r ≤ b) ⌝ }
+{
+    if a < b {
+        return a;
+    }
+    b
+}
+
+// The text from an offset up to another, whole.
+pub fn put_text(text: &[u8], start: u32, end: u32, out: &mut [u8; 4096], at: usize) -> usize
+    requires { ⌜ at ≤ 4096 ⌝ }
+    ensures { λ r. ⌜ r ≤ 4096 ⌝ }
+{
+    let upto = least(end as usize, text.len());
+    let from = least(start as usize, upto);
+    put(&text[from..upto], out, at)
+}
+
+// A blank, a tab, or the end of a line.
+fn is_blank(byte: u8) -> bool {
+    match byte {
+        9..=13 | 32 => true,
+        _ => false,
+    }
+}
+
+// What a byte is shown as: a blank for any of those.
+fn shown(byte: u8) -> u8 {
+    if is_blank(byte) {
+        return b' ';
+    }
+    byte
+}
+
+// The offset after byte i of a text; where that byte is a blank, after the blanks that follow it too.
+fn past(text: &[u8], i: usize, upto: usize) -> usize
+    requires { ⌜ (i < upto) × (upto ≤ length (now text)) ⌝ }
+    ensures { λ r. ⌜ (i < r) × (r ≤ upto) ⌝ }
+{
+    let mut next = i + 1;
+    if is_blank(text[i]) {
+        while next < upto {
+            if !is_blank(text[next]) {
+                return next;
+            }
+            next += 1;
+        }
+    }
+    next
+}
+
+// The text from an offset up to another on one line: each run of blanks as one blank, and `..` for what is past `most` bytes.
+pub fn put_excerpt(
+    text: &[u8],
+    start: u32,
+    end: u32,
+    most: usize,
+    out: &mut [u8; 4096],
+    at: usize,
+) -> usize
+    requires { ⌜ at ≤ 4096 ⌝ }
+    ensures { λ r. ⌜ r ≤ 4096 ⌝ }
+{
+    let upto = least(end as usize, text.len());
+    let mut i = start as usize;
+    let mut left = most;
+    let mut now = at;
+    while i < upto {
+        if left == 0 {
+            return put(b"..", out, now);
+        }
+        left -= 1;
+        now = put_byte(shown(text[i]), out, now);
+        i = past(text, i, upto);
+    }
+    now
+}
+
+// The first line of the text from an offset up to another, in the same way.
+pub fn put_first_line(
+    text: &[u8],
+    start: u32,
+    end: u32,
+    most: usize,
+    out: &mut [u8; 4096],
+    at: usize,
+) -> usize
+    requires { ⌜ at ≤ 4096 ⌝ }
+    ensures { λ r. ⌜ r ≤ 4096 ⌝ }
+{
+    let mut upto = start;
+    while upto < end {
+        let i = upto as usize;
+        if i >= text.len() {
+            break;
+        }
+        if text[i] == 10 {
+            break;
+        }
+        if text[i] == 13 {
+            break;
+        }
+        upto += 1;
+    }
+    put_excerpt(text, start, upto, most, out, at)
+}
+
+// The indent of a level, two blanks each; deeper than 24 it grows no more.
+pub fn indent(margin: usize, level: u32, out: &mut [u8; 4096], at: usize) -> usize
+    requires { ⌜ (at ≤ 4096) × (margin ≤ 64) ⌝ }
+    ensures { λ r. ⌜ r ≤ 4096 ⌝ }
+{
+    let deep = least(level as usize, 24);
+    let column = margin + 2 * deep;
+    if column == 0 {
+        return at;
+    }
+    pad(column, out, at)
+}
