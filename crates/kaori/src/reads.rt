@@ -217,7 +217,7 @@ fn is_open(kind: u32) -> bool {
     }
 }
 
-// Whether a child is put in parentheses: the operand of an operator, the body of a lambda, and the condition of `if` and `while` where it has blocks.
+// Whether a child is put in parentheses: the operand of an operator, and the body of a lambda; and what a block or `=` follows, where it would not end there.
 fn is_grouped(kind: u32, place: usize, kid: u32) -> bool {
     match kind {
         1..=5 => is_compound(kid),
@@ -227,7 +227,7 @@ fn is_grouped(kind: u32, place: usize, kid: u32) -> bool {
             }
             is_compound(kid)
         }
-        21..=22 => {
+        6 | 21..=22 => {
             if place == 0 {
                 return is_open(kid);
             }

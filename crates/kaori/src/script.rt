@@ -119,7 +119,7 @@ fn show_read(
     if rows == 0 {
         return;
     }
-    let mut covers = [0u32; 8192];
+    let mut covers = two_each();
     cover(list, count(list), nodes, links, rows, &mut covers);
     show_all(text, nodes, links, &covers, out, rows - 1);
 }
@@ -147,15 +147,28 @@ fn show_refused(
     }
 }
 
+// Rooms of 4,096 rows, zero throughout, with so many numbers a row.
+fn two_each() -> [u32; 8192] {
+    [0; 8192]
+}
+
+fn three_each() -> [u32; 12288] {
+    [0; 12288]
+}
+
+fn nine_each() -> [u32; 36864] {
+    [0; 36864]
+}
+
 // Reads a text, and shows what is asked for. The answer is the status: 0 for a good script, 1 for one that is refused.
 pub fn script(wish: Wish, path: &[u8], text: &[u8], out: &mut [u8; 4096]) -> u32
     ensures { λ r. ⌜ r ≤ 1 ⌝ }
 {
-    let mut list = [0u32; 12288];
-    let mut nodes = [0u32; 36864];
-    let mut links = [0u32; 12288];
-    let mut symbols = [0u32; 8192];
-    let mut scratch = [0u32; 12288];
+    let mut list = three_each();
+    let mut nodes = nine_each();
+    let mut links = three_each();
+    let mut symbols = two_each();
+    let mut scratch = three_each();
     let a = read(
         text,
         &mut list,
