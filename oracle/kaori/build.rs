@@ -31,16 +31,18 @@ fn main() {
     let wrappers = fs::read_to_string(manifest.join("counting.rs")).unwrap();
     fs::write(&counted, derive(&fs::read_to_string(&parser).unwrap()) + &wrappers).unwrap();
 
+    let token = source("syntax/token.rs");
     let syntax = [
         module("ast", &source("syntax/ast.rs")),
         module("ops", &source("syntax/ops.rs")),
-        module("token", &source("syntax/token.rs")),
+        module("token", &token),
         module("parser", &parser),
         module("counted", &counted),
     ];
     let util = module("string_interner", &source("util/string_interner.rs"));
     let tree = format!("pub mod syntax {{\n{}}}\npub mod util {{\n{util}}}\n", syntax.concat());
-    fs::write(out.join("kaori.rs"), tree).unwrap();
+    let text = format!("/// The text of token.rs.\npub const TOKEN_RS: &str = include_str!({token:?});\n");
+    fs::write(out.join("kaori.rs"), tree + &text).unwrap();
 }
 
 fn module(name: &str, path: &Path) -> String {

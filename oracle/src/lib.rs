@@ -9,6 +9,7 @@ pub mod fixed;
 pub mod frame;
 pub mod judge;
 pub mod kinds;
+pub mod lexer;
 pub mod list;
 pub mod random;
 pub mod rows;
@@ -17,6 +18,7 @@ pub mod show;
 pub mod shrink;
 pub mod subject;
 pub mod table;
+pub mod texts;
 
 pub use answer::{LIMIT, answer, answer_with};
 

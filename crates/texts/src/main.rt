@@ -1,0 +1,95 @@
+// Answers a stream of texts, each in a frame, by a stream of frames: what the token maker answers, and what it leaves in the list room.
+use frames::Frame;
+use frames::read;
+use lexer::lex;
+use wire::input::four;
+ghost use Prim.Native.Nat.{_+_, _*_, _≤_};
+ghost use lib.ListN.{length};
+
+// Writes a frame: four bytes of length, the lowest first, and then the bytes. Says whether it could.
+fn write(part: &[u8]) -> bool {
+    let n = part.len();
+    let head = [
+        (n % 256) as u8,
+        (n / 256 % 256) as u8,
+        (n / 65536 % 256) as u8,
+        (n / 16777216 % 256) as u8,
+    ];
+    if io::write_all(1, &head) {
+        return io::write_all(1, part);
+    }
+    false
+}
+
+// Puts i + 1 at each number i of a list room, so that a number that is kept can be told from a zero.
+fn mark(list: &mut [u32])
+    requires { ⌜ length (now list) ≤ 12400 ⌝ }
+{
+    let mut i = 0;
+    while i < list.len() {
+        list[i] = (i + 1) as u32;
+        i += 1;
+    }
+}
+
+// Puts a number as four bytes, the lowest first.
+fn put(n: u32, out: &mut [u8], at: usize)
+    requires { ⌜ at + 4 ≤ length (now out) ⌝ }
+{
+    out[at] = (n % 256) as u8;
+    out[at + 1] = (n / 256 % 256) as u8;
+    out[at + 2] = (n / 65536 % 256) as u8;
+    out[at + 3] = (n / 16777216 % 256) as u8;
+}
+
+// Puts all numbers of a list, from a place on.
+fn put_all(list: &[u32], out: &mut [u8], from: usize)
+    requires { ⌜ from + 4 * length (now list) ≤ length (now out) ⌝ }
+{
+    let mut i = 0;
+    while i < list.len() {
+        put(list[i], out, from + 4 * i);
+        i += 1;
+    }
+}
+
+// Makes the tokens of a text in a list room that is marked, and puts the answer's six numbers and all of the room.
+fn answer(text: &[u8], list: &mut [u32], out: &mut [u8])
+    requires { ⌜ (length (now list) ≤ 12400) × (24 + 4 * length (now list) ≤ length (now out)) ⌝ }
+{
+    mark(list);
+    let a = lex(text, list);
+    let numbers = [a.code, a.count, a.at, a.start, a.end, a.expected];
+    put_all(&numbers, out, 0);
+    put_all(list, out, 24);
+}
+
+// Answers one case: four bytes with how many numbers the list room has, 12,400 at most, and then the text. Says whether there was one.
+fn turn(case: &mut [u8], list: &mut [u32], out: &mut [u8]) -> bool
+    requires { ⌜ (12400 ≤ length (now list)) × (49624 ≤ length (now out)) ⌝ }
+{
+    let frame = read(case);
+    let Frame::Bytes(n) = frame else {
+        return false;
+    };
+    if n < 4 {
+        return false;
+    }
+    let size = four(case, 0) as usize;
+    if 12400 < size {
+        return false;
+    }
+    answer(&case[4..n], &mut list[..size], out);
+    write(&out[..24 + 4 * size])
+}
+
+// A text may have 65,537 bytes, one more than the token maker reads. As in `batch`, the loop counts its turns down.
+fn main() {
+    let mut case: [u8; 65541] = [0; 65541];
+    let mut list: [u32; 12400] = [0; 12400];
+    let mut out: [u8; 49624] = [0; 49624];
+    let mut turns = u64::MAX;
+    while turns > 0 && turn(&mut case, &mut list, &mut out) {
+        turns -= 1;
+    }
+}
