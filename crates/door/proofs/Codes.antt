@@ -13,7 +13,7 @@ use Rattle.grammar.specs.Door.{Whole, Roomy, Sound, Closed, First-without, Wron
 use Rattle.grammar.specs.Room.{Rooms}
 use Rattle.grammar.specs.Token.{count, start, end}
 use Rattle.grammar.proofs.Answers.{one-turn, admitted-not-wrong}
-use Rattle.door.specs.Entry.{Found, Right-list, Right-rooms, Measured, Listed, Case, Entered}
+use Rattle.door.specs.Entry.{Found, Highest, Right-list, Right-rooms, Measured, Listed, Case, Entered}
 use Rattle.door.specs.declared.Entry.{Entry}
 
 not-over : (n k : ℕ) → (k < n → ⊥) → n ≤ k
@@ -112,18 +112,24 @@ module _ (text ts : List ℕ) (limit : ℕ) (rooms : Rooms) where
 pub all-have : {asked : ℕ → Type 0} {n r : ℕ} → Found asked n r → n ≤ r → (j : ℕ) → j < n → asked j
 all-have f h j i = f .before j (omega arith)
 
+-- where the highest byte is over 127, the search finds one
+found-high : {text : List ℕ} {r i : ℕ} → Highest text (length text) r → 127 < r → Found (λ j. getD text j 0 ≤ 127) (length text) i → i < length text
+found-high {text} {r} {i} x h f =
+    let (j, l, e) = x .there (omega arith) in
+    elim (decLt i (length text)) [ yes z ↦ z | no z ↦ absurd (omega (arith, f .before j (omega arith))) ]
+
 -- the answers, for rooms of any content
 module _ {text ts : List ℕ} {limit nodes links symbols scratch k : ℕ} (m : Measured (length ts) (length text) limit nodes links symbols scratch k) where
   pub by-lengths : (k ≡ 0 → ⊥) → Entered text ts limit nodes links symbols scratch (Entry.Refused (record { code = k; at = 0; start = 0; end = 0 }))
   unfolding Case
   by-lengths n = record { says = λ rooms a b d e. measured text ts limit rooms (rw (a, b, d, e) m) n }
 
-  pub by-byte : {i : ℕ} → k ≡ 0 → i < length text → Found (λ j. getD text j 0 ≤ 127) (length text) i → Entered text ts limit nodes links symbols scratch (Entry.Refused (record { code = 5; at = 0; start = i; end = i + 1 }))
+  pub by-byte : {r i : ℕ} → k ≡ 0 → Highest text (length text) r → 127 < r → Found (λ j. getD text j 0 ≤ 127) (length text) i → Entered text ts limit nodes links symbols scratch (Entry.Refused (record { code = 5; at = 0; start = i; end = i + 1 }))
   unfolding Case
-  by-byte z h f = record { says = λ rooms a b d e. turned (Wrong.byte (first-of h f)) (measures text ts limit rooms (rw (a, b, d, e) m) z) }
+  by-byte z x h f = record { says = λ rooms a b d e. turned (Wrong.byte (first-of (found-high x h f) f)) (measures text ts limit rooms (rw (a, b, d, e) m) z) }
 
-  pub by-list : {r : Entry} {i : ℕ} → k ≡ 0 → length text ≤ i → Found (λ j. getD text j 0 ≤ 127) (length text) i → Listed text ts r → Entered text ts limit nodes links symbols scratch r
-  by-list z h f l = record { says = λ rooms a b d e. listing text ts limit rooms (passed (measures text ts limit rooms (rw (a, b, d, e) m) z) (all-have f h)) l }
+  pub by-list : {q : Entry} {r : ℕ} → k ≡ 0 → Highest text (length text) r → r ≤ 127 → Listed text ts q → Entered text ts limit nodes links symbols scratch q
+  by-list z x h l = record { says = λ rooms a b d e. listing text ts limit rooms (passed (measures text ts limit rooms (rw (a, b, d, e) m) z) (λ i s. omega (arith, x .most i s))) l }
 
 -- a call has one entry
 pub one-entry : (c : Call) (r s : Entry) → Case c r → Case c s → r ≡ s

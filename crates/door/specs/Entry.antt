@@ -2,7 +2,7 @@
 use Prim.Native.Nat.{ℕ, _*_, _/_, _≤_, _<_}
 use mathlib.Core.List.{List}
 use mathlib.Core.Path.{_≡_}
-use lib.ListN.{length}
+use lib.ListN.{length, getD}
 use Rattle.grammar.specs.Call.{Call}
 use Rattle.grammar.specs.Door.{Sound, Closed, Admitted, Turned-away}
 use Rattle.grammar.specs.Room.{Rooms}
@@ -14,6 +14,11 @@ pub record Found (asked : ℕ → Type 0) (n r : ℕ) : Type 0 where
   pub most : r ≤ n
   pub before : (i : ℕ) → i < r → asked i
   pub lacks : r < n → asked r → ⊥
+
+-- r is the highest of the first n bytes of a text, or 0 where there is none
+pub record Highest (text : List ℕ) (n r : ℕ) : Type 0 where
+  pub most : (i : ℕ) → i < n → getD text i 0 ≤ r
+  pub there : 0 < r → (i : ℕ) × (i < n) × (getD text i 0 ≡ r)
 
 -- a list's length, and those of the rooms
 pub record Right-list (n : ℕ) : Type 0 where

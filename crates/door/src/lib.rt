@@ -3,12 +3,15 @@ use token::lexeme::fits;
 use token::list::end_at;
 use token::list::kind_at;
 use token::list::start_at;
+use token::spelling::words;
+ghost use mathlib.Core.Path.{_≡_};
 ghost use Prim.Native.Nat.{_/_, _≤_, _<_};
 ghost use lib.ListN.{length, getD};
 ghost use Rattle.grammar.specs.Door.{Whole, Sound, Closed};
 ghost use Rattle.grammar.specs.Token.{count};
 ghost use Rattle.token.specs.Decides.{Decides};
-ghost use Rattle.door.specs.Entry.{Found, Measured, Listed, Entered};
+ghost use Rattle.token.specs.Words.{table};
+ghost use Rattle.door.specs.Entry.{Found, Highest, Measured, Listed, Entered};
 
 // The code, and the numbers at, start and end. No certain kind is ever required here.
 pub struct Refusal {
@@ -83,9 +86,25 @@ pub fn first_high(text: &[u8]) -> usize
     i
 }
 
-// Whether a token is none of the bad ones of check 6.
-fn sound(text: &[u8], tokens: &[u32], at: usize) -> bool
-    requires { ⌜ at < count (now tokens) ⌝ }
+// The highest byte, or 0 of an empty text. The loop has no other way out, so that many bytes are compared at once.
+fn highest(text: &[u8]) -> u8
+    ensures { λ r. ⌜ Highest (now (text .entry)) (length (now (text .entry))) r ⌝ }
+{
+    let mut high = 0;
+    let mut i = 0;
+    while i < text.len() {
+        let byte = text[i];
+        if high < byte {
+            high = byte;
+        }
+        i += 1;
+    }
+    high
+}
+
+// Whether a token is none of the bad ones of check 6. It asks for the table of spellings.
+fn sound(words: &[u8], text: &[u8], tokens: &[u32], at: usize) -> bool
+    requires { ⌜ (now words ≡ table) × (at < count (now tokens)) ⌝ }
     ensures { λ r. ⌜ Decides (Sound (now (text .entry)) (now (tokens .entry)) at) r ⌝ }
 {
     let kind = kind_at(tokens, at);
@@ -104,9 +123,9 @@ fn sound(text: &[u8], tokens: &[u32], at: usize) -> bool
         if start < end_at(tokens, at - 1) {
             return false;
         }
-        return fits(kind, text, start as usize, end as usize);
+        return fits(words, kind, text, start as usize, end as usize);
     }
-    fits(kind, text, start as usize, end as usize)
+    fits(words, kind, text, start as usize, end as usize)
 }
 
 // The first token that is bad in any of these ways, or the count.
@@ -114,9 +133,10 @@ fn first_unsound(text: &[u8], tokens: &[u32]) -> usize
     ensures { λ r. ⌜ Found (Sound (now (text .entry)) (now (tokens .entry))) (count (now (tokens .entry))) r ⌝ }
 {
     let count = tokens.len() / 3;
+    let table = words();
     let mut i = 0;
     while i < count {
-        if !sound(text, tokens, i) {
+        if !sound(&table, text, tokens, i) {
             return i;
         }
         i += 1;
@@ -203,8 +223,8 @@ pub fn check(
             end: 0,
         });
     }
-    let high = first_high(text);
-    if high < text.len() {
+    if 127 < highest(text) {
+        let high = first_high(text);
         return Entry::Refused(Refusal {
             code: 5,
             at: 0,

@@ -6,6 +6,7 @@ use ast::room::push;
 use door::first_high;
 use scan::is_blank;
 use scan::token_at;
+use token::spelling::words;
 ghost use mathlib.Core.Path.{_≡_};
 ghost use Prim.Native.Nat.{_*_, _≤_};
 ghost use lib.ListN.{length};
@@ -69,6 +70,7 @@ fn tokens(text: &[u8], list: &mut [u32]) -> Lexed
     ensures { λ r. ⌜ Lexes (now (text .entry)) (now (list .entry)) r (now (list .exit)) ⌝ }
 {
     let rows = capacity(list.len());
+    let table = words();
     let mut count = 0;
     let mut at = 0;
     while at < text.len() {
@@ -76,7 +78,7 @@ fn tokens(text: &[u8], list: &mut [u32]) -> Lexed
             at += 1;
             continue;
         }
-        let found = token_at(text, at);
+        let found = token_at(&table, text, at);
         let Found::Token(kind, end) = found else {
             clear(list, 0);
             return refused(16, at as u32, (at + 1) as u32);

@@ -11,6 +11,7 @@ ghost use lib.ListN.{length, getD};
 ghost use Rattle.grammar.specs.Lexeme.{letter, number, string, identifier};
 ghost use Rattle.grammar.specs.Pattern.{digit, maybe};
 ghost use Rattle.token.specs.Parts.{signed, power};
+ghost use Rattle.token.specs.Words.{table};
 ghost use Rattle.lexer.specs.Reads.{blank};
 ghost use Rattle.lexer.specs.Parts.{Ends, Other, Spelt, Starts};
 
@@ -24,9 +25,9 @@ pub(crate) fn is_blank(byte: u8) -> bool
     }
 }
 
-// The longest token that starts at a byte of the text.
-pub(crate) fn token_at(text: &[u8], start: usize) -> Found
-    requires { ⌜ start < length (now text) ⌝ }
+// The longest token that starts at a byte of the text. It asks for the table of spellings.
+pub(crate) fn token_at(words: &[u8], text: &[u8], start: usize) -> Found
+    requires { ⌜ (now words ≡ table) × (start < length (now text)) ⌝ }
     ensures { λ r. ⌜ Starts (now (text .entry)) start r ⌝ }
 {
     match text[start] {
@@ -40,7 +41,7 @@ pub(crate) fn token_at(text: &[u8], start: usize) -> Found
         b'0'..=b'9' => Found::Token(40, number_end(text, start)),
         b'A'..=b'Z' | b'_' | b'a'..=b'z' => {
             let end = word_end(text, start);
-            Found::Token(keyword(text, start, end), end)
+            Found::Token(keyword(words, text, start, end), end)
         }
         _ => sign_at(text, start),
     }

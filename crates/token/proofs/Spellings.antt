@@ -1,9 +1,8 @@
--- The table of spellings, as it comes from the definition's list, and its rule: one test that the checker computes over all 42 entries, and the lemma that
--- turns it into the rule at each.
+-- The rule of the table of spellings: one test that the checker computes over all 42 entries, and the lemma that turns it into the rule at each. It is said of any list that
+-- is the table, as what a function is lent.
 use Prim.Native.Nat.{ℕ, _+_, _-_, _≤_}
-use Prim.Native.String.{String}
 use mathlib.Core.Bool.{Bool, _&&_}
-use mathlib.Core.List.{List, [], _∷_, _++_, map}
+use mathlib.Core.List.{List, []}
 use mathlib.Core.Path.{_≡_, sym, ap, _∙_}
 use native.Mathlib.Omega.{arith}
 use lib.Dec.{leb, leb→le}
@@ -14,51 +13,42 @@ use Rattle.grammar.specs.Pattern.{bytes}
 use Rattle.grammar.specs.Rows.{same}
 use Rattle.grammar.proofs.Lexemes.{part-length}
 use Rattle.grammar.proofs.Tests.{both, same-means, within}
+use Rattle.token.specs.Words.{table}
 
--- words one after the other, and where each starts
-abbrev flat : List String → List ℕ
-flat [] = []
-flat (w ∷ ws) = bytes w ++ flat ws
-
-abbrev starts : ℕ → List String → List ℕ
-starts n [] = []
-starts n (w ∷ ws) = n ∷ starts (n + length (bytes w)) ws
-
-unfoldable pub table : List ℕ
-table = flat spellings
-
-unfoldable pub offsets : List ℕ
-offsets = starts 0 spellings
-
-unfoldable pub lengths : List ℕ
-lengths = map (λ w. length (bytes w)) spellings
+-- a list that is the table has its length
+pub whole : {ws : List ℕ} → ws ≡ table → 184 ≡ length ws
+unfolding table
+whole e = ap length (sym e)
 
 -- where the spelling of kind k starts, and how long it is
-abbrev pub offset : ℕ → ℕ
-offset k = getD offsets k 0
+abbrev pub start : List ℕ → ℕ → ℕ
+start ws k = 84 + getD ws k 0
 
-abbrev pub size : ℕ → ℕ
-size k = getD lengths k 0
+abbrev pub size : List ℕ → ℕ → ℕ
+size ws k = getD ws (42 + k) 0
 
 abbrev right : ℕ → Bool
-right k = leb (offset k + size k) (length table) && same (take (size k) (drop (offset k) table)) (spelling k)
+right k = leb (start table k + size table k) (length table) && same (take (size table k) (drop (start table k) table)) (spelling k)
 
-pub record Entry (k : ℕ) : Type 0 where
-  pub inside : offset k + size k ≤ length table
-  pub spelt : take (size k) (drop (offset k) table) ≡ spelling k
+pub record Entry (ws : List ℕ) (k : ℕ) : Type 0 where
+  pub inside : start ws k + size ws k ≤ length ws
+  pub spelt : take (size ws k) (drop (start ws k) ws) ≡ spelling k
 
-pub entry : (k : ℕ) → k ≤ Semicolon → Entry k
-unfolding table offsets lengths spelling same
-entry k h =
-    let (u, v) = both (leb (offset k + size k) (length table)) (same (take (size k) (drop (offset k) table)) (spelling k)) (within right 0 42 k tt (omega arith) (omega arith)) in
+of-table : (k : ℕ) → k ≤ Semicolon → Entry table k
+unfolding table spelling same
+of-table k h =
+    let (u, v) = both (leb (start table k + size table k) (length table)) (same (take (size table k) (drop (start table k) table)) (spelling k)) (within right 0 42 k tt (omega arith) (omega arith)) in
     record { inside = leb→le _ _ u; spelt = same-means _ _ v }
 
-pub spelling-length : (k : ℕ) → k ≤ Semicolon → length (spelling k) ≡ size k
-spelling-length k h = ap length (sym (entry k h .spelt)) ∙ part-length table (offset k) (size k) (entry k h .inside)
+pub entry : {ws : List ℕ} → ws ≡ table → (k : ℕ) → k ≤ Semicolon → Entry ws k
+entry e k h = rw e (of-table k h)
+
+pub spelling-length : {ws : List ℕ} {k : ℕ} → Entry ws k → length (spelling k) ≡ size ws k
+spelling-length {ws} {k} e = ap length (sym (e .spelt)) ∙ part-length ws (start ws k) (size ws k) (e .inside)
 
 -- the part of the table from where the spelling starts to where it ends
-pub cut : (k : ℕ) → k ≤ Semicolon → take ((offset k + size k) - offset k) (drop (offset k) table) ≡ spelling k
-cut k h = let e : (offset k + size k) - offset k ≡ size k = omega arith in ap (λ (n : ℕ). take n (drop (offset k) table)) e ∙ entry k h .spelt
+pub cut : {ws : List ℕ} {k : ℕ} → Entry ws k → take ((start ws k + size ws k) - start ws k) (drop (start ws k) ws) ≡ spelling k
+cut {ws} {k} e = let z : (start ws k + size ws k) - start ws k ≡ size ws k = omega arith in ap (λ (n : ℕ). take n (drop (start ws k) ws)) z ∙ e .spelt
 
 pub no-spelling : (k : ℕ) → 42 ≤ k → spelling k ≡ []
 unfolding spelling

@@ -1,5 +1,7 @@
 -- `check` meets its contract: the first of the checks that finds something wrong gives the answer.
+use Prim.Native.Nat.{_≤_}
 use native.Mathlib.Omega.{arith}
+use lib.ListN.{length}
 use Rattle.door.proofs.Codes.{by-lengths, by-byte, by-list, right-lengths, whole-list}
 use borrow.Author.Needs.{needs}
 use Rattle.door.proofs.check.Statement.{statement}
@@ -8,20 +10,24 @@ use Rattle.door.proofs.check.Tie as tie
 returns : tie.Need-returns
 returns c = by-lengths (c .before .lengths .ensures) (c .if1 .taken)
 
-cast-t14 : tie.Need-cast-t14
-cast-t14 c = omega (arith, right-lengths (c .before .before .before .lengths .ensures) (c .before .before .if1 .left) .1)
+-- how long the text is at most, where checks 1 to 4 find nothing
+short : (c : tie.Else1) → length (c .before .before .before .before .args .text .now) ≤ 65536
+short c = right-lengths (c .before .lengths .ensures) (c .if1 .left) .1
 
-cast-t16 : tie.Need-cast-t16
-cast-t16 c = omega (arith, right-lengths (c .before .before .before .lengths .ensures) (c .before .before .if1 .left) .1)
+cast-t15 : tie.Need-cast-t15
+cast-t15 c = omega (arith, short (c .before .before .before), c .first-high .ensures .most)
+
+cast-t17 : tie.Need-cast-t17
+cast-t17 c = omega (arith, short (c .before .before .before), c .first-high .ensures .most)
 
 returns-2 : tie.Need-returns-2
-returns-2 c = by-byte (c .before .before .before .lengths .ensures) (c .before .before .if1 .left) (c .if2 .taken) (c .before .first-high .ensures)
+returns-2 c = by-byte (c .before .before .before .before .lengths .ensures) (c .before .before .before .if1 .left) (c .before .before .highest .ensures) (c .before .if2 .taken) (c .first-high .ensures)
 
 listed-requires : tie.Need-listed-requires
 listed-requires c κs = whole-list _ (right-lengths (c .before .before .before .lengths .ensures) (c .before .before .if1 .left) .0)
 
 returns-3 : tie.Need-returns-3
-returns-3 c = by-list (c .before .before .before .before .lengths .ensures) (c .before .before .before .if1 .left) (c .before .if2 .left) (c .before .before .first-high .ensures) (c .listed .ensures)
+returns-3 c = by-list (c .before .before .before .before .lengths .ensures) (c .before .before .before .if1 .left) (c .before .before .highest .ensures) (c .before .if2 .left) (c .listed .ensures)
 
 pub check-spec : {M : Type 1} → statement M
 check-spec =
@@ -30,9 +36,10 @@ check-spec =
     (λ c κs. search needs)
     returns
     (λ c κs. search needs)
-    cast-t14
+    (λ c κs. search needs)
+    cast-t15
     (λ c. search needs)
-    cast-t16
+    cast-t17
     returns-2
     listed-requires
     returns-3)

@@ -17,10 +17,10 @@ returns-3 : tie.Need-returns-3
 returns-3 c = fails (λ z. let k = z .inside in omega (arith, c .before .before .before .end-at .ensures))
 
 returns-4 : tie.Need-returns-4
-returns-4 c = fails (λ z. let k = z .apart (c .before .before .before .before .before .before .before .before .before .before .before .args .at - 1) (omega arith) in omega (arith, c .before .before .before .before .before .before .before .start-at .ensures, c .before .end-at2 .ensures))
+returns-4 c = fails (λ z. let k = z .apart (c .before .before .before .before .before .before .before .before .before .before .before .before .args .at - 1) (omega arith) in omega (arith, c .before .before .before .before .before .before .before .start-at .ensures, c .before .end-at2 .ensures))
 
 returns-5 : tie.Need-returns-5
-returns-5 c = carried (λ f. record { known = omega (arith, c .before .before .before .before .before .before .before .before .before .kind-at .ensures); forward = omega (arith, c .before .before .before .before .before .before .before .before .start-at .ensures, c .before .before .before .before .before .before .before .end-at .ensures); inside = omega (arith, c .before .before .before .before .before .before .before .end-at .ensures); apart = λ j e. let y : j ≡ c .before .before .before .before .before .before .before .before .before .before .before .before .args .at - 1 = omega arith in rw y (omega (arith, c .before .before .before .before .before .before .before .before .start-at .ensures, c .before .before .end-at2 .ensures)); fits = f }) (λ z. z .fits) (rw (c .before .before .before .before .before .before .before .before .before .kind-at .ensures, c .before .before .before .before .before .before .before .before .start-at .ensures, c .before .before .before .before .before .before .before .end-at .ensures) at (c .fits2 .ensures))
+returns-5 c = carried (λ f. record { known = omega (arith, c .before .before .before .before .before .before .before .before .before .kind-at .ensures); forward = omega (arith, c .before .before .before .before .before .before .before .before .start-at .ensures, c .before .before .before .before .before .before .before .end-at .ensures); inside = omega (arith, c .before .before .before .before .before .before .before .end-at .ensures); apart = λ j e. let y : j ≡ c .before .before .before .before .before .before .before .before .before .before .before .before .before .args .at - 1 = omega arith in rw y (omega (arith, c .before .before .before .before .before .before .before .before .start-at .ensures, c .before .before .end-at2 .ensures)); fits = f }) (λ z. z .fits) (rw (c .before .before .before .before .before .before .before .before .before .kind-at .ensures, c .before .before .before .before .before .before .before .before .start-at .ensures, c .before .before .before .before .before .before .before .end-at .ensures) at (c .fits2 .ensures))
 
 returns-6 : tie.Need-returns-6
 returns-6 c = carried (λ f. record { known = omega (arith, c .before .before .before .before .before .before .before .kind-at .ensures); forward = omega (arith, c .before .before .before .before .before .before .start-at .ensures, c .before .before .before .before .before .end-at .ensures); inside = omega (arith, c .before .before .before .before .before .end-at .ensures); apart = λ j e. absurd (omega arith); fits = f }) (λ z. z .fits) (rw (c .before .before .before .before .before .before .before .kind-at .ensures, c .before .before .before .before .before .before .start-at .ensures, c .before .before .before .before .before .end-at .ensures) at (c .fits3 .ensures))

@@ -24,8 +24,8 @@ returns-2 : tie.Need-returns-2
 unfolding Case
 returns-2 c = record { says = a-string (c .before .before .match .keys1) (taken-out (c .before .string-end .ensures) (c .if1 .left)) }
 
-a-digit : (c : tie.Then3) → let a = c .before .before .before .before .before .args in digit (getD (a .text .now) (a .start) 0) ≡ true
-a-digit c = let a = c .before .before .before .before .before .args in sym (true-on digit 48 10 (getD (a .text .now) (a .start) 0) tt (omega arith) (omega arith))
+a-digit : (c : tie.Then3) → let a = c .before .before .before .before .before .before .args in digit (getD (a .text .now) (a .start) 0) ≡ true
+a-digit c = let a = c .before .before .before .before .before .before .args in sym (true-on digit 48 10 (getD (a .text .now) (a .start) 0) tt (omega arith) (omega arith))
 
 number-end-requires : tie.Need-number-end-requires
 number-end-requires c κs = (search needs, a-digit c)
@@ -35,7 +35,7 @@ unfolding Case
 returns-3 c = record { says = a-number (a-digit (c .before)) (c .number-end .ensures) }
 
 -- between the ranges of the arms
-between : (c : tie.Joined2) → let a = c .before .before .before .before .args in let x = getD (a .text .now) (a .start) 0 in (48 ≤ x → 57 < x) × (65 ≤ x → 90 < x) × (97 ≤ x → 122 < x)
+between : (c : tie.Joined2) → let a = c .before .before .before .before .before .args in let x = getD (a .text .now) (a .start) 0 in (48 ≤ x → 57 < x) × (65 ≤ x → 90 < x) × (97 ≤ x → 122 < x)
 between c = ⊎-elim (λ w. omega arith) (λ w. ⊎-elim (λ v. omega arith) (λ v. ⊎-elim (λ u. omega arith) (λ u. omega arith) v) w) (c .if2 .came)
 
 sign-at-requires : tie.Need-sign-at-requires
@@ -44,9 +44,9 @@ sign-at-requires c κs = let (d, u, l) = between c in (search needs, other-byte 
 returns-4 : tie.Need-returns-4
 returns-4 c = c .sign-at .ensures
 
-a-letter : (c : tie.At-match-came) → let a = c .before .before .before .args in letter (getD (a .text .now) (a .start) 0) ≡ true
+a-letter : (c : tie.At-match-came) → let a = c .before .before .before .before .args in letter (getD (a .text .now) (a .start) 0) ≡ true
 a-letter c =
-    let a = c .before .before .before .args in
+    let a = c .before .before .before .before .args in
     let x = getD (a .text .now) (a .start) 0 in
     ⊎-elim (λ w. ap letter (w .keys2)) (λ w. ⊎-elim (λ v. sym (true-on letter 65 26 x tt (omega arith) (omega arith))) (λ v. sym (true-on letter 97 26 x tt (omega arith) (omega arith))) w) (c .match .came)
 
@@ -62,7 +62,7 @@ token-at-spec =
     tie.close
     (tie.spec
     (λ c. search needs)
-    (λ c κs. (search needs, c .match .keys1))
+    (λ c κs. search needs)
     returns
     number-end-requires
     sign-at-requires
