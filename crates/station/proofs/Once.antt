@@ -1,0 +1,32 @@
+-- Two outcomes that the contract of an exported function allows are equal: what it hands back, and every number of every lent room.
+use Prim.Native.Nat.{ℕ}
+use native.Mathlib.Omega.{arith}
+use mathlib.Core.List.{List}
+use mathlib.Core.Path.{_≡_, refl, ap}
+use Rattle.diagnostics.proofs.Messages.{one-message as one-text}
+use Rattle.diagnostics.proofs.Places.{one-place as one-line}
+use Rattle.grammar.specs.Room.{Rooms}
+use Rattle.reader.proofs.Texts.{one-read as one-answer}
+use Rattle.station.specs.Exports.{listed, placed, put, Parses, Reads, Places, Writes}
+use Rattle.syntax.proofs.Promises.{one-parse as one-tree}
+
+pub one-parse : {text ts : List ℕ} {limit : ℕ} {before after after′ : Rooms} {room out out′ : List ℕ} {r r′ : ℕ} → Parses text ts limit before room after out r → Parses text ts limit before room after′ out′ r′ → (r ≡ r′) × (out ≡ out′) × (after ≡ after′)
+one-parse (Parses.short h) (Parses.short i) = (refl, refl, refl)
+one-parse (Parses.short h) (Parses.parsed i q) = absurd (omega arith)
+one-parse (Parses.parsed h p) (Parses.short i) = absurd (omega arith)
+one-parse {room = room} (Parses.parsed h p) (Parses.parsed i q) = let (e, f) = one-tree p q in (ap (λ a. a .code) e, ap (λ a. put (listed a) room) e, f)
+
+pub one-read : {text : List ℕ} {limit : ℕ} {list tokens tokens′ : List ℕ} {before after after′ : Rooms} {room out out′ : List ℕ} {r r′ : ℕ} → Reads text limit list before room tokens after out r → Reads text limit list before room tokens′ after′ out′ r′ → (r ≡ r′) × (out ≡ out′) × (tokens ≡ tokens′) × (after ≡ after′)
+one-read (Reads.short h) (Reads.short i) = (refl, refl, refl, refl)
+one-read (Reads.short h) (Reads.read i q) = absurd (omega arith)
+one-read (Reads.read h p) (Reads.short i) = absurd (omega arith)
+one-read {room = room} (Reads.read h p) (Reads.read i q) = let (e, f, g) = one-answer p q in (ap (λ a. a .code) e, ap (λ a. put (listed a) room) e, f, g)
+
+pub one-place : {text : List ℕ} {offset : ℕ} {room out out′ : List ℕ} {r r′ : ℕ} → Places text offset room out r → Places text offset room out′ r′ → (r ≡ r′) × (out ≡ out′)
+one-place (Places.short h) (Places.short i) = (refl, refl)
+one-place (Places.short h) (Places.place i q) = absurd (omega arith)
+one-place (Places.place h p) (Places.short i) = absurd (omega arith)
+one-place {room = room} (Places.place h p) (Places.place i q) = let e = one-line p q in (ap (λ a. a .code) e, ap (λ a. put (placed a) room) e)
+
+pub one-message : {code expected found : ℕ} {before after after′ : List ℕ} {r r′ : ℕ} → Writes code expected found before after r → Writes code expected found before after′ r′ → (r ≡ r′) × (after ≡ after′)
+one-message (Writes.written p) (Writes.written q) = let (e, f) = one-text p q in (ap (λ m. m .length) e, f)

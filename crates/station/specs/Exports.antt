@@ -1,0 +1,41 @@
+-- What the exported functions answer: what `parse`, `read`, `message` and `place` answer. C gets an answer of more than one number at the start of a lent room, the
+-- numbers in document 01's order, and its code once more as the value of the call. Where that room is too short the code is 13, and nothing else is done.
+use Prim.Native.Nat.{ℕ, _≤_, _<_}
+use mathlib.Core.List.{List, [], _∷_, _++_}
+use lib.ListN.{length, drop}
+use Rattle.diagnostics.specs.Line.{Placed}
+use Rattle.diagnostics.specs.Message.{Written}
+use Rattle.diagnostics.specs.declared.Message.{Message}
+use Rattle.diagnostics.specs.declared.Place.{Place}
+use Rattle.grammar.specs.Room.{Rooms}
+use Rattle.reader.specs.Answered.{Read}
+use Rattle.syntax.specs.Parsed.{Parsed}
+use Rattle.syntax.specs.declared.Answer.{Answer}
+
+-- 'code, three row counts, at, start, end, expected'
+abbrev pub listed : Answer → List ℕ
+listed a = a .code ∷ a .nodes ∷ a .links ∷ a .symbols ∷ a .at ∷ a .start ∷ a .end ∷ a .expected ∷ []
+
+abbrev pub placed : Place → List ℕ
+placed p = p .code ∷ p .line ∷ p .column ∷ []
+
+-- the numbers at the start of a room, the rest as it was
+abbrev pub put : (numbers room : List ℕ) → List ℕ
+put numbers room = numbers ++ drop (length numbers) room
+
+-- room: for the answer, before the call; then the four rooms, the room for the answer, and the code after it
+pub data Parses (text ts : List ℕ) (limit : ℕ) (before : Rooms) (room : List ℕ) : Rooms → List ℕ → ℕ → Type 0 where
+  short : length room < 8 → Parses text ts limit before room before room 13
+  parsed : {after : Rooms} {a : Answer} → 8 ≤ length room → Parsed text ts limit before after a → Parses text ts limit before room after (put (listed a) room) (a .code)
+
+pub data Reads (text : List ℕ) (limit : ℕ) (list : List ℕ) (before : Rooms) (room : List ℕ) : List ℕ → Rooms → List ℕ → ℕ → Type 0 where
+  short : length room < 8 → Reads text limit list before room list before room 13
+  read : {tokens : List ℕ} {after : Rooms} {a : Answer} → 8 ≤ length room → Read text limit list tokens before after a → Reads text limit list before room tokens after (put (listed a) room) (a .code)
+
+pub data Places (text : List ℕ) (offset : ℕ) (room : List ℕ) : List ℕ → ℕ → Type 0 where
+  short : length room < 3 → Places text offset room room 13
+  place : {p : Place} → 3 ≤ length room → Placed text offset p → Places text offset room (put (placed p) room) (p .code)
+
+-- the length alone: it is 0 where the text's room has under 52 bytes
+pub data Writes (code expected found : ℕ) (before after : List ℕ) : ℕ → Type 0 where
+  written : {m : Message} → Written code expected found before after m → Writes code expected found before after (m .length)

@@ -1,0 +1,99 @@
+// What a station links: `parse`, `read`, the message of a refusal and the line of a place, for C and Rust to call, over numbers and slices alone. None has a
+// `requires`. A slice is a pointer and a length to C, in this order.
+use diagnostics::line::place;
+use diagnostics::text::message;
+use reader::read;
+use syntax::Answer;
+use syntax::parse;
+ghost use Prim.Native.Nat.{_≤_};
+ghost use mathlib.Core.Path.{_≡_};
+ghost use lib.ListN.{length};
+ghost use Rattle.station.specs.Exports.{listed, put, Parses, Reads, Places, Writes};
+ghost use Rattle.syntax.specs.Parsed.{rooms};
+
+// Puts the eight numbers of an answer at the start of a room.
+fn list(a: Answer, room: &mut [u32])
+    requires { ⌜ 8 ≤ length (now room) ⌝ }
+    ensures { λ _. ⌜ now (room .exit) ≡ put (listed a) (now (room .entry)) ⌝ }
+{
+    room[0] = a.code;
+    room[1] = a.nodes;
+    room[2] = a.links;
+    room[3] = a.symbols;
+    room[4] = a.at;
+    room[5] = a.start;
+    room[6] = a.end;
+    room[7] = a.expected;
+}
+
+// Reads a script that is given as text and tokens: `parse`.
+// Ruled out: a count of links in the place of the nodes'; a refusal's start and end in each other's place; rooms that are written where the answer has no room.
+#[no_mangle]
+pub extern "C" fn kaori_parse(
+    text: &[u8],
+    tokens: &[u32],
+    limit: u32,
+    nodes: &mut [u32],
+    links: &mut [u32],
+    symbols: &mut [u32],
+    scratch: &mut [u32],
+    answer: &mut [u32],
+) -> u32
+    ensures { λ r. ⌜ Parses (now (text .entry)) (now (tokens .entry)) limit (rooms (now (nodes .entry)) (now (links .entry)) (now (symbols .entry)) (now (scratch .entry))) (now (answer .entry)) (rooms (now (nodes .exit)) (now (links .exit)) (now (symbols .exit)) (now (scratch .exit))) (now (answer .exit)) r ⌝ }
+{
+    if answer.len() < 8 {
+        return 13;
+    }
+    let a = parse(text, tokens, limit, nodes, links, symbols, scratch);
+    list(a, answer);
+    a.code
+}
+
+// Reads a script that is given as text; `tokens` takes its token list: `read`.
+// Ruled out: another depth limit than the caller's; an answer that leaves the list as it was where the token maker made one.
+#[no_mangle]
+pub extern "C" fn kaori_read(
+    text: &[u8],
+    tokens: &mut [u32],
+    limit: u32,
+    nodes: &mut [u32],
+    links: &mut [u32],
+    symbols: &mut [u32],
+    scratch: &mut [u32],
+    answer: &mut [u32],
+) -> u32
+    ensures { λ r. ⌜ Reads (now (text .entry)) limit (now (tokens .entry)) (rooms (now (nodes .entry)) (now (links .entry)) (now (symbols .entry)) (now (scratch .entry))) (now (answer .entry)) (now (tokens .exit)) (rooms (now (nodes .exit)) (now (links .exit)) (now (symbols .exit)) (now (scratch .exit))) (now (answer .exit)) r ⌝ }
+{
+    if answer.len() < 8 {
+        return 13;
+    }
+    let a = read(text, tokens, limit, nodes, links, symbols, scratch);
+    list(a, answer);
+    a.code
+}
+
+// Writes the text of a refusal at the start of a room and answers its length: `message`.
+// Ruled out: the found kind in the place of the expected one; a length that is not the text's.
+#[no_mangle]
+pub extern "C" fn kaori_message(code: u32, expected: u32, found: u32, room: &mut [u8]) -> usize
+    ensures { λ r. ⌜ Writes code expected found (now (room .entry)) (now (room .exit)) r ⌝ }
+{
+    let m = message(code, expected, found, room);
+    m.length
+}
+
+// The line and the column of an offset in a text: `place`.
+// Ruled out: line and column in each other's place; a line where the offset is past the text.
+#[no_mangle]
+pub extern "C" fn kaori_place(text: &[u8], offset: usize, answer: &mut [u32]) -> u32
+    ensures { λ r. ⌜ Places (now (text .entry)) offset (now (answer .entry)) (now (answer .exit)) r ⌝ }
+{
+    if answer.len() < 3 {
+        return 13;
+    }
+    let p = place(text, offset);
+    answer[0] = p.code;
+    answer[1] = p.line;
+    answer[2] = p.column;
+    p.code
+}
