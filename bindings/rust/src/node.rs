@@ -2,7 +2,7 @@
 
 const ABSENT: u32 = u32::MAX;
 
-/// A script that was read: its rows, in the rooms that were lent.
+/// A script that was read: its rows, in the rooms that were lent. A copy of it is four slices.
 #[derive(Clone, Copy, Debug)]
 pub struct Tree<'a> {
     text: &'a [u8],
@@ -11,23 +11,38 @@ pub struct Tree<'a> {
     symbols: &'a [[u32; 2]],
 }
 
-/// A row of the tree: its number, its span in the text, and its node.
-#[derive(Clone, Copy, Debug)]
-pub struct Row<'a> {
-    pub number: u32,
+/// A place in the text: from `start` up to `end`.
+#[derive(Clone, Copy, PartialEq, Eq, Debug, Default)]
+pub struct Span {
+    /// The offset of its first byte.
     pub start: u32,
+    /// The offset behind its last byte.
     pub end: u32,
+}
+
+/// A row of the tree.
+#[derive(Clone, Copy, PartialEq, Eq, Debug)]
+pub struct Row<'a> {
+    /// By which other rows name it.
+    pub number: u32,
+    /// Its place in the text; 0, 0 for the root. A row made of children may start later than its text, as in ast.rs: the sum in
+    /// `f(x) + 1` starts at `(`.
+    pub span: Span,
+    /// What it is.
     pub node: Node<'a>,
 }
 
 /// A name where it stands in the text, and its symbol.
 #[derive(Clone, Copy, PartialEq, Eq, Debug)]
 pub struct Name {
+    /// For [`Tree::symbol`].
     pub symbol: u32,
-    pub start: u32,
-    pub end: u32,
+    /// Where it stands.
+    pub span: Span,
 }
 
+/// The operators of [`Node::Binary`], in the order of ops.rs.
+#[allow(missing_docs)]
 #[derive(Clone, Copy, PartialEq, Eq, Debug)]
 pub enum BinaryOp {
     Add,
@@ -43,97 +58,138 @@ pub enum BinaryOp {
     LessEqual,
 }
 
+/// The operators of [`Node::Unary`]: `-` and `^`.
+#[allow(missing_docs)]
 #[derive(Clone, Copy, PartialEq, Eq, Debug)]
 pub enum UnaryOp {
     Negate,
     Deref,
 }
 
-/// A node, as ast.rs's `Node` has it. A child is the number of its row, which is an earlier one; a number's text is its
-/// row's span.
-#[derive(Clone, Copy, Debug)]
+/// A node, as ast.rs's `Node` has it. A child is the number of its row, which is an earlier one; a number has no value
+/// here, its text is its row's span.
+#[allow(missing_docs)]
+#[derive(Clone, Copy, PartialEq, Eq, Debug)]
 pub enum Node<'a> {
-    Binary { operator: BinaryOp, left: u32, right: u32 },
-    LogicalAnd { left: u32, right: u32 },
-    LogicalOr { left: u32, right: u32 },
+    Binary {
+        operator: BinaryOp,
+        left: u32,
+        right: u32,
+    },
+    LogicalAnd {
+        left: u32,
+        right: u32,
+    },
+    LogicalOr {
+        left: u32,
+        right: u32,
+    },
     LogicalNot(u32),
-    Unary { operator: UnaryOp, operand: u32 },
-    Assign { left: u32, right: u32 },
-    Variable { name: Name, right: u32 },
-    Constant { name: Name, right: u32 },
-    Ref { name: Name, right: u32 },
+    Unary {
+        operator: UnaryOp,
+        operand: u32,
+    },
+    Assign {
+        left: u32,
+        right: u32,
+    },
+    Variable {
+        left: Name,
+        right: u32,
+    },
+    Constant {
+        left: Name,
+        right: u32,
+    },
+    Ref {
+        left: Name,
+        right: u32,
+    },
     Identifier(Name),
+    /// Its symbol: what stands between the quotes.
     String(u32),
     Number,
     Boolean(bool),
     Nil,
-    FunctionCall { callee: u32, arguments: Nodes<'a> },
-    PropertyAccess { object: u32, property: Name },
-    Map { entries: Entries<'a> },
-    Function { name: Name, parameters: Names<'a>, block: u32 },
-    Lambda { parameters: Names<'a>, block: u32 },
-    Block { statements: Nodes<'a>, tail: Option<u32> },
-    If { condition: u32, then_branch: u32, else_branch: Option<u32> },
-    WhileLoop { condition: u32, block: u32 },
+    FunctionCall {
+        callee: u32,
+        arguments: Nodes<'a>,
+    },
+    PropertyAccess {
+        object: u32,
+        property: Name,
+    },
+    Map {
+        entries: Entries<'a>,
+    },
+    Function {
+        name: Name,
+        parameters: Names<'a>,
+        block: u32,
+    },
+    Lambda {
+        parameters: Names<'a>,
+        block: u32,
+    },
+    Block {
+        statements: Nodes<'a>,
+        tail: Option<u32>,
+    },
+    If {
+        condition: u32,
+        then_branch: u32,
+        else_branch: Option<u32>,
+    },
+    WhileLoop {
+        condition: u32,
+        block: u32,
+    },
     Return(u32),
     Break,
     Continue,
-    Import { path: Names<'a>, bindings: Names<'a> },
+    Import {
+        path: Names<'a>,
+        bindings: Names<'a>,
+    },
 }
 
-/// A list of nodes, by their rows.
-#[derive(Clone, Copy, Debug)]
+/// A list of nodes, by the numbers of their rows.
+#[derive(Clone, Copy, PartialEq, Eq, Debug)]
 pub struct Nodes<'a>(&'a [[u32; 3]]);
 
 /// A list of names.
-#[derive(Clone, Copy, Debug)]
+#[derive(Clone, Copy, PartialEq, Eq, Debug)]
 pub struct Names<'a>(&'a [[u32; 3]]);
 
-/// The entries of a map: a key, and a value where there is one.
-#[derive(Clone, Copy, Debug)]
+/// The entries of a map: a key's row, and a value's where there is one.
+#[derive(Clone, Copy, PartialEq, Eq, Debug)]
 pub struct Entries<'a>(&'a [[u32; 3]]);
 
-impl<'a> Nodes<'a> {
-    pub fn len(&self) -> usize {
-        self.0.len()
-    }
+/// What the three lists share.
+macro_rules! list {
+    ($list:ident, $item:ty, $from:expr) => {
+        impl<'a> $list<'a> {
+            /// How many items there are.
+            pub fn len(&self) -> usize {
+                self.0.len()
+            }
 
-    pub fn is_empty(&self) -> bool {
-        self.0.is_empty()
-    }
+            /// Whether there are none.
+            pub fn is_empty(&self) -> bool {
+                self.0.is_empty()
+            }
 
-    pub fn iter(&self) -> impl ExactSizeIterator<Item = u32> + 'a {
-        self.0.iter().map(|link| link[0])
-    }
+            /// The items in their order.
+            pub fn iter(&self) -> impl ExactSizeIterator<Item = $item> + use<'a> {
+                self.0.iter().map($from)
+            }
+        }
+    };
 }
 
-impl<'a> Names<'a> {
-    pub fn len(&self) -> usize {
-        self.0.len()
-    }
-
-    pub fn is_empty(&self) -> bool {
-        self.0.is_empty()
-    }
-
-    pub fn iter(&self) -> impl ExactSizeIterator<Item = Name> + 'a {
-        self.0.iter().map(|&[symbol, start, end]| Name { symbol, start, end })
-    }
-}
-
-impl<'a> Entries<'a> {
-    pub fn len(&self) -> usize {
-        self.0.len()
-    }
-
-    pub fn is_empty(&self) -> bool {
-        self.0.is_empty()
-    }
-
-    pub fn iter(&self) -> impl ExactSizeIterator<Item = (u32, Option<u32>)> + 'a {
-        self.0.iter().map(|link| (link[0], option(link[1])))
-    }
-}
+list!(Nodes, u32, |&[row, ..]| row);
+list!(Names, Name, |&[symbol, start, end]| Name { symbol, span: Span { start, end } });
+list!(Entries, (u32, Option<u32>), |&[key, value, _]| (key, option(value)));
 
 /// The rows of a tree in their order: children before parents, the root last.
 #[derive(Clone, Debug)]
@@ -149,6 +205,10 @@ impl<'a> Iterator for Rows<'a> {
         let row = self.tree.row(self.next)?;
         self.next += 1;
         Some(row)
+    }
+
+    fn size_hint(&self) -> (usize, Option<usize>) {
+        (0, Some(self.tree.nodes.len().saturating_sub(self.next as usize)))
     }
 }
 
@@ -171,15 +231,17 @@ impl<'a> Tree<'a> {
         Tree { text, nodes: used(nodes), links: used(links), symbols: used(symbols) }
     }
 
-    /// The rows as numbers, as document 01 has them.
+    /// The node rows as numbers: kind, start, end and six more, as bindings/c/kaori.h has them.
     pub fn node_rows(&self) -> &'a [[u32; 9]] {
         self.nodes
     }
 
+    /// The link rows as numbers.
     pub fn link_rows(&self) -> &'a [[u32; 3]] {
         self.links
     }
 
+    /// The symbol rows as numbers: where each symbol first stands in the text.
     pub fn symbol_rows(&self) -> &'a [[u32; 2]] {
         self.symbols
     }
@@ -189,12 +251,12 @@ impl<'a> Tree<'a> {
         Rows { tree: *self, next: 0 }
     }
 
-    /// The last row: a block of the script's statements.
+    /// The last row: the block of the script's statements.
     pub fn root(&self) -> Option<Row<'a>> {
         self.row(self.nodes.len().checked_sub(1)? as u32)
     }
 
-    /// The bytes of a symbol: a name, or a string's inside.
+    /// The bytes of a symbol: a name, or what stands between a string's quotes. None: there are not so many.
     pub fn symbol(&self, symbol: u32) -> Option<&'a [u8]> {
         let &[start, end] = self.symbols.get(symbol as usize)?;
         self.text.get(start as usize..end as usize)
@@ -203,7 +265,7 @@ impl<'a> Tree<'a> {
     /// The row of this number. None: there are not so many.
     pub fn row(&self, number: u32) -> Option<Row<'a>> {
         let &[kind, start, end, a, b, c, d, e, f] = self.nodes.get(number as usize)?;
-        let name = Name { symbol: a, start: b, end: c };
+        let name = Name { symbol: a, span: Span { start: b, end: c } };
         let node = match kind {
             1 => Node::Binary { operator: binary(a)?, left: b, right: c },
             2 => Node::LogicalAnd { left: a, right: b },
@@ -211,16 +273,19 @@ impl<'a> Tree<'a> {
             4 => Node::LogicalNot(a),
             5 => Node::Unary { operator: unary(a)?, operand: b },
             6 => Node::Assign { left: a, right: b },
-            7 => Node::Variable { name, right: d },
-            8 => Node::Constant { name, right: d },
-            9 => Node::Ref { name, right: d },
+            7 => Node::Variable { left: name, right: d },
+            8 => Node::Constant { left: name, right: d },
+            9 => Node::Ref { left: name, right: d },
             10 => Node::Identifier(name),
             11 => Node::String(a),
             12 => Node::Number,
             13 => Node::Boolean(a != 0),
             14 => Node::Nil,
             15 => Node::FunctionCall { callee: a, arguments: Nodes(self.list(b, c)?) },
-            16 => Node::PropertyAccess { object: a, property: Name { symbol: b, start: c, end: d } },
+            16 => Node::PropertyAccess {
+                object: a,
+                property: Name { symbol: b, span: Span { start: c, end: d } },
+            },
             17 => Node::Map { entries: Entries(self.list(a, b)?) },
             18 => Node::Function { name, parameters: Names(self.list(d, e)?), block: f },
             19 => Node::Lambda { parameters: Names(self.list(a, b)?), block: c },
@@ -233,7 +298,7 @@ impl<'a> Tree<'a> {
             26 => Node::Import { path: Names(self.list(a, b)?), bindings: Names(self.list(c, d)?) },
             _ => return None,
         };
-        Some(Row { number, start, end, node })
+        Some(Row { number, span: Span { start, end }, node })
     }
 
     fn list(&self, first: u32, count: u32) -> Option<&'a [[u32; 3]]> {

@@ -1,10 +1,12 @@
-//! Holds the boundary to the Rust parser's answers: the fixed list that the program `replay` reads too. It is a stream of frames (4 bytes of length,
-//! little-endian), a case and its answer in turn, as the program `rows` reads and prints them.
+//! Holds the boundary to the Rust parser's answers: the fixed list that the program `replay` reads too. It is a stream of
+//! frames (4 bytes of length, little-endian), a case and its answer in turn, as the program `rows` reads and prints them.
 use std::fmt::Write;
 
-use kaori_syntax::{Name, Node, Rooms, Tree, parse, place, read};
+use kaori_syntax::{Name, Node, Refusal, Rooms, Tree};
 
 const LIST: &[u8] = include_bytes!("../../../crates/replay/stdin");
+/// What `replay` prints: `N of N agree`.
+const COUNTED: &str = include_str!("../../../crates/replay/stdout");
 
 /// The printed rows of a script, each made again from its node; an unused number is 0.
 fn printed(tree: &Tree) -> String {
@@ -14,7 +16,7 @@ fn printed(tree: &Tree) -> String {
     let mut links = Vec::new();
     for row in tree.rows() {
         let (kind, numbers) = fields(&row.node, &mut links);
-        let mut all = vec![row.number, kind, row.start, row.end];
+        let mut all = vec![row.number, kind, row.span.start, row.span.end];
         all.extend(&numbers);
         all.resize(10, 0);
         writeln!(out, "{}", words(&all)).unwrap();
@@ -33,7 +35,7 @@ fn words(numbers: &[u32]) -> String {
 }
 
 fn fields(node: &Node, links: &mut Vec<[u32; 3]>) -> (u32, Vec<u32>) {
-    let named = |name: Name| [name.symbol, name.start, name.end];
+    let named = |name: Name| [name.symbol, name.span.start, name.span.end];
     let mut list = |rows: Vec<[u32; 3]>| {
         let numbers = [links.len() as u32, rows.len() as u32];
         links.extend(rows);
@@ -47,9 +49,9 @@ fn fields(node: &Node, links: &mut Vec<[u32; 3]>) -> (u32, Vec<u32>) {
         Node::LogicalNot(child) => (4, vec![child]),
         Node::Unary { operator, operand } => (5, vec![operator as u32, operand]),
         Node::Assign { left, right } => (6, vec![left, right]),
-        Node::Variable { name, right } => (7, [&named(name)[..], &[right]].concat()),
-        Node::Constant { name, right } => (8, [&named(name)[..], &[right]].concat()),
-        Node::Ref { name, right } => (9, [&named(name)[..], &[right]].concat()),
+        Node::Variable { left, right } => (7, [&named(left)[..], &[right]].concat()),
+        Node::Constant { left, right } => (8, [&named(left)[..], &[right]].concat()),
+        Node::Ref { left, right } => (9, [&named(left)[..], &[right]].concat()),
         Node::Identifier(name) => (10, named(name).to_vec()),
         Node::String(symbol) => (11, vec![symbol]),
         Node::Number => (12, vec![]),
@@ -116,56 +118,57 @@ fn frame<'a>(rest: &mut &'a [u8]) -> Option<&'a [u8]> {
     Some(frame)
 }
 
-#[test]
-fn the_rusts_answers() {
-    let (mut rest, mut cases, mut accepted, mut refused) = (LIST, 0, 0, 0);
-    let mut rooms = Rooms::for_tokens(512);
-    while let Some(case) = frame(&mut rest) {
-        let answer = std::str::from_utf8(frame(&mut rest).expect("an answer")).unwrap();
-        cases += 1;
-        let Some((text, tokens)) = decode(case) else {
-            assert_eq!(answer, "bad input\n");
-            continue;
-        };
-        let ours = match parse(text, &tokens, 64, &mut rooms) {
-            Ok(tree) => {
-                accepted += 1;
-                printed(&tree)
-            }
-            Err(r) => {
-                refused += 1;
-                let found = tokens.get(3 * r.at as usize).copied().unwrap_or(0);
-                let numbers = [r.code, r.at, r.start, r.end, r.expected.unwrap_or(255)];
-                format!("refused {}\n{}\n", words(&numbers), r.message(found).as_str())
-            }
-        };
-        assert_eq!(ours, answer, "{:?} {tokens:?}", String::from_utf8_lossy(text));
-    }
-    assert!(rest.is_empty() && accepted > 100 && refused > 100, "{cases} cases, {accepted} accepted");
-}
-
-#[test]
-fn rooms_of_any_size() {
-    let text = b"fun f(a, b) { a + b }";
-    for rows in 0..16 {
-        let mut rooms = Rooms::for_tokens(rows);
-        match read(text, 64, &mut rooms) {
-            Ok(tree) => assert!(rows >= 13 && tree.root().is_some()),
-            Err(refusal) => assert!(rows < 13 && refusal.code == 1),
+fn answer(ours: Result<Tree, Refusal>) -> String {
+    match ours {
+        Ok(tree) => printed(&tree),
+        Err(r) => {
+            let numbers = [r.code, r.at, r.span.start, r.span.end, r.expected.unwrap_or(255)];
+            format!("refused {}\n{}\n", words(&numbers), r.message().as_str())
         }
     }
-    let mut rooms = Rooms::for_tokens(16);
-    rooms.links.clear();
-    assert_eq!(read(text, 64, &mut rooms).unwrap_err().code, 4);
-    assert!(read(b"", 64, &mut Rooms::for_tokens(1)).is_ok());
-    assert_eq!(read(b"", 64, &mut Rooms::default()).unwrap_err().code, 1);
+}
+
+/// What document 01 says of the rooms after a call whose rooms held 7 throughout.
+fn check_rooms(rooms: &Rooms, code: u32, counts: [usize; 3]) {
+    let used = [9 * counts[0], 3 * counts[1], 2 * counts[2], 0];
+    for (room, used) in [&rooms.nodes, &rooms.links, &rooms.symbols, &rooms.scratch].into_iter().zip(used) {
+        let rest = if (1..=7).contains(&code) { 7 } else { 0 };
+        assert!(room[used..].iter().all(|&number| number == rest), "code {code}");
+    }
 }
 
 #[test]
-fn rows_of_no_tree() {
-    let mut rooms = Rooms::for_tokens(8);
-    let tree = read(b"a;", 64, &mut rooms).unwrap();
-    assert!(tree.row(2).is_none() && tree.row(u32::MAX).is_none() && tree.symbol(1).is_none());
-    assert!(place(b"a;", 3).is_none() && place(&[0; 65_537], 0).is_none());
-    assert_eq!(place(b"a;", 2).map(|p| (p.line, p.column)), Some((1, 3)));
+fn the_rusts_answers() {
+    let (mut rest, mut cases, mut accepted, mut from_text) = (LIST, 0, 0, 0);
+    while let Some(case) = frame(&mut rest) {
+        let expected = std::str::from_utf8(frame(&mut rest).expect("an answer")).unwrap();
+        cases += 1;
+        let Some((text, tokens)) = decode(case) else {
+            assert_eq!(expected, "bad input\n");
+            continue;
+        };
+        let mut rooms = Rooms::for_tokens(512);
+        for room in [&mut rooms.nodes, &mut rooms.links, &mut rooms.symbols, &mut rooms.scratch] {
+            room.fill(7);
+        }
+        let ours = rooms.parse(text, &tokens, 64);
+        let code = ours.as_ref().err().map_or(0, |refusal| refusal.code);
+        let counts = ours.as_ref().map_or([0; 3], |tree| {
+            [tree.node_rows().len(), tree.link_rows().len(), tree.symbol_rows().len()]
+        });
+        accepted += usize::from(code == 0);
+        assert_eq!(answer(ours), expected, "{:?} {tokens:?}", String::from_utf8_lossy(text));
+        check_rooms(&rooms, code, counts);
+
+        // where the token maker makes the case's tokens, `read` has the same answer
+        let ours = answer(rooms.read(text, 64));
+        let made = tokens.len() <= rooms.list.len() && rooms.list[..tokens.len()] == tokens[..];
+        if made && tokens.len().checked_sub(3).is_some_and(|eof| tokens[eof] == 44) {
+            from_text += 1;
+            assert_eq!(ours, expected, "{:?}", String::from_utf8_lossy(text));
+        }
+    }
+    assert!(rest.is_empty());
+    assert_eq!(format!("{cases} of {cases} agree\n"), COUNTED);
+    assert!(accepted > 100 && from_text > 100, "{accepted} accepted, {from_text} from the text");
 }

@@ -1,0 +1,49 @@
+/* Reads a script and prints what the program `rows` prints of it, and the line of a refusal: `example LIMIT < script`. */
+#include "kaori.h"
+
+#include <inttypes.h>
+#include <stdio.h>
+#include <stdlib.h>
+
+#define LENGTH(room) (sizeof(room) / sizeof *(room))
+
+static uint8_t text[KAORI_TEXT_MAX + 1];
+static uint32_t tokens[KAORI_TOKEN_WIDTH * KAORI_TOKENS_MAX], nodes[KAORI_NODE_WIDTH * KAORI_TOKENS_MAX];
+static uint32_t links[KAORI_LINK_WIDTH * KAORI_TOKENS_MAX], symbols[KAORI_SYMBOL_WIDTH * KAORI_TOKENS_MAX];
+static uint32_t scratch[KAORI_SCRATCH_WIDTH * KAORI_TOKENS_MAX];
+
+static void print(const char *name, const uint32_t *rows, size_t width, uint32_t count) {
+    for (uint32_t row = 0; row < count; row++) {
+        printf("%s%" PRIu32, name, row);
+        for (size_t i = 0; i < width; i++) printf(" %" PRIu32, rows[width * row + i]);
+        printf("\n");
+    }
+}
+
+static void explain(const uint32_t *answer, size_t length) {
+    uint8_t message[KAORI_MESSAGE_ROOM];
+    uint32_t place[KAORI_PLACE_ROOM], found = tokens[KAORI_TOKEN_WIDTH * answer[KAORI_AT]];
+    size_t written =
+        kaori_message(answer[KAORI_CODE], answer[KAORI_EXPECTED], found, message, LENGTH(message));
+    printf("refused %" PRIu32 " %" PRIu32 " %" PRIu32 " %" PRIu32 " %" PRIu32 "\n", answer[KAORI_CODE],
+           answer[KAORI_AT], answer[KAORI_START], answer[KAORI_END], answer[KAORI_EXPECTED]);
+    printf("%.*s\n", (int)written, (const char *)message);
+    if (kaori_place(text, length, answer[KAORI_START], place, LENGTH(place)) == KAORI_OK)
+        printf("line %" PRIu32 ", column %" PRIu32 "\n", place[KAORI_LINE], place[KAORI_COLUMN]);
+}
+
+int main(int argc, char **argv) {
+    uint32_t limit = argc > 1 ? (uint32_t)strtoul(argv[1], NULL, 10) : KAORI_LIMIT_MAX;
+    uint32_t answer[KAORI_ANSWER_ROOM];
+    size_t length = fread(text, 1, sizeof text, stdin);
+    if (kaori_read(text, length, tokens, LENGTH(tokens), limit, nodes, LENGTH(nodes), links, LENGTH(links), symbols,
+                   LENGTH(symbols), scratch, LENGTH(scratch), answer, LENGTH(answer)) != KAORI_OK) {
+        explain(answer, length);
+        return 1;
+    }
+    printf("ok %" PRIu32 " %" PRIu32 " %" PRIu32 "\n", answer[KAORI_NODES], answer[KAORI_LINKS], answer[KAORI_SYMBOLS]);
+    print("", nodes, KAORI_NODE_WIDTH, answer[KAORI_NODES]);
+    print("link ", links, KAORI_LINK_WIDTH, answer[KAORI_LINKS]);
+    print("sym ", symbols, KAORI_SYMBOL_WIDTH, answer[KAORI_SYMBOLS]);
+    return 0;
+}

@@ -1,0 +1,192 @@
+/* The proved reader of Kaori scripts, for C. Link libstation.a, which `rt staticlib station` writes for x86-64 Linux;
+   it needs memcpy and memset of the C library and nothing else.
+
+   Every function takes any numbers and any rooms, ends, and has one answer. What the proof cannot see, the caller sees to:
+   - a pointer is not null, also where its length is 0, and is aligned for its type;
+   - a length counts elements, not bytes, and so many elements stand behind the pointer;
+   - what a function writes to overlaps nothing else that is handed over in the same call; what it only reads may
+     overlap what it only reads;
+   - no other thread writes to what is handed over, or reads what is written to, during the call.
+   Nothing is kept after a call, nothing is allocated, and there is no state: calls on different rooms may run at once.
+   Nothing is written outside the lent rooms. */
+#ifndef KAORI_H
+#define KAORI_H
+
+#include <stddef.h>
+#include <stdint.h>
+
+#ifdef __cplusplus
+extern "C" {
+#endif
+
+/* How many numbers a token of a list has, and a row of each room. A room's rows are its whole rows. */
+enum {
+    KAORI_TOKEN_WIDTH = 3,
+    KAORI_NODE_WIDTH = 9,
+    KAORI_LINK_WIDTH = 3,
+    KAORI_SYMBOL_WIDTH = 2,
+    KAORI_SCRATCH_WIDTH = 3
+};
+
+/* The most tokens of a script, the Eof counted, the most bytes of its text, and the greatest depth limit. */
+enum { KAORI_TOKENS_MAX = 4096, KAORI_TEXT_MAX = 65536, KAORI_LIMIT_MAX = 64 };
+
+/* The least room for an answer of kaori_parse and kaori_read, for one of kaori_place, and for a message. */
+enum { KAORI_ANSWER_ROOM = 8, KAORI_PLACE_ROOM = 3, KAORI_MESSAGE_ROOM = 52 };
+
+/* What stands where in an answer of kaori_parse and kaori_read. After 0: code, three counts of rows, 0, 0, 0, 255. After
+   a refusal: code, 0, 0, 0, the number of the token, where it starts and ends in the text, and the kind of token that
+   was required there, or 255. Refusals 5 and 16 have no token but a byte, and 1 to 4 have no place: their numbers are
+   then 0. */
+enum {
+    KAORI_CODE,
+    KAORI_NODES,
+    KAORI_LINKS,
+    KAORI_SYMBOLS,
+    KAORI_AT,
+    KAORI_START,
+    KAORI_END,
+    KAORI_EXPECTED
+};
+
+/* And in an answer of kaori_place, after its code. */
+enum { KAORI_LINE = 1, KAORI_COLUMN };
+
+/* Codes. The first that applies is the answer. */
+enum {
+    KAORI_OK = 0,
+    KAORI_BAD_COUNT = 1,       /* the list's length is not three times a count from 1 to 4,096; of kaori_read: too many
+                                  tokens, or too little room for their list */
+    KAORI_LONG_TEXT = 2,       /* text over 65,536 bytes */
+    KAORI_BAD_LIMIT = 3,       /* depth limit 0 or over 64 */
+    KAORI_SMALL_ROOM = 4,      /* a room has fewer rows than there are tokens */
+    KAORI_HIGH_BYTE = 5,       /* a byte of the text over 127 */
+    KAORI_BAD_TOKEN = 6,       /* a token's kind, span or lexeme is wrong */
+    KAORI_BAD_EOF = 7,         /* Eof before the last token, or no Eof there */
+    KAORI_REQUIRED = 8,        /* another kind of token was required */
+    KAORI_OPERAND = 9,         /* an operand was required */
+    KAORI_FOR = 10,            /* a statement starts with `for` */
+    KAORI_TOO_DEEP = 11,       /* an opening would pass the depth limit */
+    KAORI_BAD_NUMBER = 12,     /* a number that has no value; never met past 6 so far */
+    KAORI_SMALL_ANSWER = 13,   /* too little room for the answer: nothing was done */
+    KAORI_PAST_TEXT = 14,      /* of kaori_place: the offset is past the text */
+    KAORI_NO_TOKEN = 16        /* of kaori_read: no token starts at a byte */
+};
+
+/* `expected` where no certain kind was required. */
+enum { KAORI_NO_KIND = 255 };
+
+/* The absent number of a row: a block's tail, an `else`, a map entry's value. */
+#define KAORI_ABSENT UINT32_C(4294967295)
+
+/* Kinds of tokens. */
+enum {
+    KAORI_ASSIGN,
+    KAORI_PLUS,
+    KAORI_MINUS,
+    KAORI_MULTIPLY,
+    KAORI_CARET,
+    KAORI_DIVIDE,
+    KAORI_MODULO,
+    KAORI_NOT_EQUAL,
+    KAORI_EQUAL,
+    KAORI_GREATER_EQUAL,
+    KAORI_LESS_EQUAL,
+    KAORI_GREATER,
+    KAORI_LESS,
+    KAORI_COMMA,
+    KAORI_COLON,
+    KAORI_DOT,
+    KAORI_PIPE,
+    KAORI_LEFT_PAREN,
+    KAORI_RIGHT_PAREN,
+    KAORI_HASH,
+    KAORI_LEFT_BRACE,
+    KAORI_RIGHT_BRACE,
+    KAORI_KEYWORDS, /* 22 to 39: and or not let const ref fun for while break continue if else return import true false
+                       nil */
+    KAORI_NUMBER_LITERAL = 40,
+    KAORI_SEMICOLON,
+    KAORI_STRING_LITERAL,
+    KAORI_IDENTIFIER,
+    KAORI_EOF
+};
+
+/* Kinds of nodes. A row is: kind, where its span starts and ends in the text, and six numbers more, of which the unused
+   are 0. Behind each kind stand those that are used. A child is a row's number, always an earlier one. NAME is three
+   numbers: symbol, start, end. LIST is two: first link row, how many. Children come before parents; the last row is the
+   script's root, a block with the span 0, 0 and no tail. */
+enum {
+    KAORI_NODE_BINARY = 1,      /* operator, left, right; operators from 0: + - * / % == != > >= < <= */
+    KAORI_NODE_AND,             /* left, right */
+    KAORI_NODE_OR,              /* left, right */
+    KAORI_NODE_NOT,             /* child */
+    KAORI_NODE_UNARY,           /* operator, child; operators from 0: - ^ */
+    KAORI_NODE_ASSIGN,          /* left, right */
+    KAORI_NODE_VARIABLE,        /* NAME, right */
+    KAORI_NODE_CONSTANT,        /* NAME, right */
+    KAORI_NODE_REF,             /* NAME, right */
+    KAORI_NODE_IDENTIFIER,      /* NAME */
+    KAORI_NODE_STRING,          /* symbol */
+    KAORI_NODE_NUMBER,          /* nothing: its text is its span */
+    KAORI_NODE_BOOLEAN,         /* 0 or 1 */
+    KAORI_NODE_NIL,             /* nothing */
+    KAORI_NODE_CALL,            /* callee, LIST of nodes */
+    KAORI_NODE_PROPERTY,        /* object, NAME */
+    KAORI_NODE_MAP,             /* LIST of entries */
+    KAORI_NODE_FUNCTION,        /* NAME, LIST of names, block */
+    KAORI_NODE_LAMBDA,          /* LIST of names, body */
+    KAORI_NODE_BLOCK,           /* LIST of nodes, tail or absent */
+    KAORI_NODE_IF,              /* condition, then, else or absent */
+    KAORI_NODE_WHILE,           /* condition, block */
+    KAORI_NODE_RETURN,          /* child */
+    KAORI_NODE_BREAK,           /* nothing */
+    KAORI_NODE_CONTINUE,        /* nothing */
+    KAORI_NODE_IMPORT           /* LIST of path names, LIST of names */
+};
+
+/* A link row is an item of a list: a node (its row, 0, 0), a name (symbol, start, end) or a map's entry (key's row,
+   value's row or absent, 0). A symbol row is where the symbol first stands in the text, start and end; a name's symbol
+   is its text, a string's what stands between its quotes; symbols are numbered in the order of their first places. */
+
+/* Reads a script that is given as its text and its tokens.
+   Takes: the text; the tokens, three numbers each (kind, start, end), Eof last; the depth limit, 1 to 64; four rooms,
+   each of at least as many rows as there are tokens, whatever they hold; and a room of 8 numbers or more for the answer.
+   Answers: the code, 0 or 1 to 13.
+   Leaves: in the answer's room the eight numbers, the rest as it was; after 0 in the other rooms the script's rows and
+   then zeros to each room's end, scratch all zeros; after 1 to 7 the four rooms as they were; after 8 to 12 the four
+   rooms all zeros; after 13 everything as it was. */
+uint32_t kaori_parse(const uint8_t *text, size_t text_len, const uint32_t *tokens, size_t tokens_len, uint32_t limit,
+                     uint32_t *nodes, size_t nodes_len, uint32_t *links, size_t links_len, uint32_t *symbols,
+                     size_t symbols_len, uint32_t *scratch, size_t scratch_len, uint32_t *answer, size_t answer_len);
+
+/* Reads a script that is given as its text alone: makes its tokens, and reads them.
+   Takes: the text; a room for the tokens, three numbers for each and the Eof; the rest as kaori_parse.
+   Answers: the code. The token maker's refusals come first, in the order 2, 5, 16, 1; then 3, 4 and 8 to 12 as
+   kaori_parse has them for the tokens that were made. 13 comes before all.
+   Leaves: in the tokens' room the tokens and then zeros, or as it was after 2, 5 and 13, or zeros throughout after 16 and
+   1; the four rooms as they were after 1 to 5, 13 and 16, else as kaori_parse leaves them; in the answer's room the
+   eight numbers, but after 13. */
+uint32_t kaori_read(const uint8_t *text, size_t text_len, uint32_t *tokens, size_t tokens_len, uint32_t limit,
+                    uint32_t *nodes, size_t nodes_len, uint32_t *links, size_t links_len, uint32_t *symbols,
+                    size_t symbols_len, uint32_t *scratch, size_t scratch_len, uint32_t *answer, size_t answer_len);
+
+/* The text of a refusal, with no byte 0 at its end.
+   Takes: the refusal's code and `expected`; the kind of the token at its place; and a room of 52 bytes or more.
+   Answers: the text's length, at most 52. It is 0 for a code but 8 to 12, where the text needs a kind over 44, and for a
+   room under 52 bytes.
+   Leaves: the text at the room's start, all bytes past it as they were. */
+size_t kaori_message(uint32_t code, uint32_t expected, uint32_t found, uint8_t *room, size_t room_len);
+
+/* The line and the column of an offset. A line ends at a byte 10; columns count bytes; both count from 1.
+   Takes: the text; the offset; and a room of 3 numbers or more for the answer.
+   Answers: the code: 0, also for the offset at the text's end; 2, 13 or 14.
+   Leaves: in the answer's room code, line and column, the last two 0 after 2 and 14, and the rest as it was; after 13 all
+   as it was. */
+uint32_t kaori_place(const uint8_t *text, size_t text_len, size_t offset, uint32_t *answer, size_t answer_len);
+
+#ifdef __cplusplus
+}
+#endif
+
+#endif

@@ -1,0 +1,141 @@
+/* Calls each function at the edges that the header names, and looks at what it answers and leaves: the numbers of every
+   room, and one on each side of it. */
+#include "kaori.h"
+
+#include <stdio.h>
+#include <string.h>
+
+enum { ROWS = 8, OLD = 0x07070707 };
+#define LENGTH(room) (sizeof(room) / sizeof *(room))
+
+static int failed;
+#define EXPECT(what) \
+    do { \
+        if (!(what)) failed = printf("bindings/c/test.c:%d: %s\n", __LINE__, #what); \
+    } while (0)
+
+/* The rooms of a call, each between two numbers that nobody may write to. */
+typedef struct {
+    uint32_t before_tokens, tokens[KAORI_TOKEN_WIDTH * ROWS];
+    uint32_t before_nodes, nodes[KAORI_NODE_WIDTH * ROWS];
+    uint32_t before_links, links[KAORI_LINK_WIDTH * ROWS];
+    uint32_t before_symbols, symbols[KAORI_SYMBOL_WIDTH * ROWS];
+    uint32_t before_scratch, scratch[KAORI_SCRATCH_WIDTH * ROWS];
+    uint32_t before_answer, answer[KAORI_ANSWER_ROOM + 2], after;
+} rooms;
+
+static int all(const uint32_t *room, size_t length, uint32_t number) {
+    size_t i = 0;
+    while (i < length && room[i] == number) i++;
+    return i == length;
+}
+
+static rooms fresh(void) {
+    rooms r;
+    memset(&r, 7, sizeof r);
+    return r;
+}
+
+static int fences(const rooms *r) {
+    return r->before_tokens == OLD && r->before_nodes == OLD && r->before_links == OLD && r->before_symbols == OLD &&
+           r->before_scratch == OLD && r->before_answer == OLD && r->after == OLD && r->answer[8] == OLD &&
+           r->answer[9] == OLD;
+}
+
+static int four_are(const rooms *r, uint32_t number) {
+    return all(r->nodes, LENGTH(r->nodes), number) && all(r->links, LENGTH(r->links), number) &&
+           all(r->symbols, LENGTH(r->symbols), number) && all(r->scratch, LENGTH(r->scratch), number);
+}
+
+static uint32_t parse(rooms *r, const char *text, const uint32_t *tokens, size_t length, uint32_t limit, size_t room) {
+    return kaori_parse((const uint8_t *)text, strlen(text), tokens, length, limit, r->nodes, LENGTH(r->nodes), r->links,
+                       LENGTH(r->links), r->symbols, LENGTH(r->symbols), r->scratch, LENGTH(r->scratch), r->answer,
+                       room);
+}
+
+static uint32_t from_text(rooms *r, const char *text, uint32_t limit, size_t list, size_t room) {
+    return kaori_read((const uint8_t *)text, strlen(text), r->tokens, list, limit, r->nodes, LENGTH(r->nodes), r->links,
+                      LENGTH(r->links), r->symbols, LENGTH(r->symbols), r->scratch, LENGTH(r->scratch), r->answer, room);
+}
+
+/* `a;` and its Eof, and what stands in the rooms for it. */
+static const uint32_t list[] = {KAORI_IDENTIFIER, 0, 1, KAORI_SEMICOLON, 1, 2, KAORI_EOF, 2, 2};
+static const uint32_t accepted[] = {0, 2, 1, 1, 0, 0, 0, KAORI_NO_KIND};
+static const uint32_t two_rows[] = {KAORI_NODE_IDENTIFIER, 0, 1, 0, 0, 1, 0, 0, 0, KAORI_NODE_BLOCK, 0, 0, 0, 1, KAORI_ABSENT, 0, 0, 0};
+
+static int holds_it(const rooms *r) {
+    return memcmp(r->answer, accepted, sizeof accepted) == 0 && memcmp(r->nodes, two_rows, sizeof two_rows) == 0 &&
+           all(r->nodes + 18, LENGTH(r->nodes) - 18, 0) && all(r->links, LENGTH(r->links), 0) && r->symbols[0] == 0 &&
+           r->symbols[1] == 1 && all(r->symbols + 2, LENGTH(r->symbols) - 2, 0) &&
+           all(r->scratch, LENGTH(r->scratch), 0) && fences(r);
+}
+
+static int answered(const rooms *r, uint32_t code, uint32_t at, uint32_t start, uint32_t end, uint32_t expected) {
+    uint32_t numbers[] = {code, 0, 0, 0, at, start, end, expected};
+    return memcmp(r->answer, numbers, sizeof numbers) == 0 && fences(r);
+}
+
+static void parsing(void) {
+    rooms r = fresh();
+    EXPECT(parse(&r, "a;", list, 9, 64, 10) == KAORI_OK && holds_it(&r));
+    EXPECT(all(r.tokens, LENGTH(r.tokens), OLD));
+    r = fresh();
+    EXPECT(parse(&r, "a;", list, 9, 64, 7) == KAORI_SMALL_ANSWER);
+    EXPECT(four_are(&r, OLD) && all(r.answer, 10, OLD) && fences(&r));
+    EXPECT(parse(&r, "a;", list, 9, 64, 0) == KAORI_SMALL_ANSWER && all(r.answer, 10, OLD));
+    EXPECT(parse(&r, "a;", list, 8, 64, 8) == KAORI_BAD_COUNT && answered(&r, 1, 0, 0, 0, KAORI_NO_KIND));
+    EXPECT(parse(&r, "a;", list, 0, 64, 8) == KAORI_BAD_COUNT);
+    EXPECT(parse(&r, "a;", list, 9, 0, 8) == KAORI_BAD_LIMIT);
+    EXPECT(parse(&r, "a;", list, 9, 65, 8) == KAORI_BAD_LIMIT);
+    EXPECT(parse(&r, "a\x80", list, 9, 64, 8) == KAORI_HIGH_BYTE && answered(&r, 5, 0, 1, 2, KAORI_NO_KIND));
+    EXPECT(parse(&r, "a", list, 9, 64, 8) == KAORI_BAD_TOKEN && answered(&r, 6, 1, 1, 2, KAORI_NO_KIND));
+    EXPECT(parse(&r, "a;", list, 6, 64, 8) == KAORI_BAD_EOF && answered(&r, 7, 1, 1, 2, KAORI_NO_KIND));
+    EXPECT(four_are(&r, OLD));
+    uint32_t two[] = {KAORI_IDENTIFIER, 0, 1, KAORI_IDENTIFIER, 2, 3, KAORI_EOF, 3, 3};
+    EXPECT(parse(&r, "a b", two, 9, 64, 8) == KAORI_REQUIRED && answered(&r, 8, 1, 2, 3, KAORI_SEMICOLON));
+    EXPECT(four_are(&r, 0));
+}
+
+static void reading(void) {
+    rooms r = fresh();
+    EXPECT(from_text(&r, "a;", 64, LENGTH(r.tokens), 8) == KAORI_OK && holds_it(&r));
+    EXPECT(memcmp(r.tokens, list, sizeof list) == 0 && all(r.tokens + 9, LENGTH(r.tokens) - 9, 0));
+    r = fresh();
+    EXPECT(from_text(&r, "a;", 64, LENGTH(r.tokens), 7) == KAORI_SMALL_ANSWER && all(r.answer, 10, OLD));
+    EXPECT(from_text(&r, "a\xff", 64, LENGTH(r.tokens), 8) == KAORI_HIGH_BYTE && all(r.tokens, LENGTH(r.tokens), OLD));
+    EXPECT(from_text(&r, "a @", 64, LENGTH(r.tokens), 8) == KAORI_NO_TOKEN && answered(&r, 16, 0, 2, 3, KAORI_NO_KIND));
+    EXPECT(all(r.tokens, LENGTH(r.tokens), 0) && four_are(&r, OLD));
+    r = fresh();
+    EXPECT(from_text(&r, "a;", 64, 8, 8) == KAORI_BAD_COUNT && all(r.tokens, 8, 0) && r.tokens[8] == OLD);
+    EXPECT(from_text(&r, "a;b;c;d;", 64, LENGTH(r.tokens), 8) == KAORI_BAD_COUNT && four_are(&r, OLD));
+    EXPECT(from_text(&r, "((a));", 2, LENGTH(r.tokens), 8) == KAORI_TOO_DEEP && answered(&r, 11, 2, 2, 3, KAORI_NO_KIND));
+    EXPECT(four_are(&r, 0) && r.tokens[0] == KAORI_LEFT_PAREN);
+    EXPECT(from_text(&r, "", 64, 3, 8) == KAORI_OK && r.tokens[0] == KAORI_EOF && r.answer[KAORI_NODES] == 1);
+}
+
+static void telling(void) {
+    uint8_t room[54];
+    memset(room, '.', sizeof room);
+    EXPECT(kaori_message(8, KAORI_NUMBER_LITERAL, KAORI_STRING_LITERAL, room, 51) == 0 && room[0] == '.');
+    EXPECT(kaori_message(8, KAORI_NUMBER_LITERAL, 45, room, 52) == 0 && room[0] == '.');
+    EXPECT(kaori_message(7, KAORI_NUMBER_LITERAL, 0, room, 52) == 0 && room[0] == '.');
+    EXPECT(kaori_message(11, KAORI_NO_KIND, 0, room, 54) == 15 && memcmp(room, "nested too deep.", 16) == 0);
+    EXPECT(kaori_message(8, KAORI_NUMBER_LITERAL, KAORI_STRING_LITERAL, room, 52) == 52 && room[52] == '.');
+    EXPECT(memcmp(room, "expected <number literal> and found <string literal>", 52) == 0);
+
+    uint32_t answer[] = {OLD, OLD, OLD, OLD};
+    const uint8_t text[] = {'a', '\n', 'b'};
+    static const uint8_t long_text[KAORI_TEXT_MAX + 1];
+    EXPECT(kaori_place(text, 3, 2, answer, 2) == KAORI_SMALL_ANSWER && all(answer, 4, OLD));
+    EXPECT(kaori_place(text, 3, 3, answer, 4) == KAORI_OK && answer[KAORI_LINE] == 2 && answer[KAORI_COLUMN] == 2);
+    EXPECT(answer[KAORI_CODE] == KAORI_OK && answer[3] == OLD);
+    EXPECT(kaori_place(text, 3, 4, answer, 3) == KAORI_PAST_TEXT && answer[0] == 14 && answer[1] == 0 && answer[2] == 0);
+    EXPECT(kaori_place(long_text, sizeof long_text, 0, answer, 3) == KAORI_LONG_TEXT && answer[0] == 2);
+}
+
+int main(void) {
+    parsing();
+    reading();
+    telling();
+    return failed != 0;
+}

@@ -1,0 +1,292 @@
+//! A safe interface to the proved reader of Kaori scripts.
+//!
+//! The reader writes a script's tree as rows of numbers into rooms that the caller lends. [`Rooms`] holds such rooms;
+//! they serve any number of calls and need no clearing. [`Rooms::read`] takes a text, [`Rooms::parse`] a text and its
+//! tokens. Both answer with a [`Tree`] over the rooms, or with a [`Refusal`]. The functions [`read`] and [`parse`] do
+//! the same over slices of the caller's own. Nothing here panics, whatever is handed over.
+//!
+//! ```
+//! use kaori_syntax::{Node, Rooms};
+//!
+//! let mut rooms = Rooms::for_tokens(64);
+//! let tree = rooms.read(b"let total = price * 2;", 64)?;
+//!
+//! // children come before parents: `price`, `2`, the product, the variable, the root
+//! assert_eq!(tree.rows().count(), 5);
+//! let names: Vec<_> = tree
+//!     .rows()
+//!     .filter_map(|row| match row.node {
+//!         Node::Identifier(name) | Node::Variable { left: name, .. } => tree.symbol(name.symbol),
+//!         _ => None,
+//!     })
+//!     .collect();
+//! assert_eq!(names, [b"price", b"total"]);
+//! # Ok::<(), kaori_syntax::Refusal>(())
+//! ```
+//!
+//! From the root down:
+//!
+//! ```
+//! use kaori_syntax::{BinaryOp, Node, Rooms, Span};
+//!
+//! let mut rooms = Rooms::for_tokens(64);
+//! let tree = rooms.read(b"let total = price * 2;", 64)?;
+//! let Some(Node::Block { statements, tail: None }) = tree.root().map(|row| row.node) else { panic!() };
+//! let Some(first) = statements.iter().next().and_then(|number| tree.row(number)) else { panic!() };
+//! assert_eq!(first.span, Span { start: 0, end: 21 });
+//! let Node::Variable { right, .. } = first.node else { panic!() };
+//! let Some(Node::Binary { operator, .. }) = tree.row(right).map(|row| row.node) else { panic!() };
+//! assert_eq!(operator, BinaryOp::Multiply);
+//! # Ok::<(), kaori_syntax::Refusal>(())
+//! ```
+//!
+//! A refusal has a code, a place and a message:
+//!
+//! ```
+//! use kaori_syntax::{Rooms, place};
+//!
+//! let text = b"a;\nreturn;";
+//! let refusal = Rooms::for_tokens(16).read(text, 64).unwrap_err();
+//! assert_eq!((refusal.code, refusal.at), (9, 3));
+//! assert_eq!(refusal.to_string(), "expected a <operand> and found: `;`");
+//! let place = place(text, refusal.span.start as usize).unwrap();
+//! assert_eq!((place.line, place.column), (2, 7));
+//! ```
+#![deny(unsafe_code, missing_docs)]
+mod node;
+mod raw;
+
+pub use node::{BinaryOp, Entries, Name, Names, Node, Nodes, Row, Rows, Span, Tree, UnaryOp};
+
+/// The most tokens of a script, the Eof at its end counted.
+pub const MAX_TOKENS: usize = 4096;
+/// The most bytes of a text.
+pub const MAX_TEXT: usize = 65_536;
+/// The greatest depth limit.
+pub const MAX_DEPTH: u32 = 64;
+
+const NO_KIND: u32 = 255;
+
+/// What the reader writes into, lent for a call: rows of 9, 3, 2 and 3 numbers. Each room needs as many rows as there are
+/// tokens; what it holds does not matter.
+///
+/// After a success each room has the script's rows and then zeros, `scratch` zeros alone. After a refusal with code 1 to 5,
+/// 6, 7 or 16 all are as they were; after one with code 8 to 12 all are zeros.
+#[derive(Debug)]
+pub struct Lent<'a> {
+    /// Nine numbers a row.
+    pub nodes: &'a mut [u32],
+    /// Three numbers a row.
+    pub links: &'a mut [u32],
+    /// Two numbers a row.
+    pub symbols: &'a mut [u32],
+    /// Three numbers a row; of use to the reader alone.
+    pub scratch: &'a mut [u32],
+}
+
+/// Rooms of the crate's own, to be lent again and again.
+#[derive(Clone, Debug, Default)]
+pub struct Rooms {
+    /// Nine numbers a row.
+    pub nodes: Vec<u32>,
+    /// Three numbers a row.
+    pub links: Vec<u32>,
+    /// Two numbers a row.
+    pub symbols: Vec<u32>,
+    /// Three numbers a row.
+    pub scratch: Vec<u32>,
+    /// For the tokens that [`Rooms::read`] makes: three numbers each.
+    pub list: Vec<u32>,
+}
+
+impl Rooms {
+    /// Rooms for scripts of up to so many tokens, the Eof at the end counted; never more than [`MAX_TOKENS`]. A call clears
+    /// what it does not use, so rooms that fit are faster than rooms for everything.
+    pub fn for_tokens(tokens: usize) -> Rooms {
+        let rows = tokens.min(MAX_TOKENS);
+        Rooms {
+            nodes: vec![0; 9 * rows],
+            links: vec![0; 3 * rows],
+            symbols: vec![0; 2 * rows],
+            scratch: vec![0; 3 * rows],
+            list: vec![0; 3 * rows],
+        }
+    }
+
+    /// Reads a script's text: [`read`] in these rooms.
+    pub fn read<'a>(&'a mut self, text: &'a [u8], limit: u32) -> Result<Tree<'a>, Refusal> {
+        let Rooms { nodes, links, symbols, scratch, list } = self;
+        read(text, list, limit, Lent { nodes, links, symbols, scratch })
+    }
+
+    /// Reads a script's text and tokens: [`parse`] in these rooms.
+    pub fn parse<'a>(&'a mut self, text: &'a [u8], tokens: &[u32], limit: u32) -> Result<Tree<'a>, Refusal> {
+        let Rooms { nodes, links, symbols, scratch, .. } = self;
+        parse(text, tokens, limit, Lent { nodes, links, symbols, scratch })
+    }
+}
+
+/// Why a script was refused, and where. The first refusal that applies is given.
+///
+/// | Code | Given when |
+/// |---|---|
+/// | 1 | the token list's length is not three times a count from 1 to 4,096; by [`read`]: too many tokens, or too little list room |
+/// | 2 | text over 65,536 bytes |
+/// | 3 | depth limit 0 or over 64 |
+/// | 4 | a room has fewer rows than there are tokens |
+/// | 5 | a text byte over 127 |
+/// | 6 | a token's kind, span or lexeme is wrong |
+/// | 7 | Eof before the last token, or none there |
+/// | 8 | a certain kind of token was required |
+/// | 9 | an operand was required |
+/// | 10 | a statement starts with `for` |
+/// | 11 | an opening would pass the depth limit |
+/// | 12 | a number lexeme without a value |
+/// | 16 | by [`read`]: no token starts at a byte |
+#[derive(Clone, Copy, PartialEq, Eq, Debug)]
+pub struct Refusal {
+    /// From 1 to 12, or 16.
+    pub code: u32,
+    /// The token's number, for codes 6 to 12; else 0.
+    pub at: u32,
+    /// The token's place in the text; for codes 5 and 16 a byte's; else 0, 0.
+    pub span: Span,
+    /// The kind that was required there, for code 8. Kinds are numbered in the order of token.rs's `Token`, from 0.
+    pub expected: Option<u32>,
+    /// The kind of the token, for codes 6 to 12.
+    pub found: Option<u32>,
+}
+
+impl Refusal {
+    /// The text of the refusal; empty for a code that has none.
+    ///
+    /// ```
+    /// use kaori_syntax::Rooms;
+    ///
+    /// let mut rooms = Rooms::for_tokens(8);
+    /// let refusal = rooms.read(b"f(a", 64).unwrap_err();
+    /// assert_eq!(refusal.message().as_str(), "expected `,` and found <end of file>");
+    /// assert_eq!((refusal.expected, refusal.found), (Some(13), Some(44)));
+    /// assert_eq!(rooms.read(b"a @", 64).unwrap_err().message().as_str(), "");
+    /// ```
+    pub fn message(&self) -> Message {
+        let mut bytes = [0; 52];
+        let length = raw::message(
+            self.code,
+            self.expected.unwrap_or(NO_KIND),
+            self.found.unwrap_or(NO_KIND),
+            &mut bytes,
+        );
+        Message { bytes, length }
+    }
+}
+
+impl std::fmt::Display for Refusal {
+    /// The message, or the code and the place where there is none.
+    fn fmt(&self, f: &mut std::fmt::Formatter<'_>) -> std::fmt::Result {
+        match self.message().as_str() {
+            "" => write!(f, "refusal {} at {}..{}", self.code, self.span.start, self.span.end),
+            text => f.write_str(text),
+        }
+    }
+}
+
+impl std::error::Error for Refusal {}
+
+/// The text of a refusal.
+#[derive(Clone, Copy, Debug)]
+pub struct Message {
+    bytes: [u8; 52],
+    length: usize,
+}
+
+impl Message {
+    /// The text.
+    pub fn as_str(&self) -> &str {
+        self.bytes.get(..self.length).and_then(|bytes| std::str::from_utf8(bytes).ok()).unwrap_or("")
+    }
+}
+
+/// A line and a column, both from 1; columns count bytes.
+#[derive(Clone, Copy, PartialEq, Eq, Debug)]
+pub struct Place {
+    /// One more than the bytes 10 before the place.
+    pub line: u32,
+    /// One more than the bytes before it in its line.
+    pub column: u32,
+}
+
+/// The line and the column of an offset. None: the text is over [`MAX_TEXT`], or the offset past its end.
+///
+/// ```
+/// use kaori_syntax::{Place, place};
+///
+/// assert_eq!(place(b"a;\nb;", 4), Some(Place { line: 2, column: 2 }));
+/// assert_eq!(place(b"a;\nb;", 6), None);
+/// ```
+pub fn place(text: &[u8], offset: usize) -> Option<Place> {
+    let mut answer = [0; 3];
+    let code = raw::place(text, offset, &mut answer);
+    let [_, line, column] = answer;
+    (code == 0).then_some(Place { line, column })
+}
+
+/// Reads a script's text. `list` takes its tokens, three numbers each and zeros after the Eof; `limit` is the deepest nesting
+/// that is read, from 1 to [`MAX_DEPTH`].
+///
+/// ```
+/// use kaori_syntax::{Lent, Rooms, read};
+///
+/// let mut rooms = Rooms::for_tokens(8);
+/// assert_eq!(rooms.read(b"((a));", 2).unwrap_err().code, 11);
+/// assert_eq!(rooms.read(b"((a));", 3)?.rows().count(), 2);
+/// assert_eq!(rooms.read(b"a; b; c; d;", 64).unwrap_err().code, 1); // 9 tokens
+///
+/// // the same in arrays of the caller's
+/// let (mut list, mut nodes, mut links, mut symbols, mut scratch) = ([0; 24], [0; 72], [0; 24], [0; 16], [0; 24]);
+/// let lent = Lent { nodes: &mut nodes, links: &mut links, symbols: &mut symbols, scratch: &mut scratch };
+/// assert_eq!(read(b"((a));", &mut list, 3, lent)?.rows().count(), 2);
+/// # Ok::<(), kaori_syntax::Refusal>(())
+/// ```
+pub fn read<'a>(text: &'a [u8], list: &mut [u32], limit: u32, rooms: Lent<'a>) -> Result<Tree<'a>, Refusal> {
+    let Lent { nodes, links, symbols, scratch } = rooms;
+    let mut answer = [0; 8];
+    raw::read(text, list, limit, nodes, links, symbols, scratch, &mut answer);
+    tree(answer, text, list, nodes, links, symbols)
+}
+
+/// Reads a script that is given as its text and its tokens: three numbers each, kind, start and end, an Eof last. Kinds are
+/// numbered in the order of token.rs's `Token`, from 0, so that a `Token` is handed over as `token as u32`.
+///
+/// ```
+/// use kaori_syntax::Rooms;
+///
+/// let tokens = [43, 0, 1, 41, 1, 2, 44, 2, 2]; // Identifier, Semicolon, Eof
+/// let mut rooms = Rooms::for_tokens(3);
+/// assert_eq!(rooms.parse(b"a;", &tokens, 64)?.rows().count(), 2);
+/// assert_eq!(rooms.parse(b"a;", &tokens[..5], 64).unwrap_err().code, 1);
+/// # Ok::<(), kaori_syntax::Refusal>(())
+/// ```
+pub fn parse<'a>(text: &'a [u8], tokens: &[u32], limit: u32, rooms: Lent<'a>) -> Result<Tree<'a>, Refusal> {
+    let Lent { nodes, links, symbols, scratch } = rooms;
+    let mut answer = [0; 8];
+    raw::parse(text, tokens, limit, nodes, links, symbols, scratch, &mut answer);
+    tree(answer, text, tokens, nodes, links, symbols)
+}
+
+fn tree<'a>(
+    [code, node_rows, link_rows, symbol_rows, at, start, end, expected]: [u32; 8],
+    text: &'a [u8],
+    tokens: &[u32],
+    nodes: &'a [u32],
+    links: &'a [u32],
+    symbols: &'a [u32],
+) -> Result<Tree<'a>, Refusal> {
+    if code == 0 {
+        return Ok(Tree::new(text, (nodes, node_rows), (links, link_rows), (symbols, symbol_rows)));
+    }
+    let expected = (expected != NO_KIND).then_some(expected);
+    let found = (at as usize).checked_mul(3).and_then(|kind| tokens.get(kind)).copied();
+    let found = found.filter(|_| (6..=12).contains(&code));
+    Err(Refusal { code, at, span: Span { start, end }, expected, found })
+}

@@ -1,0 +1,65 @@
+//! The one module with `unsafe`: the archive's functions, as bindings/c/kaori.h declares them, and a safe function over each.
+//!
+//! What makes the calls safe: a slice is handed over as its pointer and its length, in this order, so the pointer is not
+//! null and aligned, and the length counts elements; Rust's borrows keep what is written apart from all else that is handed
+//! over; the functions are proved for any numbers and slices (they have no `requires`), write within the slices alone and
+//! keep nothing of them.
+#![allow(unsafe_code)]
+
+#[rustfmt::skip]
+unsafe extern "C" {
+    fn kaori_parse(
+        text: *const u8, text_len: usize, tokens: *const u32, tokens_len: usize, limit: u32,
+        nodes: *mut u32, nodes_len: usize, links: *mut u32, links_len: usize, symbols: *mut u32, symbols_len: usize,
+        scratch: *mut u32, scratch_len: usize, answer: *mut u32, answer_len: usize,
+    ) -> u32;
+    fn kaori_read(
+        text: *const u8, text_len: usize, tokens: *mut u32, tokens_len: usize, limit: u32,
+        nodes: *mut u32, nodes_len: usize, links: *mut u32, links_len: usize, symbols: *mut u32, symbols_len: usize,
+        scratch: *mut u32, scratch_len: usize, answer: *mut u32, answer_len: usize,
+    ) -> u32;
+    fn kaori_message(code: u32, expected: u32, found: u32, room: *mut u8, room_len: usize) -> usize;
+    fn kaori_place(text: *const u8, text_len: usize, offset: usize, answer: *mut u32, answer_len: usize) -> u32;
+}
+
+#[rustfmt::skip]
+#[allow(clippy::too_many_arguments)]
+pub fn parse(
+    text: &[u8], tokens: &[u32], limit: u32,
+    nodes: &mut [u32], links: &mut [u32], symbols: &mut [u32], scratch: &mut [u32], answer: &mut [u32; 8],
+) -> u32 {
+    // SAFETY: as the module says.
+    unsafe {
+        kaori_parse(
+            text.as_ptr(), text.len(), tokens.as_ptr(), tokens.len(), limit,
+            nodes.as_mut_ptr(), nodes.len(), links.as_mut_ptr(), links.len(), symbols.as_mut_ptr(), symbols.len(),
+            scratch.as_mut_ptr(), scratch.len(), answer.as_mut_ptr(), answer.len(),
+        )
+    }
+}
+
+#[rustfmt::skip]
+#[allow(clippy::too_many_arguments)]
+pub fn read(
+    text: &[u8], tokens: &mut [u32], limit: u32,
+    nodes: &mut [u32], links: &mut [u32], symbols: &mut [u32], scratch: &mut [u32], answer: &mut [u32; 8],
+) -> u32 {
+    // SAFETY: as the module says.
+    unsafe {
+        kaori_read(
+            text.as_ptr(), text.len(), tokens.as_mut_ptr(), tokens.len(), limit,
+            nodes.as_mut_ptr(), nodes.len(), links.as_mut_ptr(), links.len(), symbols.as_mut_ptr(), symbols.len(),
+            scratch.as_mut_ptr(), scratch.len(), answer.as_mut_ptr(), answer.len(),
+        )
+    }
+}
+
+pub fn message(code: u32, expected: u32, found: u32, room: &mut [u8; 52]) -> usize {
+    // SAFETY: as the module says.
+    unsafe { kaori_message(code, expected, found, room.as_mut_ptr(), room.len()) }
+}
+
+pub fn place(text: &[u8], offset: usize, answer: &mut [u32; 3]) -> u32 {
+    // SAFETY: as the module says.
+    unsafe { kaori_place(text.as_ptr(), text.len(), offset, answer.as_mut_ptr(), answer.len()) }
+}

@@ -1,0 +1,174 @@
+//! Rooms of all sizes, rows that are not there, and whatever else can be handed over: every call answers and nothing panics.
+use kaori_syntax::{Lent, Node, Rooms, Tree, parse, place, read};
+
+#[test]
+fn rooms_of_any_size() {
+    let text = b"fun f(a, b) { a + b }"; // 13 tokens
+    for rows in 0..16 {
+        match Rooms::for_tokens(rows).read(text, 64) {
+            Ok(tree) => assert!(rows >= 13 && tree.root().is_some()),
+            Err(refusal) => assert!(rows < 13 && refusal.code == 1),
+        }
+    }
+    let mut rooms = Rooms::for_tokens(16);
+    rooms.links.truncate(3 * 13 - 1);
+    assert_eq!(rooms.read(text, 64).unwrap_err().code, 4);
+    assert!(Rooms::for_tokens(1).read(b"", 64).is_ok());
+    assert_eq!(Rooms::default().read(b"", 64).unwrap_err().code, 1);
+    assert_eq!(Rooms::for_tokens(usize::MAX).nodes.len(), 9 * 4096);
+}
+
+#[test]
+fn rows_that_are_not_there() {
+    let mut rooms = Rooms::for_tokens(8);
+    let tree = rooms.read(b"a;", 64).unwrap();
+    assert!(tree.row(2).is_none() && tree.row(u32::MAX).is_none());
+    assert!(tree.symbol(1).is_none() && tree.symbol(u32::MAX).is_none());
+    assert_eq!(tree.rows().size_hint(), (0, Some(2)));
+}
+
+#[test]
+fn places() {
+    assert!(
+        place(b"a;", 3).is_none() && place(b"a;", usize::MAX).is_none() && place(&[0; 65_537], 0).is_none()
+    );
+    assert_eq!(place(b"a;", 2).map(|p| (p.line, p.column)), Some((1, 3)));
+    assert_eq!(place(&[10; 65_536], 65_536).map(|p| (p.line, p.column)), Some((65_537, 1)));
+}
+
+#[test]
+fn refusals() {
+    let mut rooms = Rooms::for_tokens(64);
+    let mut refused = |text: &[u8], limit| {
+        let r = rooms.read(text, limit).unwrap_err();
+        (r.code, r.at, r.span.start, r.span.end, r.expected, r.found, r.to_string())
+    };
+    assert_eq!(refused(b"a;", 65), (3, 0, 0, 0, None, None, "refusal 3 at 0..0".to_string()));
+    assert_eq!(refused(b"a \x80", 64), (5, 0, 2, 3, None, None, "refusal 5 at 2..3".to_string()));
+    assert_eq!(refused(b"a @", 64), (16, 0, 2, 3, None, None, "refusal 16 at 2..3".to_string()));
+    assert_eq!(
+        refused(b"(f)(x);", 64),
+        (8, 3, 3, 4, Some(41), Some(17), "expected `;` and found `(`".to_string())
+    );
+    assert_eq!(refused(b"for", 64), (10, 0, 0, 3, None, Some(29), "for is not supported".to_string()));
+    assert_eq!(refused(b"((a));", 2), (11, 2, 2, 3, None, Some(43), "nested too deep".to_string()));
+    let refusal = rooms.parse(b"a;", &[43, 0, 1, 45, 1, 2, 44, 2, 2], 64).unwrap_err();
+    assert_eq!((refusal.code, refusal.at, refusal.found, refusal.message().as_str()), (6, 1, Some(45), ""));
+}
+
+/// Numbers without a pattern.
+struct Dice(u64);
+
+impl Dice {
+    fn roll(&mut self, sides: usize) -> usize {
+        self.0 = self.0.wrapping_mul(6_364_136_223_846_793_005).wrapping_add(1_442_695_040_888_963_407);
+        (self.0 >> 33) as usize % sides
+    }
+
+    /// A number near a bound, or any.
+    fn number(&mut self, bound: usize) -> u32 {
+        match self.roll(8) {
+            0 => u32::MAX - self.roll(3) as u32,
+            1 => (bound + self.roll(4)) as u32,
+            _ => self.roll(bound + 1) as u32,
+        }
+    }
+
+    fn numbers(&mut self, count: usize, bound: usize) -> Vec<u32> {
+        (0..count).map(|_| self.number(bound)).collect()
+    }
+}
+
+/// Follows every number of every row.
+fn walk(tree: &Tree) {
+    let mut rows = 0;
+    for row in tree.rows() {
+        assert_eq!(row.number, rows);
+        rows += 1;
+        let earlier = |child: u32| assert!(child < row.number && tree.row(child).is_some());
+        match row.node {
+            Node::FunctionCall { callee, arguments } => arguments.iter().chain([callee]).for_each(earlier),
+            Node::Block { statements, tail } => statements.iter().chain(tail).for_each(earlier),
+            Node::Map { entries } => entries.iter().for_each(|(key, value)| {
+                earlier(key);
+                value.into_iter().for_each(earlier)
+            }),
+            Node::Function { name, parameters, block } => {
+                earlier(block);
+                assert!(parameters.iter().chain([name]).all(|name| tree.symbol(name.symbol).is_some()));
+            }
+            Node::String(symbol) => assert!(tree.symbol(symbol).is_some()),
+            _ => {}
+        }
+    }
+    assert!(rows as usize == tree.node_rows().len() && rows > 0);
+}
+
+#[test]
+fn anything_at_all() {
+    const PIECES: [&str; 24] = [
+        "a", "b", "1", "\"s\"", ";", "(", ")", "{", "}", "if", "not", "+", "=", ",", ".", "|", "#", ":", " ",
+        "fun", "\n", "-", "@", "é",
+    ];
+    let mut dice = Dice(20261115);
+    let (mut accepted, mut turned, mut refused) = (0, 0, 0);
+    for _ in 0..40_000 {
+        let text: String = (0..dice.roll(12)).map(|_| PIECES[dice.roll(PIECES.len())]).collect();
+        let text = text.as_bytes();
+        let limit = dice.number(64);
+        let mut rooms = Rooms {
+            nodes: dice.numbers(9 * 16, 70),
+            links: dice.numbers(3 * 16, 70),
+            symbols: dice.numbers(2 * 16, 70),
+            scratch: dice.numbers(3 * 16, 70),
+            list: dice.numbers(3 * 16, 70),
+        };
+        if dice.roll(4) == 0 {
+            let short = dice.roll(150);
+            for room in [&mut rooms.nodes, &mut rooms.links, &mut rooms.symbols, &mut rooms.list] {
+                room.truncate(short);
+            }
+        }
+        let from_text = rooms
+            .read(text, limit)
+            .map(|tree| walk(&tree))
+            .map_err(|r| (r.code, r.at, r.span, r.to_string()));
+        match &from_text {
+            Ok(()) => accepted += 1,
+            Err((code, ..)) if *code < 8 || *code == 16 => turned += 1,
+            Err((code, ..)) => {
+                assert!((8..=12).contains(code));
+                refused += 1;
+            }
+        }
+        // the tokens that were made have the same answer
+        let mut list = rooms.list.clone();
+        if let Some(eof) = list.chunks_exact(3).position(|token| token[0] == 44)
+            && !from_text.as_ref().is_err_and(|(code, ..)| [1, 2, 5, 16].contains(code))
+        {
+            list.truncate(3 * (eof + 1));
+            let again = rooms.parse(text, &list, limit).map(|tree| walk(&tree));
+            assert_eq!(again.map_err(|r| (r.code, r.at, r.span, r.to_string())), from_text);
+        }
+        // and numbers that are no tokens have one
+        let wild = dice.numbers(dice.0 as usize % 40, 45);
+        if let Ok(tree) = rooms.parse(text, &wild, limit) {
+            walk(&tree);
+        }
+        let _ = place(text, dice.number(12) as usize);
+    }
+    assert!(accepted > 500 && turned > 500 && refused > 500, "{accepted} {turned} {refused}");
+}
+
+#[test]
+fn slices_of_the_callers() {
+    let (mut list, mut nodes, mut links, mut symbols, mut scratch) =
+        ([9; 10], [9; 28], [9; 10], [9; 7], [9; 11]);
+    let lent = Lent { nodes: &mut nodes, links: &mut links, symbols: &mut symbols, scratch: &mut scratch };
+    assert_eq!(read(b"a;", &mut list, 64, lent).map(|tree| tree.rows().count()), Ok(2));
+    assert_eq!((list[9], nodes[27], links[9], symbols[6], scratch), (0, 0, 0, 0, [0; 11]));
+    let lent = Lent { nodes: &mut [], links: &mut [], symbols: &mut [], scratch: &mut [] };
+    assert_eq!(parse(b"a;", &list[..9], 64, lent).unwrap_err().code, 4);
+    let lent = Lent { nodes: &mut [], links: &mut [], symbols: &mut [], scratch: &mut [] };
+    assert_eq!(parse(b"", &[], 64, lent).unwrap_err().code, 1);
+}
