@@ -1,13 +1,14 @@
 //! The scripts that are timed.
-use kaori_syntax::{Rooms, read};
+use kaori_syntax::Rooms;
 
 pub struct Input {
     pub name: &'static str,
     pub text: String,
     /// Three numbers a token, the Eof last.
     pub tokens: Vec<u32>,
-    /// Whether it counts as typical.
+    /// The one whose ratio is the first of the last line.
     pub typical: bool,
+    /// Whether the answer is a refusal.
     pub refused: bool,
     /// How many numbers are set to zero in rooms of as many rows as there are tokens.
     pub cleared: usize,
@@ -39,44 +40,41 @@ fun draw(screen, trains) {
 "#;
 
 pub fn all() -> Vec<Input> {
-    let screen = tokens_of(SCREEN).len() / 3;
-    let large = SCREEN.repeat(4000 / screen);
-    let deep = format!("{}a{};", "(".repeat(60), ")".repeat(60));
+    let screens = |tokens: usize| SCREEN.repeat(tokens / (tokens_of(SCREEN).len() / 3));
+    let parentheses = format!("{}a{};", "(".repeat(60), ")".repeat(60));
     let blocks = format!("{}a;{}", "{".repeat(60), "}".repeat(60));
-    // each name has a `;`, so that 4,096 tokens hold no more names than these
+    // no two names of a script stand side by side, so that 4,096 tokens, Eof among them, hold 2,047 of these and no more
     let names = |count: usize| (0..count).map(|i| format!("n{i};")).collect::<String>();
-    let one = "total;".repeat(2047);
-    let late = format!("{}return;", SCREEN.repeat(4000 / screen));
     vec![
-        input("screen", SCREEN.to_string(), true),
-        input("large script", large, true),
-        input("nesting, parentheses", deep.repeat(33), false),
-        input("nesting, blocks", blocks.repeat(33), false),
-        input("different names, 32", names(32), false),
-        input("different names, 128", names(128), false),
-        input("different names, 512", names(512), false),
-        input("different names, 2047", names(2047), false),
-        input("one name", one, false),
-        input("refusal at the end", late, false),
+        Input { typical: true, ..input("screen", SCREEN.to_string()) },
+        input("large script", screens(4000)),
+        input("nesting, parentheses", parentheses.repeat(33)),
+        input("nesting, blocks", blocks.repeat(33)),
+        input("different names, 32", names(32)),
+        input("different names, 128", names(128)),
+        input("different names, 512", names(512)),
+        input("different names, 2047", names(2047)),
+        input("one name", "total;".repeat(2047)),
+        input("refusal at the end", screens(4000) + "return;"),
     ]
 }
 
-fn input(name: &'static str, text: String, typical: bool) -> Input {
+fn input(name: &'static str, text: String) -> Input {
     let tokens = tokens_of(&text);
     let mut rooms = Rooms::for_tokens(tokens.len() / 3);
-    let numbers = 17 * (tokens.len() / 3);
-    let answer = read(text.as_bytes(), 64, &mut rooms);
+    let answer = rooms.read(text.as_bytes(), 64);
     let used = answer.as_ref().map_or(0, |tree| {
         9 * tree.node_rows().len() + 3 * tree.link_rows().len() + 2 * tree.symbol_rows().len()
     });
     let refused = answer.is_err();
-    Input { name, text, tokens, typical, refused, cleared: numbers - used }
+    let cleared = 17 * (tokens.len() / 3) - used;
+    Input { name, text, tokens, typical: false, refused, cleared }
 }
 
 /// The tokens of a text, by the list that `read` leaves.
 fn tokens_of(text: &str) -> Vec<u32> {
     let mut rooms = Rooms::for_tokens(4096);
-    let _ = read(text.as_bytes(), 64, &mut rooms);
+    let _ = rooms.read(text.as_bytes(), 64);
     let list = rooms.list;
     let eof = list.chunks(3).position(|token| token[0] == 44).expect("a list with an Eof");
     list[..3 * (eof + 1)].to_vec()

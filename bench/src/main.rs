@@ -1,0 +1,184 @@
+//! Times the proved reader and the Rust parser of the source documents in one process, on the same inputs.
+//!
+//! Both start from a text and its tokens. The proved reader gets lent rooms, of as many rows as there are tokens, which
+//! hold what the last run left; it leaves zeros past its rows itself. The Rust gets a token list of its own, made before
+//! the clock starts, and an empty interner; its tree is freed after the clock has stopped. Runs alternate, each is timed by
+//! itself, and the median counts.
+mod inputs;
+
+use std::{
+    env::consts::ARCH,
+    hint::black_box,
+    num::NonZero,
+    time::{Duration, Instant},
+};
+
+use inputs::Input;
+use kaori::{
+    compiler::{Compiler, fresh_interner},
+    syntax::{
+        ast::Ast,
+        parser::Parser,
+        token::{Span, Token},
+    },
+};
+use kaori_syntax::Rooms;
+
+const LIMIT: u32 = 64;
+
+/// `Token` in its own order.
+#[rustfmt::skip]
+const TOKENS: [Token; 45] = {
+    use Token::*;
+    [
+        Assign, Plus, Minus, Multiply, Caret, Divide, Modulo, NotEqual, Equal, GreaterEqual, LessEqual, Greater, Less,
+        Comma, Colon, Dot, Pipe, LeftParen, RightParen, Hash, LeftBrace, RightBrace, And, Or, Not, Let, Const, Ref,
+        Function, For, While, Break, Continue, If, Else, Return, Import, True, False, Nil, NumberLiteral, Semicolon,
+        StringLiteral, Identifier, Eof,
+    ]
+};
+
+fn main() {
+    let seconds = std::env::args().nth(1).and_then(|word| word.parse().ok()).unwrap_or(2.0);
+    let time = Duration::try_from_secs_f64(seconds).unwrap_or(Duration::from_secs(2));
+    // the Rust's parser recurses without a limit
+    std::thread::Builder::new().stack_size(64 << 20).spawn(move || bench(time)).unwrap().join().unwrap();
+}
+
+/// The medians of an input, in nanoseconds a call.
+struct Times {
+    ours: f64,
+    rust: f64,
+    door: f64,
+    wide: f64,
+    full: f64,
+    text: f64,
+    runs: usize,
+}
+
+fn bench(time: Duration) {
+    let cores = std::thread::available_parallelism().map_or(1, NonZero::get);
+    println!("{ARCH}, {cores} cores; tokens to tree, median nanoseconds a token");
+    println!(
+        "this reader's rooms are lent and not cleared between runs; it clears what it does not use, in its time"
+    );
+    println!(
+        "{:<22}{:>7}{:>9}{:>9}{:>7}   {:>7}{:>9}{:>9}{:>8}{:>8}{:>8}",
+        "input", "tokens", "this", "Rust", "ratio", "door", "reading", "zeroing", "4096", "text", "runs"
+    );
+    let (mut typical, mut worst) = (f64::MAX, f64::MAX);
+    for input in inputs::all() {
+        let t = measure(&input, time);
+        let tokens = (input.tokens.len() / 3) as f64;
+        let ratio = t.rust / t.ours;
+        if input.typical {
+            typical = ratio;
+        }
+        worst = worst.min(ratio);
+        // rooms of twice the rows have 17 more numbers a token to clear
+        let zeroing = (t.wide - t.ours) / (17.0 * tokens) * input.cleared as f64;
+        let reading = t.ours - t.door - zeroing;
+        let per = |ns: f64| format!("{:.1}", ns / tokens);
+        println!(
+            "{:<22}{tokens:>7}{:>9}{:>9}{ratio:>7.2}   {:>7}{:>9}{:>9}{:>8}{:>8}{:>8}",
+            input.name,
+            per(t.ours),
+            per(t.rust),
+            per(t.door),
+            per(reading),
+            per(zeroing),
+            per(t.full),
+            per(t.text),
+            t.runs
+        );
+    }
+    println!("ratio: the Rust's time by this reader's; above 1 this reader is faster");
+    println!("door: a call that the door refuses at the last token but one; reading: what is left of `this`");
+    println!("zeroing: the numbers past the rows, at the price of a number in rooms of twice the rows");
+    println!(
+        "4096: the same call in rooms of 4,096 rows; text: text to rows, which the Rust has no token maker for here"
+    );
+    println!("typical: the screen; worst: the least ratio");
+    println!("typical {typical:.2}, worst {worst:.2}");
+}
+
+fn measure(input: &Input, time: Duration) -> Times {
+    let tokens = input.tokens.len() / 3;
+    let text = input.text.as_bytes();
+    let mut rooms = Rooms::for_tokens(tokens);
+    let mut wide = rooms.clone();
+    for room in [&mut wide.nodes, &mut wide.links, &mut wide.symbols, &mut wide.scratch] {
+        room.resize(2 * room.len(), 0);
+    }
+    let mut full = Rooms::for_tokens(4096);
+    let rust_tokens: Vec<(Token, Span)> =
+        input.tokens.chunks(3).map(|t| (TOKENS[t[0] as usize], Span { start: t[1], end: t[2] })).collect();
+    let turned = turned_away(&input.tokens);
+    let compiler = Compiler::default();
+    agree(input, &rust_tokens, &turned, &mut rooms);
+
+    let mut times: [Vec<u64>; 6] = Default::default();
+    let end = Instant::now() + time;
+    while times[0].is_empty() || Instant::now() < end {
+        times[0].push(clock(|| rooms.parse(text, &input.tokens, LIMIT).is_ok()));
+        fresh_interner();
+        let list = rust_tokens.clone();
+        times[1].push(clock(|| Parser::new(&input.text, list, &compiler).parse()));
+        times[2].push(clock(|| rooms.parse(text, &turned, LIMIT).is_ok()));
+        times[3].push(clock(|| wide.parse(text, &input.tokens, LIMIT).is_ok()));
+        times[4].push(clock(|| full.parse(text, &input.tokens, LIMIT).is_ok()));
+        times[5].push(clock(|| rooms.read(text, LIMIT).is_ok()));
+    }
+    let runs = times[0].len();
+    let [ours, rust, door, wide, full, text] = times.map(median);
+    Times { ours, rust, door, wide, full, text, runs }
+}
+
+/// Both sides answer alike, the door refuses the list that is made for it, and the token maker makes the input's tokens.
+fn agree(input: &Input, rust_tokens: &[(Token, Span)], turned: &[u32], rooms: &mut Rooms) {
+    let (name, text) = (input.name, input.text.as_bytes());
+    let numbers = rust_tokens.iter().flat_map(|&(token, span)| [token as u32, span.start, span.end]);
+    assert!(numbers.eq(input.tokens.iter().copied()), "{name}: the order of `TOKENS`");
+    fresh_interner();
+    let compiler = Compiler::default();
+    let rust = Parser::new(&input.text, rust_tokens.to_vec(), &compiler).parse();
+    match (rooms.parse(text, &input.tokens, LIMIT), rust) {
+        (Ok(tree), Ok(ast)) => {
+            // a tree of as many nodes has the same last one
+            let mut other = Ast::default();
+            let last = tree.rows().map(|_| other.nil(Span::default())).last();
+            assert_eq!(last, Some(ast.last()), "{name}: the number of nodes");
+        }
+        (Err(ours), Err(error)) => {
+            assert_eq!((ours.span.start, ours.span.end), (error.span.start, error.span.end), "{name}")
+        }
+        (ours, rust) => panic!("{name}: {:?} and {:?}", ours.err(), rust.err()),
+    }
+    let refusal = rooms.parse(text, turned, LIMIT).unwrap_err();
+    assert_eq!((refusal.code, refusal.at as usize), (6, input.tokens.len() / 3 - 2), "{name}");
+    assert_eq!(rooms.read(text, LIMIT).is_err(), input.refused, "{name}");
+    assert_eq!(rooms.list, input.tokens, "{name}");
+}
+
+/// The list with a kind that does not fit its lexeme at the last token but one: the door looks at all but Eof and then
+/// refuses.
+fn turned_away(tokens: &[u32]) -> Vec<u32> {
+    let mut list = tokens.to_vec();
+    let kind = list.len() - 6;
+    list[kind] = if list[kind] == 0 { 1 } else { 0 };
+    list
+}
+
+/// The nanoseconds of a call; its answer is dropped after the clock has stopped.
+fn clock<T>(work: impl FnOnce() -> T) -> u64 {
+    let start = Instant::now();
+    let answer = black_box(work());
+    let time = start.elapsed().as_nanos() as u64;
+    drop(answer);
+    time
+}
+
+fn median(mut times: Vec<u64>) -> f64 {
+    times.sort_unstable();
+    times[times.len() / 2] as f64
+}
