@@ -1,25 +1,11 @@
 // Answers a stream of cases, each in a frame, by a stream of frames: what the program `rows` prints for each.
 use frames::Frame;
 use frames::read;
+use frames::write;
 use listing::answer;
 use listing::blank;
 ghost use Prim.Native.Nat.{_≤_};
 ghost use lib.ListN.{length};
-
-// Writes a frame: four bytes of length, the lowest first, and then the bytes. Says whether it could.
-fn write(part: &[u8]) -> bool {
-    let n = part.len();
-    let head = [
-        (n % 256) as u8,
-        (n / 256 % 256) as u8,
-        (n / 65536 % 256) as u8,
-        (n / 16777216 % 256) as u8,
-    ];
-    if io::write_all(1, &head) {
-        return io::write_all(1, part);
-    }
-    false
-}
 
 // Answers one case, and says whether there was one.
 fn turn(case: &mut [u8], out: &mut [u8]) -> bool

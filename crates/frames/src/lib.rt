@@ -1,4 +1,4 @@
-// Frames on standard input: four bytes of length, the lowest first, and then so many bytes. No contract can say which bytes are read.
+// Frames on standard input and output: four bytes of length, the lowest first, and then so many bytes. No contract can say which bytes are read or written.
 use wire::input::four;
 ghost use Rattle.frames.specs.Frame.{Framed};
 
@@ -27,4 +27,19 @@ pub fn read(room: &mut [u8]) -> Frame
         return Frame::None;
     }
     Frame::Bytes(size)
+}
+
+// Writes a frame, and says whether it could. It has no contract: neither what the system took nor whether it took it can be said (docs/DECISIONS.md, 34).
+pub fn write(part: &[u8]) -> bool {
+    let n = part.len();
+    let head = [
+        (n % 256) as u8,
+        (n / 256 % 256) as u8,
+        (n / 65536 % 256) as u8,
+        (n / 16777216 % 256) as u8,
+    ];
+    if io::write_all(1, &head) {
+        return io::write_all(1, part);
+    }
+    false
 }

@@ -1,25 +1,11 @@
 // Answers a stream of texts, each in a frame, by a stream of frames: what the token maker answers, and what it leaves in the list room.
 use frames::Frame;
 use frames::read;
+use frames::write;
 use lexer::lex;
 use wire::input::four;
 ghost use Prim.Native.Nat.{_+_, _*_, _≤_};
 ghost use lib.ListN.{length};
-
-// Writes a frame: four bytes of length, the lowest first, and then the bytes. Says whether it could.
-fn write(part: &[u8]) -> bool {
-    let n = part.len();
-    let head = [
-        (n % 256) as u8,
-        (n / 256 % 256) as u8,
-        (n / 65536 % 256) as u8,
-        (n / 16777216 % 256) as u8,
-    ];
-    if io::write_all(1, &head) {
-        return io::write_all(1, part);
-    }
-    false
-}
 
 // Puts i + 1 at each number i of a list room, so that a number that is kept can be told from a zero.
 fn mark(list: &mut [u32])
