@@ -67,7 +67,7 @@ enum {
     KAORI_OPERAND = 9,         /* an operand was required */
     KAORI_FOR = 10,            /* a statement starts with `for` */
     KAORI_TOO_DEEP = 11,       /* an opening would pass the depth limit */
-    KAORI_BAD_NUMBER = 12,     /* a number that has no value; never met past 6 so far */
+    KAORI_BAD_NUMBER = 12,     /* a number that has no value: no script is known that meets it */
     KAORI_SMALL_ANSWER = 13,   /* too little room for the answer: nothing was done */
     KAORI_PAST_TEXT = 14,      /* of kaori_place: the offset is past the text */
     KAORI_NO_TOKEN = 16        /* of kaori_read: no token starts at a byte */
@@ -173,8 +173,8 @@ uint32_t kaori_read(const uint8_t *text, size_t text_len, uint32_t *tokens, size
 
 /* The text of a refusal, with no byte 0 at its end.
    Takes: the refusal's code and `expected`; the kind of the token at its place; and a room of 52 bytes or more.
-   Answers: the text's length, at most 52. It is 0 for a code but 8 to 12, where the text needs a kind over 44, and for a
-   room under 52 bytes.
+   Answers: the text's length, at most 52. It is 0 for a code that is not 8 to 12, where the text needs a kind over 44,
+   and for a room under 52 bytes.
    Leaves: the text at the room's start, all bytes past it as they were. */
 size_t kaori_message(uint32_t code, uint32_t expected, uint32_t found, uint8_t *room, size_t room_len);
 

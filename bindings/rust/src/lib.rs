@@ -70,8 +70,8 @@ const NO_KIND: u32 = 255;
 /// What the reader writes into, lent for a call: rows of 9, 3, 2 and 3 numbers. Each room needs as many rows as there are
 /// tokens; what it holds does not matter.
 ///
-/// After a success each room has the script's rows and then zeros, `scratch` zeros alone. After a refusal with code 1 to 5,
-/// 6, 7 or 16 all are as they were; after one with code 8 to 12 all are zeros.
+/// After a success each room has the script's rows and then zeros, `scratch` zeros alone. After a refusal with code 1 to 7
+/// or 16 all are as they were; after one with code 8 to 12 all are zeros.
 #[derive(Debug)]
 pub struct Lent<'a> {
     /// Nine numbers a row.
