@@ -13,7 +13,7 @@ pub struct Interned {
     pub count: usize,
 }
 
-// Whether the text from `from` up to `upto` and the text from `start` up to `end` are the same: lengths first, then bytes.
+// Whether the text from `from` up to `upto` and the text from `start` up to `end` are the same: lengths first, then bytes, the last one first, since names often start alike.
 fn same(text: &[u8], from: usize, upto: usize, start: usize, end: usize) -> bool
     requires { ⌜ Part (now text) from upto × Part (now text) start end ⌝ }
     ensures { λ r. ⌜ Compared (lexeme (now (text .entry)) from upto) (lexeme (now (text .entry)) start end) r ⌝ }
@@ -22,12 +22,12 @@ fn same(text: &[u8], from: usize, upto: usize, start: usize, end: usize) -> bool
     if upto - from != n {
         return false;
     }
-    let mut i = 0;
-    while i < n {
+    let mut i = n;
+    while 0 < i {
+        i -= 1;
         if text[from + i] != text[start + i] {
             return false;
         }
-        i += 1;
     }
     true
 }
