@@ -14,7 +14,7 @@ use Rattle.ast.specs.declared.Node.{Node}
 use Rattle.grammar.specs.Float.{float, seen}
 use Rattle.grammar.specs.Handle.{Handle}
 use Rattle.grammar.specs.Kaori.{Form, Table, kaori, rules, above, unary, leaf, operand, calls, operators}
-use Rattle.grammar.specs.Kind.{Minus, Caret, Dot, Pipe, LeftParen, Hash, LeftBrace, And, Or, If, True, False, Nil, NumberLiteral, StringLiteral, Identifier, RejectedNumber, Eof}
+use Rattle.grammar.specs.Kind.{Minus, Caret, Dot, Pipe, LeftParen, Hash, LeftBrace, And, Or, If, True, False, Nil, NumberLiteral, RejectedNumber, Eof}
 use Rattle.grammar.specs.Label.{Label, number-of}
 use Rattle.grammar.specs.Label as label
 use Rattle.grammar.specs.Operator.{joining, place, binary-operators}
@@ -28,7 +28,7 @@ use Rattle.grammar.proofs.Tables.{unlisted}
 use Rattle.token.specs.Level.{level}
 use Rattle.token.proofs.Operators.{operator-link}
 use Rattle.parser.specs.Answers.{node-of, Answered}
-use Rattle.parser.specs.Parts.{Sign, Unsigned, Single, single-node, joined-fields}
+use Rattle.parser.specs.Parts.{Sign, Other, Single, single-node, joined-fields}
 use Rattle.parser.specs.State.{State, state, written}
 use Rattle.parser.specs.declared.Cursor.{Cursor}
 use Rattle.parser.specs.declared.Read.{Read}
@@ -81,12 +81,12 @@ module _ (text ts : List ℕ) (a : ℕ) where
   unfolding kaori rules
   no-call h k = seen-alike (kaori calls) refl ∙ unlisted calls (kind ts a) (k, (h, tt))
 
-  -- no operand starts with it: what a `match` over the kinds of operands says of its last arm
-  pub no-operand : {x : ℕ} → x ≡ kind ts a → kind ts a ≤ Eof → Unsigned (kind ts a) →
-      ((((((((Unit {0} × (x ≡ Pipe → ⊥)) × (x ≡ LeftParen → ⊥)) × (x ≡ Hash → ⊥)) × (x ≡ LeftBrace → ⊥)) × (x ≡ If → ⊥)) × (x ≡ NumberLiteral → ⊥)) × (x ≡ StringLiteral → ⊥)) × (x ≡ Identifier → ⊥)) →
+  -- no operand starts with it: what a `match` over the rarer kinds of operands says of its last arm
+  pub no-operand : {x : ℕ} → x ≡ kind ts a → kind ts a ≤ Eof → Other (kind ts a) →
+      ((((Unit {0} × (x ≡ Pipe → ⊥)) × (x ≡ Hash → ⊥)) × (x ≡ LeftBrace → ⊥)) × (x ≡ If → ⊥)) →
       (True ≤ x → NumberLiteral ≤ x) → kaori operand (seen text ts a) ≡ refusal 9
   unfolding kaori rules
-  no-operand {x} k b s r h = listed-as operand refl (λ e. r .0 .0 .1 (k ∙ e)) (unlisted operand (kind ts a) (s .not-plus, (s .not-not, (s .not-minus, (s .not-caret, ((λ e. r .0 .0 .0 .1 (k ∙ e)), ((λ e. r .0 .0 .0 .0 .0 .0 .0 .1 (k ∙ e)), ((λ e. r .0 .0 .0 .0 .0 .0 .1 (k ∙ e)), ((λ e. r .0 .0 .0 .0 .1 (k ∙ e)), ((λ e. r .0 .0 .1 (k ∙ e)), ((λ e. omega (arith, e, b)), ((λ e. spelt-out (omega (arith, e, k)) (omega (arith, e, k))), ((λ e. spelt-out (omega (arith, e, k)) (omega (arith, e, k))), ((λ e. spelt-out (omega (arith, e, k)) (omega (arith, e, k))), ((λ e. r .0 .1 (k ∙ e)), ((λ e. r .1 (k ∙ e)), ((λ e. r .0 .0 .0 .0 .0 .1 (k ∙ e)), tt)))))))))))))))))
+  no-operand {x} k b s r h = listed-as operand refl (s .not-number) (unlisted operand (kind ts a) (s .not-plus, (s .not-not, (s .not-minus, (s .not-caret, ((λ e. r .1 (k ∙ e)), ((λ e. r .0 .0 .0 .1 (k ∙ e)), (s .not-paren, ((λ e. r .0 .1 (k ∙ e)), (s .not-number, ((λ e. omega (arith, e, b)), ((λ e. spelt-out (omega (arith, e, k)) (omega (arith, e, k))), ((λ e. spelt-out (omega (arith, e, k)) (omega (arith, e, k))), ((λ e. spelt-out (omega (arith, e, k)) (omega (arith, e, k))), (s .not-string, (s .not-name, ((λ e. r .0 .0 .1 (k ∙ e)), tt)))))))))))))))))
     where
       spelt-out : True ≤ x → x < NumberLiteral → ⊥
       spelt-out i j = let d : NumberLiteral ≤ x = h i in omega (arith, d, j)

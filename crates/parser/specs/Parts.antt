@@ -10,7 +10,7 @@ use Rattle.ast.specs.Written.{Written}
 use Rattle.ast.specs.declared.Node.{Node}
 use Rattle.grammar.specs.Handle.{absent}
 use Rattle.grammar.specs.Kaori.{Form, Table, look, import, block, conditional, function, while-loop, leaf, return, binding, assignment, may-end, must-end}
-use Rattle.grammar.specs.Kind.{Plus, Minus, Caret, Comma, Pipe, RightParen, Not, LeftBrace, RightBrace, And, Or, Let, Const, Ref, Function, For, While, Break, Continue, If, Return, Import, True, False, Nil, NumberLiteral, Semicolon}
+use Rattle.grammar.specs.Kind.{Plus, Minus, Caret, Comma, Pipe, LeftParen, RightParen, Not, LeftBrace, RightBrace, And, Or, Let, Const, Ref, Function, For, While, Break, Continue, If, Return, Import, True, False, Nil, NumberLiteral, Semicolon, StringLiteral, Identifier}
 use Rattle.grammar.specs.Label.{Node as Form-of}
 use Rattle.grammar.specs.Operator.{place, binary-operators}
 use Rattle.grammar.specs.Phrase.{refusal}
@@ -86,8 +86,13 @@ pub record Binder (x : ℕ) : Type 0 where
 pub record Sign (x : ℕ) : Type 0 where
   pub known : (x ≡ Minus) ⊎ (x ≡ Caret)
 
-pub record Unsigned (x : ℕ) : Type 0 where
+-- none of the kinds that an operand of `prefix` starts with
+pub record Other (x : ℕ) : Type 0 where
   pub not-plus : x ≡ Plus → ⊥
   pub not-minus : x ≡ Minus → ⊥
   pub not-caret : x ≡ Caret → ⊥
+  pub not-paren : x ≡ LeftParen → ⊥
   pub not-not : x ≡ Not → ⊥
+  pub not-number : x ≡ NumberLiteral → ⊥
+  pub not-string : x ≡ StringLiteral → ⊥
+  pub not-name : x ≡ Identifier → ⊥

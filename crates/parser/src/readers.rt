@@ -31,7 +31,7 @@ ghost use Rattle.grammar.specs.Phrase.{part, node, choice, chain, empty, whole,
 ghost use Rattle.grammar.specs.Token.{kind};
 ghost use Rattle.parser.specs.Answers.{node-of, entry-of, Answered, Lists, Fills, States};
 ghost use Rattle.parser.specs.Chains.{Onward};
-ghost use Rattle.parser.specs.Parts.{Binder, Sign, Unsigned, form-of, binding-node};
+ghost use Rattle.parser.specs.Parts.{Binder, Sign, Other, form-of, binding-node};
 ghost use Rattle.parser.specs.State.{state, Ready};
 
 // No row.
@@ -850,6 +850,7 @@ fn binary(
     }
 }
 
+// The kind of its first token picks an operand's form. What most operands are stands here, and the rest in `primary`.
 fn prefix(
     text: &[u8],
     tokens: &[u32],
@@ -890,7 +891,51 @@ fn prefix(
             cur,
             kind,
         ),
+        17 => group(
+            text,
+            tokens,
+            nodes,
+            links,
+            symbols,
+            scratch,
+            limit,
+            depth,
+            cur,
+        ),
         24 => not_(
+            text,
+            tokens,
+            nodes,
+            links,
+            symbols,
+            scratch,
+            limit,
+            depth,
+            cur,
+        ),
+        40 => number(
+            text,
+            tokens,
+            nodes,
+            links,
+            symbols,
+            scratch,
+            limit,
+            depth,
+            cur,
+        ),
+        42 => string(
+            text,
+            tokens,
+            nodes,
+            links,
+            symbols,
+            scratch,
+            limit,
+            depth,
+            cur,
+        ),
+        43 => chained(
             text,
             tokens,
             nodes,
@@ -915,7 +960,7 @@ fn prefix(
     }
 }
 
-// A `+` makes nothing.
+// A `+` makes nothing. What follows is an operand: the tightest level.
 fn plus(
     text: &[u8],
     tokens: &[u32],
@@ -941,7 +986,7 @@ fn plus(
     let Read::Node(_, next) = read else {
         return read;
     };
-    prefix(
+    binary(
         text,
         tokens,
         nodes,
@@ -951,6 +996,7 @@ fn plus(
         limit,
         depth + 1,
         next,
+        0,
     )
 }
 
@@ -982,7 +1028,7 @@ fn unary(
     let Read::Node(lead, next) = read else {
         return read;
     };
-    let read = prefix(
+    let read = binary(
         text,
         tokens,
         nodes,
@@ -992,6 +1038,7 @@ fn unary(
         limit,
         depth + 1,
         next,
+        0,
     );
     let Read::Node(child, end) = read else {
         return read;
@@ -1043,7 +1090,7 @@ fn not_(
     Read::Node(node, past)
 }
 
-// The kind of its first token picks an operand's form.
+// The forms of operands that are rarer.
 fn primary(
     text: &[u8],
     tokens: &[u32],
@@ -1055,7 +1102,7 @@ fn primary(
     depth: u32,
     cur: Cursor,
 ) -> Read
-    requires { ⌜ Unsigned (kind (now tokens) (cur .at)) ⌝ }
+    requires { ⌜ Other (kind (now tokens) (cur .at)) ⌝ }
     requires { ⌜ Ready (now text) (now tokens) limit depth (state (now nodes) (now links) (now symbols) (now scratch) cur) ⌝ }
     ensures { λ r. ⌜ Answered (now (text .entry)) (now (tokens .entry)) limit node-of (whole (choice form.operand)) depth (state (now (nodes .entry)) (now (links .entry)) (now (symbols .entry)) (now (scratch .entry)) cur) (now (nodes .exit)) (now (links .exit)) (now (symbols .exit)) (now (scratch .exit)) r ⌝ }
 {
@@ -1063,17 +1110,6 @@ fn primary(
     let kind = kind_at(tokens, at);
     match kind {
         16 => lambda(
-            text,
-            tokens,
-            nodes,
-            links,
-            symbols,
-            scratch,
-            limit,
-            depth,
-            cur,
-        ),
-        17 => group(
             text,
             tokens,
             nodes,
@@ -1128,39 +1164,6 @@ fn primary(
             depth,
             cur,
             kind,
-        ),
-        40 => number(
-            text,
-            tokens,
-            nodes,
-            links,
-            symbols,
-            scratch,
-            limit,
-            depth,
-            cur,
-        ),
-        42 => string(
-            text,
-            tokens,
-            nodes,
-            links,
-            symbols,
-            scratch,
-            limit,
-            depth,
-            cur,
-        ),
-        43 => chained(
-            text,
-            tokens,
-            nodes,
-            links,
-            symbols,
-            scratch,
-            limit,
-            depth,
-            cur,
         ),
         _ => Read::Refused(Refusal {
             code: 9,
@@ -1517,6 +1520,12 @@ fn chained(
     let Read::Node(node, end) = read else {
         return read;
     };
+    let at = end.at;
+    let kind = kind_at(tokens, at);
+    match kind {
+        15 | 17 => {}
+        _ => return Read::Node(node, end),
+    }
     postfix(
         text,
         tokens,

@@ -2,6 +2,7 @@
 use Prim.Native.Nat.{ℕ}
 use borrow.Author.Needs.{needs}
 use native.Mathlib.Omega.{arith}
+use Rattle.grammar.specs.Kaori.{above}
 use Rattle.grammar.specs.Refusal.{Refuses}
 use Rattle.parser.proofs.Laws.{opened, ready-deep}
 use Rattle.parser.proofs.Replies.{token-taken, mapped, refuse, lacks, inside}
@@ -9,14 +10,14 @@ use Rattle.parser.proofs.Taking.{Taken-by, past-at, led, led-refused, r
 use Rattle.parser.proofs.readers.+arg+arguments+assign+binary+bind+block+body+call+chained+else_+expression+form+function+group+if_+items+lambda+map_+not_+pair+pairs+plus+postfix+prefix+primary+return_+statement+unary+while_ as cycle
 use Rattle.parser.proofs.readers as readers
 use cycle.Lts-plus as lts
-use cycle.Proof.Measures.{just, below, plus-at, prefix-at}
+use cycle.Proof.Measures.{just, below, binary-at, plus-at}
+use readers.binary.Reads as binary
 use readers.plus.Reads as plus
-use readers.prefix.Reads as prefix
 use Rattle.parser.proofs.lists.consume.Reads as consume-reads
 
 module _ (t : ℕ) where
   abbrev claims : lts.Claims
-  claims = (consume-reads.Asked, consume-reads.Learnt, prefix-at (below t), prefix.Post)
+  claims = (consume-reads.Asked, consume-reads.Learnt, binary-at (below t), binary.Post)
 
   -- the token
   lead : (c : lts.After-known-told claims (plus-at (just t)) plus.Post) → Taken-by (c .before .before .before .consume .ensures) (c .before .read .given .0 .0) (c .before .read .given .0 .1 .0)
@@ -28,14 +29,15 @@ module _ (t : ℕ) where
   returns-2 : lts.Need-returns-2 claims (plus-at (just t)) plus.Post
   returns-2 c = lacks (c .enum-told .given .1) (c .before .before .consume .ensures) (omega arith) (λ h. inside (c .before .before .before .if1 .left) (Refuses.missing h))
 
-  prefix-unary-requires : lts.Need-prefix-requires claims (plus-at (just t)) plus.Post
-  prefix-unary-requires c κs = let e = past-at (lead (c .before .before .before .before)) in (search needs, ready-led (ready-deep (c .before .before .before .before .before .before .before .before .before .before .before .before .before .before .before .pre .1) (c .before .before .before .before .before .before .before .before .if1 .left)) (lead (c .before .before .before .before)) (λ e. omega arith))
+  binary-requires : lts.Need-binary-requires claims (plus-at (just t)) plus.Post
+  binary-requires c κs = let e = past-at (lead (c .before .before .before .before)) in (search needs, (search needs, ready-led (ready-deep (c .before .before .before .before .before .before .before .before .before .before .before .before .before .before .before .pre .1) (c .before .before .before .before .before .before .before .before .if1 .left)) (lead (c .before .before .before .before)) (λ e. omega arith)))
 
   returns-3 : lts.Need-returns-3 claims (plus-at (just t)) plus.Post
+  unfolding above
   returns-3 c =
       let k = lead (c .before .before .before .before .before .before .before .before .before .before .before .before .before) in
       let e = past-at k in
-      mapped _ (omega arith) (c .before .before .before .before .before .before .before .before .prefix .ensures) (λ n d r. opened (led k (λ e. omega arith) r)) (λ x h. inside (c .before .before .before .before .before .before .before .before .before .before .before .before .before .before .before .before .before .if1 .left) (led-refused _ k (λ e. omega arith) h))
+      mapped _ (omega arith) (c .before .before .before .before .before .before .before .before .binary .ensures) (λ n d r. opened (led k (λ e. omega arith) r)) (λ x h. inside (c .before .before .before .before .before .before .before .before .before .before .before .before .before .before .before .before .before .if1 .left) (led-refused _ k (λ e. omega arith) h))
 
   pub spec : {M : Type 1} → lts.Closed claims (plus-at (just t)) plus.Post M
-  spec = lts.spec claims (plus-at (just t)) plus.Post returns (λ c κs. search needs) (λ c. search needs) (λ c. search needs) returns-2 (λ c. search needs) prefix-unary-requires (λ c. search needs) (λ c. search needs) (λ c. search needs) (λ c. search needs) returns-3
+  spec = lts.spec claims (plus-at (just t)) plus.Post returns (λ c κs. search needs) (λ c. search needs) (λ c. search needs) returns-2 (λ c. search needs) binary-requires (λ c. search needs) (λ c. search needs) (λ c. search needs) (λ c. search needs) returns-3

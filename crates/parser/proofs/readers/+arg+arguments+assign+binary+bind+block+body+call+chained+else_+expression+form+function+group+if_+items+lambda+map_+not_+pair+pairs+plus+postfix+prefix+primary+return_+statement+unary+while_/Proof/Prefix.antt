@@ -1,4 +1,4 @@
--- A sign or `not` picks an operand's form; any other kind is left to what is unsigned.
+-- The kind of its first token picks the form that most operands have; any other kind is left to the rarer ones.
 use Prim.Native.Nat.{ℕ}
 use borrow.Author.Needs.{needs}
 use native.Mathlib.Omega.{arith}
@@ -9,23 +9,27 @@ use Rattle.parser.proofs.Picks.{picked, picked-as, signed}
 use Rattle.parser.proofs.readers.+arg+arguments+assign+binary+bind+block+body+call+chained+else_+expression+form+function+group+if_+items+lambda+map_+not_+pair+pairs+plus+postfix+prefix+primary+return_+statement+unary+while_ as cycle
 use Rattle.parser.proofs.readers as readers
 use cycle.Lts-prefix as lts
-use cycle.Proof.Measures.{just, below, not--at, plus-at, prefix-at, primary-at, unary-at}
+use cycle.Proof.Measures.{just, below, chained-at, group-at, not--at, plus-at, prefix-at, primary-at, unary-at}
+use readers.chained.Reads as chained
+use readers.group.Reads as group
 use readers.not_.Reads as not-
 use readers.plus.Reads as plus
 use readers.prefix.Reads as prefix
 use readers.primary.Reads as primary
 use readers.unary.Reads as unary
 use Rattle.token.proofs.list.kind_at.Reads as kind-at-reads
+use Rattle.parser.proofs.leaves.number.Reads as number-reads
+use Rattle.parser.proofs.leaves.string.Reads as string-reads
 
 module _ (t : ℕ) where
   abbrev claims : lts.Claims
-  claims = (kind-at-reads.Asked, kind-at-reads.Learnt, plus-at (below t), plus.Post, unary-at (below t), unary.Post, not--at (below t), not-.Post, primary-at (below t), primary.Post)
+  claims = (kind-at-reads.Asked, kind-at-reads.Learnt, plus-at (below t), plus.Post, unary-at (below t), unary.Post, group-at (below t), group.Post, not--at (below t), not-.Post, number-reads.Asked, number-reads.Learnt, string-reads.Asked, string-reads.Learnt, chained-at (below t), chained.Post, primary-at (below t), primary.Post)
 
   primary-requires : lts.Need-primary-requires claims (prefix-at (just t)) prefix.Post
   primary-requires c κs =
       let k = c .before .before .before .before .before .kind-at .ensures in
       let n = c .before .before .before .before .match .rest in
-      (search needs, (record { not-plus = λ e. n .0 .0 .1 (k ∙ e); not-minus = λ e. n .0 .1 (inl (k ∙ e)); not-caret = λ e. n .0 .1 (inr (k ∙ e)); not-not = λ e. n .1 (k ∙ e) }, c .before .before .before .before .before .before .before .before .before .before .before .before .pre .1))
+      (search needs, (record { not-plus = λ e. n .0 .0 .0 .0 .0 .0 .1 (k ∙ e); not-minus = λ e. n .0 .0 .0 .0 .0 .1 (inl (k ∙ e)); not-caret = λ e. n .0 .0 .0 .0 .0 .1 (inr (k ∙ e)); not-paren = λ e. n .0 .0 .0 .0 .1 (k ∙ e); not-not = λ e. n .0 .0 .0 .1 (k ∙ e); not-number = λ e. n .0 .0 .1 (k ∙ e); not-string = λ e. n .0 .1 (k ∙ e); not-name = λ e. n .1 (k ∙ e) }, c .before .before .before .before .before .before .before .before .before .before .before .before .pre .1))
 
   returns : lts.Need-returns claims (prefix-at (just t)) prefix.Post
   unfolding kaori rules
@@ -36,7 +40,19 @@ module _ (t : ℕ) where
 
   returns-3 : lts.Need-returns-3 claims (prefix-at (just t)) prefix.Post
   unfolding kaori rules
-  returns-3 c = picked-as _ operand (c .before .before .before .before .before .before .before .before .before .before .before .before .before .before .kind-at .ensures) (c .before .before .before .before .before .before .before .before .before .before .before .before .before .match .keys3) (λ e. omega arith) refl (c .before .before .before .before .before .before .before .before .not- .ensures)
+  returns-3 c = picked-as _ operand (c .before .before .before .before .before .before .before .before .before .before .before .before .before .before .kind-at .ensures) (c .before .before .before .before .before .before .before .before .before .before .before .before .before .match .keys3) (λ e. omega arith) refl (c .before .before .before .before .before .before .before .before .group .ensures)
+
+  returns-4 : lts.Need-returns-4 claims (prefix-at (just t)) prefix.Post
+  unfolding kaori rules
+  returns-4 c = picked-as _ operand (c .before .before .before .before .before .before .before .before .before .before .before .before .before .before .kind-at .ensures) (c .before .before .before .before .before .before .before .before .before .before .before .before .before .match .keys4) (λ e. omega arith) refl (c .before .before .before .before .before .before .before .before .not- .ensures)
+
+  returns-6 : lts.Need-returns-6 claims (prefix-at (just t)) prefix.Post
+  unfolding kaori rules
+  returns-6 c = picked-as _ operand (c .before .before .before .before .before .before .before .before .before .before .before .before .before .before .kind-at .ensures) (c .before .before .before .before .before .before .before .before .before .before .before .before .before .match .keys6) (λ e. omega arith) refl (c .before .before .before .before .before .before .before .before .string .ensures)
+
+  returns-7 : lts.Need-returns-7 claims (prefix-at (just t)) prefix.Post
+  unfolding kaori rules
+  returns-7 c = picked-as _ operand (c .before .before .before .before .before .before .before .before .before .before .before .before .before .before .kind-at .ensures) (c .before .before .before .before .before .before .before .before .before .before .before .before .before .match .keys7) (λ e. omega arith) refl (c .before .before .before .before .before .before .before .before .chained .ensures)
 
   pub spec : {M : Type 1} → lts.Closed claims (prefix-at (just t)) prefix.Post M
-  spec = lts.spec claims (prefix-at (just t)) prefix.Post (λ c κs. search needs) (λ c κs. search needs) (λ c κs. search needs) (λ c κs. search needs) primary-requires (λ c. search needs) (λ c. search needs) (λ c. search needs) (λ c. search needs) returns (λ c. search needs) (λ c. search needs) (λ c. search needs) (λ c. search needs) returns-2 (λ c. search needs) (λ c. search needs) (λ c. search needs) (λ c. search needs) returns-3 (λ c. search needs) (λ c. search needs) (λ c. search needs) (λ c. search needs) (λ c. search needs)
+  spec = lts.spec claims (prefix-at (just t)) prefix.Post (λ c κs. search needs) (λ c κs. search needs) (λ c κs. search needs) (λ c κs. search needs) (λ c κs. search needs) (λ c κs. search needs) (λ c κs. search needs) (λ c κs. search needs) primary-requires (λ c. search needs) (λ c. search needs) (λ c. search needs) (λ c. search needs) returns (λ c. search needs) (λ c. search needs) (λ c. search needs) (λ c. search needs) returns-2 (λ c. search needs) (λ c. search needs) (λ c. search needs) (λ c. search needs) returns-3 (λ c. search needs) (λ c. search needs) (λ c. search needs) (λ c. search needs) returns-4 (λ c. search needs) (λ c. search needs) (λ c. search needs) (λ c. search needs) (λ c. search needs) (λ c. search needs) (λ c. search needs) (λ c. search needs) (λ c. search needs) returns-6 (λ c. search needs) (λ c. search needs) (λ c. search needs) (λ c. search needs) returns-7 (λ c. search needs) (λ c. search needs) (λ c. search needs) (λ c. search needs) (λ c. search needs)

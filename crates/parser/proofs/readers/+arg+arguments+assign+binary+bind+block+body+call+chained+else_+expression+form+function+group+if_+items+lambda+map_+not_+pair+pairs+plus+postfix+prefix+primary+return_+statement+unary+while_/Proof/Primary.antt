@@ -1,4 +1,4 @@
--- The kind of its first token picks an operand's form.
+-- The kind of its first token picks the form of an operand that is rarer.
 use Prim.Native.Nat.{ℕ}
 use borrow.Author.Needs.{needs}
 use native.Mathlib.Omega.{arith}
@@ -10,22 +10,18 @@ use Rattle.parser.proofs.Replies.{refuse}
 use Rattle.parser.proofs.readers.+arg+arguments+assign+binary+bind+block+body+call+chained+else_+expression+form+function+group+if_+items+lambda+map_+not_+pair+pairs+plus+postfix+prefix+primary+return_+statement+unary+while_ as cycle
 use Rattle.parser.proofs.readers as readers
 use cycle.Lts-primary as lts
-use cycle.Proof.Measures.{just, below, block-at, group-at, if--at, lambda-at, map--at, primary-at, chained-at}
+use cycle.Proof.Measures.{just, below, block-at, if--at, lambda-at, map--at, primary-at}
 use readers.block.Reads as block
-use readers.group.Reads as group
 use readers.if_.Reads as if-
 use readers.lambda.Reads as lambda
 use readers.map_.Reads as map-
 use readers.primary.Reads as primary
-use readers.chained.Reads as chained
 use Rattle.token.proofs.list.kind_at.Reads as kind-at-reads
-use Rattle.parser.proofs.leaves.number.Reads as number-reads
 use Rattle.parser.proofs.leaves.single.Reads as single-reads
-use Rattle.parser.proofs.leaves.string.Reads as string-reads
 
 module _ (t : ℕ) where
   abbrev claims : lts.Claims
-  claims = (kind-at-reads.Asked, kind-at-reads.Learnt, lambda-at (below t), lambda.Post, group-at (below t), group.Post, map--at (below t), map-.Post, block-at (below t), block.Post, if--at (below t), if-.Post, number-reads.Asked, number-reads.Learnt, string-reads.Asked, string-reads.Learnt, chained-at (below t), chained.Post, single-reads.Asked, single-reads.Learnt)
+  claims = (kind-at-reads.Asked, kind-at-reads.Learnt, lambda-at (below t), lambda.Post, map--at (below t), map-.Post, block-at (below t), block.Post, if--at (below t), if-.Post, single-reads.Asked, single-reads.Learnt)
 
   single-requires : lts.Need-single-requires claims (primary-at (just t)) primary.Post
   single-requires c κs = (a-single (c .before .before .before .before .before .if1 .left) (c .before .before .before .before .if2 .taken), ((λ e. absurd (omega (arith, e, c .before .before .before .before .if2 .taken))), c .before .before .before .before .before .before .before .before .before .before .before .before .before .before .pre .1 .1))
@@ -36,40 +32,28 @@ module _ (t : ℕ) where
 
   returns-2 : lts.Need-returns-2 claims (primary-at (just t)) primary.Post
   unfolding kaori rules
-  returns-2 c = picked-as _ operand (c .before .before .before .before .before .before .before .before .before .before .before .before .before .before .kind-at .ensures) (c .before .before .before .before .before .before .before .before .before .before .before .before .before .match .keys2) (λ e. omega arith) refl (c .before .before .before .before .before .before .before .before .group .ensures)
+  returns-2 c = picked-as _ operand (c .before .before .before .before .before .before .before .before .before .before .before .before .before .before .kind-at .ensures) (c .before .before .before .before .before .before .before .before .before .before .before .before .before .match .keys2) (λ e. omega arith) refl (c .before .before .before .before .before .before .before .before .map- .ensures)
 
   returns-3 : lts.Need-returns-3 claims (primary-at (just t)) primary.Post
   unfolding kaori rules
-  returns-3 c = picked-as _ operand (c .before .before .before .before .before .before .before .before .before .before .before .before .before .before .kind-at .ensures) (c .before .before .before .before .before .before .before .before .before .before .before .before .before .match .keys3) (λ e. omega arith) refl (c .before .before .before .before .before .before .before .before .map- .ensures)
+  returns-3 c = picked-as _ operand (c .before .before .before .before .before .before .before .before .before .before .before .before .before .before .kind-at .ensures) (c .before .before .before .before .before .before .before .before .before .before .before .before .before .match .keys3) (λ e. omega arith) refl (c .before .before .before .before .before .before .before .before .block .ensures)
 
   returns-4 : lts.Need-returns-4 claims (primary-at (just t)) primary.Post
   unfolding kaori rules
-  returns-4 c = picked-as _ operand (c .before .before .before .before .before .before .before .before .before .before .before .before .before .before .kind-at .ensures) (c .before .before .before .before .before .before .before .before .before .before .before .before .before .match .keys4) (λ e. omega arith) refl (c .before .before .before .before .before .before .before .before .block .ensures)
+  returns-4 c = picked-as _ operand (c .before .before .before .before .before .before .before .before .before .before .before .before .before .before .kind-at .ensures) (c .before .before .before .before .before .before .before .before .before .before .before .before .before .match .keys4) (λ e. omega arith) refl (c .before .before .before .before .before .before .before .before .if- .ensures)
 
   returns-5 : lts.Need-returns-5 claims (primary-at (just t)) primary.Post
-  unfolding kaori rules
-  returns-5 c = picked-as _ operand (c .before .before .before .before .before .before .before .before .before .before .before .before .before .before .kind-at .ensures) (c .before .before .before .before .before .before .before .before .before .before .before .before .before .match .keys5) (λ e. omega arith) refl (c .before .before .before .before .before .before .before .before .if- .ensures)
+  returns-5 c = picked _ (one-token _ _ _ (sym (c .before .before .before .before .before .before .before .before .before .before .before .before .before .before .before .before .kind-at .ensures)) (c .before .before .before .before .before .before .before .before .before .before .before .before .before .before .if1 .left) (c .before .before .before .before .before .before .before .before .before .before .before .before .before .if2 .taken)) (c .before .before .before .before .before .before .before .before .single .ensures)
 
-  returns-7 : lts.Need-returns-7 claims (primary-at (just t)) primary.Post
-  unfolding kaori rules
-  returns-7 c = picked-as _ operand (c .before .before .before .before .before .before .before .before .before .before .before .before .before .before .kind-at .ensures) (c .before .before .before .before .before .before .before .before .before .before .before .before .before .match .keys7) (λ e. omega arith) refl (c .before .before .before .before .before .before .before .before .string .ensures)
-
-  returns-8 : lts.Need-returns-8 claims (primary-at (just t)) primary.Post
-  unfolding kaori rules
-  returns-8 c = picked-as _ operand (c .before .before .before .before .before .before .before .before .before .before .before .before .before .before .kind-at .ensures) (c .before .before .before .before .before .before .before .before .before .before .before .before .before .match .keys8) (λ e. omega arith) refl (c .before .before .before .before .before .before .before .before .chained .ensures)
-
-  returns-9 : lts.Need-returns-9 claims (primary-at (just t)) primary.Post
-  returns-9 c = picked _ (one-token _ _ _ (sym (c .before .before .before .before .before .before .before .before .before .before .before .before .before .before .before .before .kind-at .ensures)) (c .before .before .before .before .before .before .before .before .before .before .before .before .before .before .if1 .left) (c .before .before .before .before .before .before .before .before .before .before .before .before .before .if2 .taken)) (c .before .before .before .before .before .before .before .before .single .ensures)
-
-  returns-10 : lts.Need-returns-10 claims (primary-at (just t)) primary.Post
-  returns-10 c =
+  returns-6 : lts.Need-returns-6 claims (primary-at (just t)) primary.Post
+  returns-6 c =
       let p = c .before .before .before .before .before .before .before .before .before .pre .1 in
       refuse (Refuses.in-choice (no-operand _ _ _ (c .before .before .kind-at .ensures) (p .1 .lent .sound _ (p .1 .within .at) .known) (p .0) (c .before .match .rest) (λ h. omega (arith, h, c .if1 .taken))) Refuses.stopped)
 
-  returns-11 : lts.Need-returns-11 claims (primary-at (just t)) primary.Post
-  returns-11 c =
+  returns-7 : lts.Need-returns-7 claims (primary-at (just t)) primary.Post
+  returns-7 c =
       let p = c .before .before .before .before .before .before .before .before .before .before .pre .1 in
       refuse (Refuses.in-choice (no-operand _ _ _ (c .before .before .before .kind-at .ensures) (p .1 .lent .sound _ (p .1 .within .at) .known) (p .0) (c .before .before .match .rest) (λ h. c .if2 .left)) Refuses.stopped)
 
   pub spec : {M : Type 1} → lts.Closed claims (primary-at (just t)) primary.Post M
-  spec = lts.spec claims (primary-at (just t)) primary.Post (λ c κs. search needs) (λ c κs. search needs) (λ c κs. search needs) (λ c κs. search needs) (λ c κs. search needs) (λ c κs. search needs) (λ c κs. search needs) (λ c κs. search needs) (λ c κs. search needs) single-requires (λ c. search needs) (λ c. search needs) (λ c. search needs) (λ c. search needs) returns (λ c. search needs) (λ c. search needs) (λ c. search needs) (λ c. search needs) returns-2 (λ c. search needs) (λ c. search needs) (λ c. search needs) (λ c. search needs) returns-3 (λ c. search needs) (λ c. search needs) (λ c. search needs) (λ c. search needs) returns-4 (λ c. search needs) (λ c. search needs) (λ c. search needs) (λ c. search needs) returns-5 (λ c. search needs) (λ c. search needs) (λ c. search needs) (λ c. search needs) (λ c. search needs) (λ c. search needs) (λ c. search needs) (λ c. search needs) (λ c. search needs) returns-7 (λ c. search needs) (λ c. search needs) (λ c. search needs) (λ c. search needs) returns-8 (λ c. search needs) (λ c. search needs) (λ c. search needs) (λ c. search needs) returns-9 returns-10 returns-11
+  spec = lts.spec claims (primary-at (just t)) primary.Post (λ c κs. search needs) (λ c κs. search needs) (λ c κs. search needs) (λ c κs. search needs) (λ c κs. search needs) single-requires (λ c. search needs) (λ c. search needs) (λ c. search needs) (λ c. search needs) returns (λ c. search needs) (λ c. search needs) (λ c. search needs) (λ c. search needs) returns-2 (λ c. search needs) (λ c. search needs) (λ c. search needs) (λ c. search needs) returns-3 (λ c. search needs) (λ c. search needs) (λ c. search needs) (λ c. search needs) returns-4 (λ c. search needs) (λ c. search needs) (λ c. search needs) (λ c. search needs) returns-5 returns-6 returns-7

@@ -16,8 +16,8 @@ use Rattle.parser.proofs.Taking.{Taken-by, starts, past-at, led, led-re
 use Rattle.parser.proofs.readers.+arg+arguments+assign+binary+bind+block+body+call+chained+else_+expression+form+function+group+if_+items+lambda+map_+not_+pair+pairs+plus+postfix+prefix+primary+return_+statement+unary+while_ as cycle
 use Rattle.parser.proofs.readers as readers
 use cycle.Lts-unary as lts
-use cycle.Proof.Measures.{just, below, prefix-at, unary-at}
-use readers.prefix.Reads as prefix
+use cycle.Proof.Measures.{just, below, binary-at, unary-at}
+use readers.binary.Reads as binary
 use readers.unary.Reads as unary
 use Rattle.parser.proofs.lists.consume.Reads as consume-reads
 use Rattle.token.proofs.ops.sign_of.Reads as sign-of-reads
@@ -25,14 +25,14 @@ use Rattle.ast.proofs.unary.Reads as unary-reads
 
 module _ (t : ℕ) where
   abbrev claims : lts.Claims
-  claims = (consume-reads.Asked, consume-reads.Learnt, prefix-at (below t), prefix.Post, sign-of-reads.Asked, sign-of-reads.Learnt, unary-reads.Asked, unary-reads.Learnt)
+  claims = (consume-reads.Asked, consume-reads.Learnt, binary-at (below t), binary.Post, sign-of-reads.Asked, sign-of-reads.Learnt, unary-reads.Asked, unary-reads.Learnt)
 
   -- the token, what the operand's success says, and where the reader began
   lead : (c : lts.After-known-told claims (unary-at (just t)) unary.Post) → Taken-by (c .before .before .before .consume .ensures) (c .before .read .given .0 .0) (c .before .read .given .0 .1 .0)
   lead c = token-taken (c .before .read .given .1) (c .before .before .before .consume .ensures)
 
-  part : (c : lts.After-known-told2 claims (unary-at (just t)) unary.Post) → Told (c .before .before .before .before .before .before .before .before .before .before .before .prefix .ensures) (c .before .read2 .given .0 .0) (c .before .read2 .given .0 .1 .0)
-  part c = success (c .before .read2 .given .1) (c .before .before .before .before .before .before .before .before .before .before .before .prefix .ensures)
+  part : (c : lts.After-known-told2 claims (unary-at (just t)) unary.Post) → Told (c .before .before .before .before .before .before .before .before .before .before .before .binary .ensures) (c .before .read2 .given .0 .0) (c .before .read2 .given .0 .1 .0)
+  part c = success (c .before .read2 .given .1) (c .before .before .before .before .before .before .before .before .before .before .before .binary .ensures)
 
   abbrev start : lts.After-known-told2 claims (unary-at (just t)) unary.Post → lts.Start claims (unary-at (just t)) unary.Post
   start c = c .before .before .before .before .before .before .before .before .before .before .before .before .before .before .before .before .before .before .before .before .before .before .before .before .before .before .before
@@ -43,17 +43,18 @@ module _ (t : ℕ) where
   returns-2 : lts.Need-returns-2 claims (unary-at (just t)) unary.Post
   returns-2 c = lacks (c .enum-told .given .1) (c .before .before .consume .ensures) (let l = sign-low (c .before .before .before .before .before .before .before .before .before .before .pre .1 .0) in omega arith) (λ h. inside (c .before .before .before .if1 .left) (Refuses.in-node (Refuses.missing h)))
 
-  prefix-unary-requires : lts.Need-prefix-requires claims (unary-at (just t)) unary.Post
-  prefix-unary-requires c κs =
+  binary-requires : lts.Need-binary-requires claims (unary-at (just t)) unary.Post
+  binary-requires c κs =
       let k = lead (c .before .before .before .before) in
       let e = past-at k in
       let l = sign-low (c .before .before .before .before .before .before .before .before .before .before .before .before .before .before .before .pre .1 .0) in
-      (search needs, ready-led (ready-deep (c .before .before .before .before .before .before .before .before .before .before .before .before .before .before .before .pre .1 .1) (c .before .before .before .before .before .before .before .before .if1 .left)) k (λ e. omega arith))
+      (search needs, (search needs, ready-led (ready-deep (c .before .before .before .before .before .before .before .before .before .before .before .before .before .before .before .pre .1 .1) (c .before .before .before .before .before .before .before .before .if1 .left)) k (λ e. omega arith)))
 
   returns-3 : lts.Need-returns-3 claims (unary-at (just t)) unary.Post
+  unfolding above
   returns-3 c =
       let l = sign-low (c .before .before .before .before .before .before .before .before .before .before .before .before .before .before .before .before .before .before .before .before .before .before .before .before .before .before .pre .1 .0) in
-      passed (c .enum-told2 .given .1) (c .before .before .before .before .before .before .before .before .before .before .prefix .ensures) (λ x h. inside (c .before .before .before .before .before .before .before .before .before .before .before .before .before .before .before .before .before .before .before .if1 .left) (Refuses.in-node (led-refused _ (lead (c .before .before .before .before .before .before .before .before .before .before .before .before .before .before .before)) (λ e. omega arith) h)))
+      passed (c .enum-told2 .given .1) (c .before .before .before .before .before .before .before .before .before .before .binary .ensures) (λ x h. inside (c .before .before .before .before .before .before .before .before .before .before .before .before .before .before .before .before .before .before .before .if1 .left) (Refuses.in-node (led-refused _ (lead (c .before .before .before .before .before .before .before .before .before .before .before .before .before .before .before)) (λ e. omega arith) h)))
 
   returns-4 : lts.Need-returns-4 claims (unary-at (just t)) unary.Post
   unfolding paid spare above make put fill numbers write rule
@@ -65,4 +66,4 @@ module _ (t : ℕ) where
       answer (p .1) (record { pays = tt }) (z .within .at) (z .within .table) (opened (rowed (led k (λ e. omega arith) (z .reading)) (z .within) (inserted-as (starts k) refl (ap (λ n. n ∷ c .before .before .before .before .before .before .read2 .given .0 .0 .id ∷ []) (c .before .before .before .sign-of .ensures ∙ ap (λ x. place x unary-operators) (sym (k .kind-is)))) (c .before .before .unary .ensures)) refl))
 
   pub spec : {M : Type 1} → lts.Closed claims (unary-at (just t)) unary.Post M
-  spec = lts.spec claims (unary-at (just t)) unary.Post returns (λ c κs. search needs) (λ c. search needs) (λ c. search needs) returns-2 (λ c. search needs) prefix-unary-requires (λ c. search needs) (λ c. search needs) (λ c. search needs) (λ c. search needs) (λ c. search needs) (λ c. search needs) returns-3 (λ c κs. search needs) (λ c κs. free (start (c .before .before) .pre .1 .1 .lent) (part (c .before .before) .within)) (λ c. omega (arith, free (start (c .before .before .before .before .before) .pre .1 .1 .lent) (part (c .before .before .before .before .before) .within) .number)) (λ c. search needs) (λ c. search needs) (λ c. search needs) (λ c. search needs) returns-4
+  spec = lts.spec claims (unary-at (just t)) unary.Post returns (λ c κs. search needs) (λ c. search needs) (λ c. search needs) returns-2 (λ c. search needs) binary-requires (λ c. search needs) (λ c. search needs) (λ c. search needs) (λ c. search needs) (λ c. search needs) (λ c. search needs) returns-3 (λ c κs. search needs) (λ c κs. free (start (c .before .before) .pre .1 .1 .lent) (part (c .before .before) .within)) (λ c. omega (arith, free (start (c .before .before .before .before .before) .pre .1 .1 .lent) (part (c .before .before .before .before .before) .within) .number)) (λ c. search needs) (λ c. search needs) (λ c. search needs) (λ c. search needs) returns-4
