@@ -112,8 +112,11 @@ module _ (text ts : List ℕ) (limit : ℕ) (rooms : Rooms) where
 pub all-have : {asked : ℕ → Type 0} {n r : ℕ} → Found asked n r → n ≤ r → (j : ℕ) → j < n → asked j
 all-have f h j i = f .before j (omega arith)
 
--- where the highest byte is over 127, the search finds one
-found-high : {text : List ℕ} {r i : ℕ} → Highest text (length text) r → 127 < r → Found (λ j. getD text j 0 ≤ 127) (length text) i → i < length text
+-- no byte is over 127 where the highest is not; and where it is, the search finds one
+pub none-high : {text : List ℕ} {r : ℕ} → Highest text (length text) r → r ≤ 127 → (i : ℕ) → i < length text → getD text i 0 ≤ 127
+none-high x h i s = omega (arith, x .most i s)
+
+pub found-high : {text : List ℕ} {r i : ℕ} → Highest text (length text) r → 127 < r → Found (λ j. getD text j 0 ≤ 127) (length text) i → i < length text
 found-high {text} {r} {i} x h f =
     let (j, l, e) = x .there (omega arith) in
     elim (decLt i (length text)) [ yes z ↦ z | no z ↦ absurd (omega (arith, f .before j (omega arith))) ]
@@ -128,8 +131,8 @@ module _ {text ts : List ℕ} {limit nodes links symbols scratch k : ℕ} (m : M
   unfolding Case
   by-byte z x h f = record { says = λ rooms a b d e. turned (Wrong.byte (first-of (found-high x h f) f)) (measures text ts limit rooms (rw (a, b, d, e) m) z) }
 
-  pub by-list : {q : Entry} {r : ℕ} → k ≡ 0 → Highest text (length text) r → r ≤ 127 → Listed text ts q → Entered text ts limit nodes links symbols scratch q
-  by-list z x h l = record { says = λ rooms a b d e. listing text ts limit rooms (passed (measures text ts limit rooms (rw (a, b, d, e) m) z) (λ i s. omega (arith, x .most i s))) l }
+  pub by-list : {q : Entry} → k ≡ 0 → ((i : ℕ) → i < length text → getD text i 0 ≤ 127) → Listed text ts q → Entered text ts limit nodes links symbols scratch q
+  by-list z h l = record { says = λ rooms a b d e. listing text ts limit rooms (passed (measures text ts limit rooms (rw (a, b, d, e) m) z) h) l }
 
 -- a call has one entry
 pub one-entry : (c : Call) (r s : Entry) → Case c r → Case c s → r ≡ s

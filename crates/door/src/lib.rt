@@ -26,8 +26,9 @@ pub enum Entry {
     Refused(Refusal),
 }
 
-// The first of checks 1 to 4 that fails, of lengths alone, or 0.
-fn lengths(
+// The first of checks 1 to 4 that fails, of lengths alone, or 0. For the crates above, too.
+// Ruled out: 4 where the limit is 0; 0 for a list of 4,097 tokens.
+pub fn lengths(
     list: usize,
     text: usize,
     limit: u32,
@@ -86,8 +87,9 @@ pub fn first_high(text: &[u8]) -> usize
     i
 }
 
-// The highest byte, or 0 of an empty text. The loop has no other way out, so that many bytes are compared at once.
-fn highest(text: &[u8]) -> u8
+// The highest byte, or 0 of an empty text. The loop has no other way out, so that many bytes are compared at once. For the crates above, too.
+// Ruled out: the last byte; a byte that the text does not have.
+pub fn highest(text: &[u8]) -> u8
     ensures { λ r. ⌜ Highest (now (text .entry)) (length (now (text .entry))) r ⌝ }
 {
     let mut high = 0;

@@ -4,6 +4,7 @@ mod scan;
 use ast::room::clear;
 use ast::room::push;
 use door::first_high;
+use door::highest;
 use scan::is_blank;
 use scan::token_at;
 use token::spelling::words;
@@ -112,8 +113,8 @@ pub fn lex(text: &[u8], list: &mut [u32]) -> Lexed
     if 65536 < text.len() {
         return refused(2, 0, 0);
     }
-    let high = first_high(text);
-    if high < text.len() {
+    if 127 < highest(text) {
+        let high = first_high(text);
         return refused(5, high as u32, (high + 1) as u32);
     }
     tokens(text, list)

@@ -1,7 +1,7 @@
-// From a script's text to its rows, in one call: the token maker, and `parse` on the list that it makes.
+// From a script's text to its rows, in one call: the token maker, and what `parse` answers of the list that it makes. That list is right by proof, and is not checked again.
 use lexer::lex;
 use syntax::Answer;
-use syntax::parse;
+use syntax::parse_checked;
 use syntax::refused;
 ghost use Rattle.reader.specs.Answered.{Read};
 ghost use Rattle.syntax.specs.Parsed.{rooms};
@@ -25,5 +25,5 @@ pub fn read(
         return refused(made.code, made.at, made.start, made.end, made.expected);
     }
     let used = 3 * (made.count as usize);
-    parse(text, &list[..used], limit, nodes, links, symbols, scratch)
+    parse_checked(text, &list[..used], limit, nodes, links, symbols, scratch)
 }

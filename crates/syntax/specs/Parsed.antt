@@ -3,16 +3,16 @@
 use Prim.Native.Nat.{ℕ, _+_, _*_, _≤_, _<_}
 use mathlib.Core.List.{List, [], _∷_, _++_}
 use mathlib.Core.Path.{_≡_}
-use lib.ListN.{length, take}
+use lib.ListN.{length, getD, take}
 use Rattle.door.specs.declared.Refusal.{Refusal as Turned}
 use Rattle.grammar.specs.Answer.{Answer as Numbers, success, refuse, rooms-cleared, rooms-filled, Answers}
 use Rattle.grammar.specs.Call.{Call}
-use Rattle.grammar.specs.Door.{Admitted}
+use Rattle.grammar.specs.Door.{Sound, Closed, Admitted}
 use Rattle.grammar.specs.Handle.{absent}
 use Rattle.grammar.specs.Label.{Node, number-of}
 use Rattle.grammar.specs.Room.{Rooms, node-width, link-width, symbol-width, scratch-width}
 use Rattle.grammar.specs.Rows.{Rows, padded}
-use Rattle.grammar.specs.Token.{start, end}
+use Rattle.grammar.specs.Token.{count, start, end}
 use Rattle.parser.specs.declared.Cursor.{Cursor}
 use Rattle.parser.specs.declared.Refusal.{Refusal}
 use Rattle.syntax.specs.declared.Answer.{Answer}
@@ -34,6 +34,12 @@ pub record Parsed (text ts : List ℕ) (limit : ℕ) (before after : Rooms) (r :
 -- the call is let in
 pub record Let-in (text ts : List ℕ) (limit : ℕ) (before : Rooms) : Type 0 where
   pub admitted : Admitted (call text ts limit before)
+
+-- checks 5 to 7 find nothing
+pub record Checked (text ts : List ℕ) : Type 0 where
+  pub ascii : (i : ℕ) → i < length text → getD text i 0 ≤ 127
+  pub sound : (i : ℕ) → i < count ts → Sound text ts i
+  pub closed : (i : ℕ) → i < count ts → Closed ts i
 
 -- the numbers of a refusal at the door, and of one in reading
 abbrev pub turned-numbers : Turned → Numbers

@@ -5,6 +5,7 @@ use ast::room::link;
 use ast::room::push;
 use door::Entry;
 use door::check;
+use door::lengths;
 use parser::Cursor;
 use parser::Read;
 use parser::Refusal;
@@ -20,7 +21,7 @@ ghost use Rattle.grammar.specs.Phrase.{empty, chain, whole};
 ghost use Rattle.grammar.specs.Token.{count};
 ghost use Rattle.parser.specs.Answers.{Lists};
 ghost use Rattle.parser.specs.State.{state, Ready};
-ghost use Rattle.syntax.specs.Parsed.{numbers, rooms, Parsed, Let-in, Cut, Fitting, Rooted};
+ghost use Rattle.syntax.specs.Parsed.{numbers, rooms, Parsed, Let-in, Checked, Cut, Fitting, Rooted};
 
 // No row.
 const ABSENT: u32 = 4294967295;
@@ -174,6 +175,35 @@ fn script(
         Read::Refused(why) => cut(tokens, nodes, links, symbols, scratch, why),
         Read::Node(_, end) => root(nodes, links, symbols, scratch, end),
     }
+}
+
+// Reads a script whose text and list have what checks 5 to 7 ask, so that they need not be looked at: the answer of `parse`. For the crates above, which know
+// that of a list that they made. Ruled out: 3 where the list has too many tokens; a reading in rooms that are too small.
+pub fn parse_checked(
+    text: &[u8],
+    tokens: &[u32],
+    limit: u32,
+    nodes: &mut [u32],
+    links: &mut [u32],
+    symbols: &mut [u32],
+    scratch: &mut [u32],
+) -> Answer
+    requires { ⌜ Checked (now text) (now tokens) ⌝ }
+    ensures { λ r. ⌜ Parsed (now (text .entry)) (now (tokens .entry)) limit (rooms (now (nodes .entry)) (now (links .entry)) (now (symbols .entry)) (now (scratch .entry))) (rooms (now (nodes .exit)) (now (links .exit)) (now (symbols .exit)) (now (scratch .exit))) r ⌝ }
+{
+    let code = lengths(
+        tokens.len(),
+        text.len(),
+        limit,
+        nodes.len(),
+        links.len(),
+        symbols.len(),
+        scratch.len(),
+    );
+    if code != 0 {
+        return refused(code, 0, 0, 0, 255);
+    }
+    script(text, tokens, limit, nodes, links, symbols, scratch)
 }
 
 // Reads a script. Refusals 1 to 7 leave the rooms as they are, and 8 to 12 leave zeros throughout; success leaves the script's rows and then zeros, and

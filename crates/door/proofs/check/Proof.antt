@@ -2,7 +2,7 @@
 use Prim.Native.Nat.{_≤_}
 use native.Mathlib.Omega.{arith}
 use lib.ListN.{length}
-use Rattle.door.proofs.Codes.{by-lengths, by-byte, by-list, right-lengths, whole-list}
+use Rattle.door.proofs.Codes.{by-lengths, by-byte, by-list, none-high, right-lengths, whole-list}
 use borrow.Author.Needs.{needs}
 use Rattle.door.proofs.check.Statement.{statement}
 use Rattle.door.proofs.check.Tie as tie
@@ -27,7 +27,7 @@ listed-requires : tie.Need-listed-requires
 listed-requires c κs = whole-list _ (right-lengths (c .before .before .before .lengths .ensures) (c .before .before .if1 .left) .0)
 
 returns-3 : tie.Need-returns-3
-returns-3 c = by-list (c .before .before .before .before .lengths .ensures) (c .before .before .before .if1 .left) (c .before .before .highest .ensures) (c .before .if2 .left) (c .listed .ensures)
+returns-3 c = by-list (c .before .before .before .before .lengths .ensures) (c .before .before .before .if1 .left) (none-high (c .before .before .highest .ensures) (c .before .if2 .left)) (c .listed .ensures)
 
 pub check-spec : {M : Type 1} → statement M
 check-spec =

@@ -1,8 +1,9 @@
--- `read` meets its contract: the token maker's refusal, or what `parse` answers of the list that it made.
+-- `read` meets its contract: the token maker's refusal, or what `parse` answers of the list that it made, which has what checks 5 to 7 ask.
 use borrow.Author.Needs.{needs}
 use native.Mathlib.Omega.{arith}
 use mathlib.Core.Path.{sym}
 use lib.Seq.{length-take-le}
+use Rattle.lexer.proofs.Passing.{made-list}
 use Rattle.reader.specs.Answered.{Answers-text}
 use Rattle.reader.proofs.Texts.{made-fits}
 use Rattle.reader.proofs.read.Statement.{statement}
@@ -14,16 +15,21 @@ returns c = record { answers = rw (c .refused .ensures) (Answers-text.unmade (c 
 mul-used : tie.Need-mul-used
 mul-used c = omega (arith, made-fits (c .before .before .before .before .before .lex .ensures) (c .before .if1 .left) .1)
 
-slice-reshare-prefix-parse : tie.Need-slice-reshare-prefix-parse
-slice-reshare-prefix-parse c = omega (arith, made-fits (c .before .before .before .before .before .lex .ensures) (c .before .if1 .left) .0)
+slice-reshare-prefix-parse-checked : tie.Need-slice-reshare-prefix-parse-checked
+slice-reshare-prefix-parse-checked c = omega (arith, made-fits (c .before .before .before .before .before .lex .ensures) (c .before .if1 .left) .0)
 
-slice-aggregate-parse : tie.Need-slice-aggregate-parse
-slice-aggregate-parse c = sym (length-take-le _ _ (made-fits (c .before .before .before .before .before .before .lex .ensures) (c .before .before .if1 .left) .0))
+slice-aggregate-parse-checked : tie.Need-slice-aggregate-parse-checked
+slice-aggregate-parse-checked c = sym (length-take-le _ _ (made-fits (c .before .before .before .before .before .before .lex .ensures) (c .before .before .if1 .left) .0))
+
+parse-checked-requires : tie.Need-parse-checked-requires
+parse-checked-requires c κs =
+    let m = made-list (c .before .before .before .before .before .before .before .before .before .before .lex .ensures) (c .before .before .before .before .before .before .if1 .left) in
+    record { ascii = m .readable .ascii; sound = m .passes .sound; closed = m .passes .closed }
 
 returns-2 : tie.Need-returns-2
-returns-2 c = record { answers = Answers-text.made (c .before .before .before .before .before .before .before .before .before .before .before .before .before .before .before .before .before .before .before .lex .ensures) (c .before .before .before .before .before .before .before .before .before .before .before .before .before .before .before .if1 .left) (c .before .before .before .before .before .before .before .before .parse .ensures .answers) }
+returns-2 c = record { answers = Answers-text.made (c .before .before .before .before .before .before .before .before .before .before .before .before .before .before .before .before .before .before .before .lex .ensures) (c .before .before .before .before .before .before .before .before .before .before .before .before .before .before .before .if1 .left) (c .before .before .before .before .before .before .before .before .parse-checked .ensures .answers) }
 
 pub read-spec : {M : Type 1} → statement M
 read-spec =
     tie.close
-    (tie.spec (λ c κs. search needs) (λ c κs. search needs) (λ c. search needs) returns (λ c. search needs) mul-used slice-reshare-prefix-parse slice-aggregate-parse (λ c κs. search needs) (λ c. search needs) (λ c. search needs) (λ c. search needs) (λ c. search needs) (λ c. search needs) returns-2)
+    (tie.spec (λ c κs. search needs) (λ c κs. search needs) (λ c. search needs) returns (λ c. search needs) mul-used slice-reshare-prefix-parse-checked slice-aggregate-parse-checked parse-checked-requires (λ c. search needs) (λ c. search needs) (λ c. search needs) (λ c. search needs) (λ c. search needs) returns-2)
