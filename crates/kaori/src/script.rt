@@ -22,6 +22,7 @@ use crate::words::put_first_line;
 use diagnostics::line::place;
 use reader::read;
 use syntax::Answer;
+use wire::output::found;
 ghost use Prim.Native.Nat.{_≤_};
 
 // What is asked for: the report of a refusal, the statements with their trees, the rows; and the names of files above them.
@@ -86,20 +87,11 @@ fn show_all(
     }
 }
 
-// The kind of a token of a list, and no token's kind where there is none.
-fn kind_at(list: &[u32], at: u32) -> u32 {
-    let i = 3 * (at as usize);
-    if i < list.len() {
-        return list[i];
-    }
-    255
-}
-
 // How many tokens a list has: up to Eof, which is the last.
 fn count(list: &[u32]) -> u32 {
     let mut n: u32 = 0;
     while n < 4096 {
-        if kind_at(list, n) == 44 {
+        if found(list, n) == 44 {
             return n + 1;
         }
         n += 1;
@@ -138,7 +130,7 @@ fn show_refused(
             code: a.code,
             start: a.start,
             expected: a.expected,
-            found: kind_at(list, a.at),
+            found: found(list, a.at),
         };
         report(path, text, why, out);
     }

@@ -100,8 +100,9 @@ pub fn listed(
     rows(b"sym ", 2, symbols, s as usize, room, e)
 }
 
-// The kind of the token at a place; 0 where there is none, whose refusals have no message.
-fn found(tokens: &[u32], at: u32) -> u32
+// The kind of the token at a place; 0 where there is none, whose refusals have no message. For the crates above.
+// Ruled out: the kind of the token before it; a kind that is not 0 past the list.
+pub fn found(tokens: &[u32], at: u32) -> u32
     ensures { λ r. ⌜ r ≡ kind (now (tokens .entry)) at ⌝ }
 {
     let i = 3 * (at as usize);
