@@ -1,10 +1,10 @@
 // The text that a row covers: from the leftmost start to the rightmost end of the row and of all that stands below it, with the parentheses that were
 // opened or closed in between. (A row's own span is less: that of a call starts at its `(`.) Children stand before their parents, so one pass over the rows
 // finds all.
-use crate::row::below;
-use crate::row::child;
-use crate::row::node;
-use crate::row::places;
+use children::below;
+use children::child;
+use children::node;
+use children::places;
 ghost use Prim.Native.Nat.{_+_, _≤_, _<_};
 
 // Offsets in the text.

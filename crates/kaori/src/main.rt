@@ -4,7 +4,6 @@ mod listing;
 mod page;
 mod reads;
 mod report;
-mod row;
 mod script;
 mod tree;
 mod words;

@@ -2,17 +2,17 @@
 use crate::page::end_line;
 use crate::page::put;
 use crate::page::put_byte;
-use crate::row::ABSENT;
-use crate::row::Children;
-use crate::row::below;
-use crate::row::child;
-use crate::row::link;
-use crate::row::linked;
-use crate::row::node;
-use crate::row::places;
 use crate::words::indent;
 use crate::words::put_sign;
 use crate::words::put_text;
+use children::ABSENT;
+use children::Children;
+use children::below;
+use children::child;
+use children::link;
+use children::linked;
+use children::node;
+use children::places;
 ghost use Prim.Native.Nat.{_+_, _≤_, _<_};
 
 // The name that a row has: symbol, start and end are its numbers from 3 or 4 on.

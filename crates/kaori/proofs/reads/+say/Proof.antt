@@ -16,10 +16,10 @@ use Rattle.kaori.proofs.reads.deeper.Reads as deeper-reads
 use Rattle.kaori.proofs.reads.is_grouped.Reads as is-grouped-reads
 use Rattle.kaori.proofs.reads.opening.Reads as opening-reads
 use Rattle.kaori.proofs.reads.put_if.Reads as put-if-reads
-use Rattle.kaori.proofs.row.below.Reads as below-reads
-use Rattle.kaori.proofs.row.child.Reads as child-reads
-use Rattle.kaori.proofs.row.node.Reads as node-reads
-use Rattle.kaori.proofs.row.places.Reads as places-reads
+use Rattle.children.proofs.below.Reads as below-reads
+use Rattle.children.proofs.child.Reads as child-reads
+use Rattle.children.proofs.node.Reads as node-reads
+use Rattle.children.proofs.places.Reads as places-reads
 use Rattle.kaori.proofs.reads.+say.{statement}
 use Rattle.kaori.proofs.reads.+say.Tie.{close}
 

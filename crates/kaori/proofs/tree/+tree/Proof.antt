@@ -6,9 +6,9 @@ use borrow.Fn.PlainCycle.{Measures, is, falls, and}
 use Rattle.kaori.proofs.tree.tree.Reads as tree
 use Rattle.kaori.proofs.tree.tree.Kinds as tree-kinds
 use Rattle.kaori.proofs.tree.+tree.Lts-tree as tree-lts
-use Rattle.kaori.proofs.row.below.Reads as below-reads
-use Rattle.kaori.proofs.row.child.Reads as child-reads
-use Rattle.kaori.proofs.row.places.Reads as places-reads
+use Rattle.children.proofs.below.Reads as below-reads
+use Rattle.children.proofs.child.Reads as child-reads
+use Rattle.children.proofs.places.Reads as places-reads
 use Rattle.kaori.proofs.tree.is_tail.Reads as is-tail-reads
 use Rattle.kaori.proofs.tree.line.Reads as line-reads
 use Rattle.kaori.proofs.tree.+tree.{statement}

@@ -1,12 +1,18 @@
-// The rows of a tree, read by number. Every function answers for any numbers: what is not there is ABSENT, so that a walk needs no promise about the rows.
-
-ghost use Prim.Native.Nat.{_≤_};
+// What stands below a row of a tree, in the order of the text. Every function answers for any numbers: what is not there is ABSENT, so that a walk needs no promise
+// about the rows.
+ghost use Prim.Native.Nat.{_+_, _*_, _≤_};
+ghost use mathlib.Core.Path.{_≡_};
+ghost use Rattle.grammar.specs.Room.{node-width, link-width};
+ghost use Rattle.children.specs.Below.{Number, many, Below, Child};
 
 // No row.
 pub const ABSENT: u32 = 4294967295;
 
 // Number i of a node row.
-pub fn node(nodes: &[u32], row: u32, i: u32) -> u32 {
+// Ruled out: the number before it; 0 past the room.
+pub fn node(nodes: &[u32], row: u32, i: u32) -> u32
+    ensures { λ r. ⌜ Number (now (nodes .entry)) (node-width * row + i) r ⌝ }
+{
     let at = 9 * (row as usize) + (i as usize);
     if at < nodes.len() {
         return nodes[at];
@@ -14,22 +20,22 @@ pub fn node(nodes: &[u32], row: u32, i: u32) -> u32 {
     ABSENT
 }
 
-// Number i of a link row.
-pub fn link(links: &[u32], row: usize, i: usize) -> u32 {
+// Number i of a link row, or of the rows after it.
+// Ruled out: a number of the row before it; 0 past the room.
+pub fn link(links: &[u32], row: usize, i: u32) -> u32
+    ensures { λ r. ⌜ Number (now (links .entry)) (link-width * row + i) r ⌝ }
+{
     if row >= links.len() {
         return ABSENT;
     }
-    if i >= 3 {
-        return ABSENT;
-    }
-    let at = 3 * row + i;
+    let at = 3 * row + (i as usize);
     if at < links.len() {
         return links[at];
     }
     ABSENT
 }
 
-// What stands below a row, in the order of the text: a child, links that hold so many children each, and two more children.
+// What stands below a row: a child, links that hold so many children each, and two more children. Each of the three may be ABSENT.
 pub struct Children {
     pub first: u32,
     pub from: u32,
@@ -40,7 +46,9 @@ pub struct Children {
 }
 
 // Children that are no list.
-fn fixed(first: u32, second: u32, third: u32) -> Children {
+fn fixed(first: u32, second: u32, third: u32) -> Children
+    ensures { λ r. ⌜ r ≡ record { first = first; from = 0; count = 0; each = 0; second = second; third = third } ⌝ }
+{
     Children {
         first: first,
         from: 0,
@@ -52,7 +60,9 @@ fn fixed(first: u32, second: u32, third: u32) -> Children {
 }
 
 // Children of which some are a list.
-fn listed(first: u32, from: u32, count: u32, each: u32, second: u32) -> Children {
+fn listed(first: u32, from: u32, count: u32, each: u32, second: u32) -> Children
+    ensures { λ r. ⌜ r ≡ record { first = first; from = from; count = count; each = each; second = second; third = 4294967295 } ⌝ }
+{
     Children {
         first: first,
         from: from,
@@ -64,7 +74,10 @@ fn listed(first: u32, from: u32, count: u32, each: u32, second: u32) -> Children
 }
 
 // What stands below a row, by its kind.
-pub fn below(nodes: &[u32], row: u32) -> Children {
+// Ruled out: the arguments of a call before its callee; a map's keys without their values.
+pub fn below(nodes: &[u32], row: u32) -> Children
+    ensures { λ r. ⌜ Below (now (nodes .entry)) row r ⌝ }
+{
     let a = node(nodes, row, 3);
     let b = node(nodes, row, 4);
     let c = node(nodes, row, 5);
@@ -85,8 +98,9 @@ pub fn below(nodes: &[u32], row: u32) -> Children {
 }
 
 // How many children the links of a row hold.
+// Ruled out: one for each of a map's entries; some where there are no links.
 pub fn linked(b: Children) -> usize
-    ensures { λ r. ⌜ r ≤ 8589934590 ⌝ }
+    ensures { λ r. ⌜ (r ≡ many b) × (r ≤ 8589934590) ⌝ }
 {
     let count = b.count as usize;
     let each = b.each;
@@ -98,7 +112,10 @@ pub fn linked(b: Children) -> usize
 }
 
 // The child at a place: the first child has place 0, those of the links follow from 1 on, then the other two.
-pub fn child(links: &[u32], b: Children, place: usize) -> u32 {
+// Ruled out: a map's values before its keys; a block's tail before its statements.
+pub fn child(links: &[u32], b: Children, place: usize) -> u32
+    ensures { λ r. ⌜ Child (now (links .entry)) b place r ⌝ }
+{
     if place == 0 {
         return b.first;
     }
@@ -106,10 +123,10 @@ pub fn child(links: &[u32], b: Children, place: usize) -> u32 {
     if place <= many {
         let from = b.from as usize;
         let before = place - 1;
-        if b.each == 2 {
-            return link(links, from + before / 2, before % 2);
+        if b.each == 1 {
+            return link(links, from + before, 0);
         }
-        return link(links, from + before, 0);
+        return link(links, from + before / 2, (before % 2) as u32);
     }
     if place == many + 1 {
         return b.second;
@@ -121,8 +138,9 @@ pub fn child(links: &[u32], b: Children, place: usize) -> u32 {
 }
 
 // How many places there are.
+// Ruled out: the links' alone; one less.
 pub fn places(b: Children) -> usize
-    ensures { λ r. ⌜ r ≤ 8589934593 ⌝ }
+    ensures { λ r. ⌜ (r ≡ many b + 3) × (r ≤ 8589934593) ⌝ }
 {
     linked(b) + 3
 }
