@@ -1,4 +1,5 @@
 pub mod Tests
+pub mod Ranges
 pub mod Tables
 pub mod Patterns
 pub mod Matching
@@ -21,4 +22,8 @@ pub mod Calls
 pub mod Demands
 -- samples
 pub mod Reader
+pub mod Doors
+pub mod Spelled
 pub mod Samples
+pub mod Replies
+pub mod Named

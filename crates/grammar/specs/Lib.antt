@@ -19,4 +19,7 @@ pub mod Outcome
 pub mod Call
 pub mod Door
 pub mod Answer
+pub mod Spelled
 pub mod Samples
+pub mod Replies
+pub mod Named

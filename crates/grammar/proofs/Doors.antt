@@ -1,0 +1,175 @@
+-- A door that proves its answer: it finds the first code that finds something wrong, and the place where it does. Run on a call, it decides the call.
+use Prim.Native.Nat.{ℕ, zero, suc, _+_, _*_, _/_, _≤_, _<_}
+use mathlib.Core.Bool.{Bool, true, false}
+use mathlib.Core.List.{List}
+use mathlib.Core.Path.{_≡_, refl, subst}
+use native.Mathlib.Decide.{ℕ-discrete, decLe, decLt}
+use native.Mathlib.Omega.{arith}
+use lib.Dec.{T}
+use lib.ListN.{length, getD}
+use Rattle.grammar.specs.Call.{Call}
+use Rattle.grammar.specs.Door.{Whole, Roomy, Sound, Closed, Admitted, First-without, Wrong, Turned-away}
+use Rattle.grammar.specs.Kind.{And, Nil, Identifier, Eof}
+use Rattle.grammar.specs.Lexeme.{spelling, pattern, Fits}
+use Rattle.grammar.specs.Pattern.{Pattern, Matches, matches}
+use Rattle.grammar.specs.Room.{node-width, link-width, symbol-width, scratch-width}
+use Rattle.grammar.specs.Rows.{same}
+use Rattle.grammar.specs.Token.{count, kind, start, end, lexeme}
+use Rattle.grammar.proofs.Patterns.{matches-sound, matches-whole}
+use Rattle.grammar.proofs.Tests.{same-means, same-self}
+
+-- decisions of what is made of others
+unfoldable pub by-test : {A : Type 0} (b : Bool) → (T b → A) → (A → T b) → Dec A
+by-test true f g = yes (f tt)
+by-test false f g = no g
+
+unfoldable pub carried : {A B : Type 0} → (A → B) → (B → A) → Dec A → Dec B
+carried f g (yes a) = yes (f a)
+carried f g (no z) = no (λ b. z (g b))
+
+unfoldable pub also : {A B : Type 0} → Dec A → Dec B → Dec (A × B)
+also (yes a) (yes b) = yes (a, b)
+also (yes a) (no z) = no (λ p. z (p .1))
+also (no z) d = no (λ p. z (p .0))
+
+unfoldable pub implies : {A B : Type 0} → Dec A → Dec B → Dec (A → B)
+implies (yes a) (yes b) = yes (λ x. b)
+implies (yes a) (no z) = no (λ f. z (f a))
+implies (no z) d = yes (λ a. absurd (z a))
+
+unfoldable pub denied : {A : Type 0} → Dec A → Dec (A → ⊥)
+denied (yes a) = no (λ f. f a)
+denied (no z) = yes z
+
+-- all of the first n places have what is asked, or one is the first that has not
+pub data Search (asked : ℕ → Type 0) (n : ℕ) : Type 0 where
+  all : ((i : ℕ) → i < n → asked i) → Search asked n
+  lacking : {i : ℕ} → First-without asked n i → Search asked n
+
+module _ (asked : ℕ → Type 0) where
+  pub one-more : (n : ℕ) → ((i : ℕ) → i < n → asked i) → asked n → (i : ℕ) → i < suc n → asked i
+  one-more n f a i h = elim (decLt i n) [ yes l ↦ f i l | no z ↦ let e : n ≡ i = omega arith in subst asked e a ]
+
+  module _ (ask : (i : ℕ) → Dec (asked i)) where
+    unfoldable pub look-through : (n : ℕ) → Search asked n
+    look-through zero = Search.all (λ i h. absurd (omega arith))
+    look-through (suc n) = elim (look-through n) [
+      | all f ↦ elim (ask n) [
+        | yes a ↦ Search.all (one-more n f a)
+        | no z ↦ let l : n < suc n = omega arith in Search.lacking (record { place = l; lacks = z; before = f })
+      ]
+      | lacking {i = i} x ↦ let p = x .place in let l : i < suc n = omega arith in Search.lacking (record { place = l; lacks = x .lacks; before = x .before })
+    ]
+
+unfoldable pub each : {asked : ℕ → Type 0} {n : ℕ} → Search asked n → Dec ((i : ℕ) → i < n → asked i)
+each (all f) = yes f
+each (lacking {i = i} x) = no (λ f. x .lacks (f i (x .place)))
+
+-- lexemes
+unfoldable pub text-is : (xs ys : List ℕ) → Dec (xs ≡ ys)
+text-is xs ys = by-test (same xs ys) (same-means xs ys) (λ e. subst (λ zs. T (same xs zs)) e (same-self xs))
+
+unfoldable pub matched : (p : Pattern) (xs : List ℕ) → Dec (Matches p xs)
+matched p xs = by-test (matches p xs) (matches-sound p xs) (matches-whole p xs)
+
+abbrev pub No-keyword : List ℕ → ℕ → Type 0
+No-keyword x w = And ≤ w → x ≡ spelling w → ⊥
+
+unfoldable pub fitting : (k : ℕ) (x : List ℕ) → Dec (Fits k x)
+fitting k x =
+    carried (λ p. record { lexeme = p .0; no-keyword = λ e w l h. p .1 e w (omega arith) l })
+    (λ f. (f .lexeme, λ e w h l. f .no-keyword e w l (omega arith)))
+    (also (implies (decLt k Eof) (matched (pattern k) x)) (implies (ℕ-discrete k Identifier) (each (look-through (No-keyword x) (λ w. implies (decLe And w) (denied (text-is x (spelling w)))) (suc Nil)))))
+
+-- what is asked of each byte and token
+abbrev pub Ascii : List ℕ → ℕ → Type 0
+Ascii text i = getD text i 0 ≤ 127
+
+unfoldable pub parted : (ts : List ℕ) (i : ℕ) → Dec ((j : ℕ) → suc j ≡ i → end ts j ≤ start ts i)
+parted ts zero = yes (λ j e. absurd (omega arith))
+parted ts (suc n) = carried (λ h j e. let z : n ≡ j = omega arith in subst (λ m. end ts m ≤ start ts (suc n)) z h) (λ f. f n refl) (decLe (end ts n) (start ts (suc n)))
+
+unfoldable pub sounds : (text ts : List ℕ) (i : ℕ) → Dec (Sound text ts i)
+sounds text ts i =
+    carried (λ p. record { known = p .0; forward = p .1 .0; inside = p .1 .1 .0; apart = p .1 .1 .1 .0; fits = p .1 .1 .1 .1 })
+    (λ s. (s .known, (s .forward, (s .inside, (s .apart, s .fits)))))
+    (also (decLe (kind ts i) Eof) (also (decLe (start ts i) (end ts i)) (also (decLe (end ts i) (length text)) (also (parted ts i) (fitting (kind ts i) (lexeme text (start ts i) (end ts i)))))))
+
+unfoldable pub closes : (ts : List ℕ) (i : ℕ) → Dec (Closed ts i)
+closes ts i =
+    carried (λ p. record { only = p .0; last = p .1 }) (λ s. (s .only, s .last))
+    (also (implies (ℕ-discrete (kind ts i) Eof) (ℕ-discrete (i + 1) (count ts))) (implies (ℕ-discrete (i + 1) (count ts)) (ℕ-discrete (kind ts i) Eof)))
+
+module _ (c : Call) where
+  unfoldable pub in-bytes : Search (Ascii (c .text)) (length (c .text))
+  in-bytes = look-through (Ascii (c .text)) (λ i. decLe (getD (c .text) i 0) 127) (length (c .text))
+
+  unfoldable pub in-tokens : Search (Sound (c .text) (c .tokens)) (count (c .tokens))
+  in-tokens = look-through (Sound (c .text) (c .tokens)) (sounds (c .text) (c .tokens)) (count (c .tokens))
+
+  unfoldable pub in-ends : Search (Closed (c .tokens)) (count (c .tokens))
+  in-ends = look-through (Closed (c .tokens)) (closes (c .tokens)) (count (c .tokens))
+
+  -- what each code asks
+  abbrev pub Asked : (code : ℕ) → Type 0
+  Asked zero = Unit {0}
+  Asked (suc zero) = Whole (c .tokens)
+  Asked (suc (suc zero)) = length (c .text) ≤ 65536
+  Asked (suc (suc (suc zero))) = (1 ≤ c .limit) × (c .limit ≤ 64)
+  Asked (suc (suc (suc (suc zero)))) = Roomy c
+  Asked (suc (suc (suc (suc (suc zero))))) = (i : ℕ) → i < length (c .text) → Ascii (c .text) i
+  Asked (suc (suc (suc (suc (suc (suc zero)))))) = (i : ℕ) → i < count (c .tokens) → Sound (c .text) (c .tokens) i
+  Asked (suc (suc (suc (suc (suc (suc (suc zero))))))) = (i : ℕ) → i < count (c .tokens) → Closed (c .tokens) i
+  Asked (suc (suc (suc (suc (suc (suc (suc (suc k)))))))) = Unit {0}
+
+  unfoldable pub ask : (code : ℕ) → Dec (Asked code)
+  ask zero = yes tt
+  ask (suc zero) = carried (λ p. record { rows = p .0; some = p .1 .0; most = p .1 .1 }) (λ w. (w .rows, (w .some, w .most))) (also (ℕ-discrete (length (c .tokens)) (3 * count (c .tokens))) (also (decLe 1 (count (c .tokens))) (decLe (count (c .tokens)) 4096)))
+  ask (suc (suc zero)) = decLe (length (c .text)) 65536
+  ask (suc (suc (suc zero))) = also (decLe 1 (c .limit)) (decLe (c .limit) 64)
+  ask (suc (suc (suc (suc zero)))) =
+      carried (λ p. record { nodes = p .0; links = p .1 .0; symbols = p .1 .1 .0; scratch = p .1 .1 .1 }) (λ r. (r .nodes, (r .links, (r .symbols, r .scratch))))
+      (also (decLe (count (c .tokens)) (length (c .rooms .nodes) / node-width)) (also (decLe (count (c .tokens)) (length (c .rooms .links) / link-width)) (also (decLe (count (c .tokens)) (length (c .rooms .symbols) / symbol-width)) (decLe (count (c .tokens)) (length (c .rooms .scratch) / scratch-width)))))
+  ask (suc (suc (suc (suc (suc zero))))) = each in-bytes
+  ask (suc (suc (suc (suc (suc (suc zero)))))) = each in-tokens
+  ask (suc (suc (suc (suc (suc (suc (suc zero))))))) = each in-ends
+  ask (suc (suc (suc (suc (suc (suc (suc (suc k)))))))) = yes tt
+
+  -- something is wrong exactly where a code asks for what there is not
+  pub not-had : {k at from upto : ℕ} → Wrong c k at from upto → Asked k → ⊥
+  not-had (Wrong.list x) a = x a
+  not-had (Wrong.text x) a = omega arith
+  not-had (Wrong.no-depth x) a = let l = a .0 in omega arith
+  not-had (Wrong.deep x) a = let l = a .1 in omega arith
+  not-had (Wrong.room x) a = x a
+  not-had (Wrong.byte {i = i} x) a = x .lacks (a i (x .place))
+  not-had (Wrong.token {i = i} x) a = x .lacks (a i (x .place))
+  not-had (Wrong.eof {i = i} x) a = x .lacks (a i (x .place))
+
+  abbrev pub Finding : ℕ → Type 0
+  Finding k = (at from upto : ℕ) × Wrong c k at from upto
+
+  unfoldable pub find : (code : ℕ) → (Asked code → ⊥) → Finding code
+  find zero z = absurd (z tt)
+  find (suc zero) z = (0, 0, 0, Wrong.list z)
+  find (suc (suc zero)) z = (0, 0, 0, let l : 65536 < length (c .text) = omega arith in Wrong.text l)
+  find (suc (suc (suc zero))) z = (0, 0, 0, elim (ℕ-discrete (c .limit) 0) [ yes e ↦ Wrong.no-depth e | no n ↦ elim (decLt 64 (c .limit)) [ yes l ↦ Wrong.deep l | no m ↦ absurd (z (omega arith, omega arith)) ] ])
+  find (suc (suc (suc (suc zero)))) z = (0, 0, 0, Wrong.room z)
+  find (suc (suc (suc (suc (suc zero))))) z = elim in-bytes [ all f ↦ absurd (z f) | lacking {i = i} x ↦ (0, i, i + 1, Wrong.byte x) ]
+  find (suc (suc (suc (suc (suc (suc zero)))))) z = elim in-tokens [ all f ↦ absurd (z f) | lacking {i = i} x ↦ (i, start (c .tokens) i, end (c .tokens) i, Wrong.token x) ]
+  find (suc (suc (suc (suc (suc (suc (suc zero))))))) z = elim in-ends [ all f ↦ absurd (z f) | lacking {i = i} x ↦ (i, start (c .tokens) i, end (c .tokens) i, Wrong.eof x) ]
+  find (suc (suc (suc (suc (suc (suc (suc (suc k)))))))) z = absurd (z tt)
+
+  -- what the door says of a call
+  pub data Verdict : Type 0 where
+    inside : Admitted c → Verdict
+    turned : (code at from upto : ℕ) → Turned-away c code at from upto → Verdict
+
+  pub away : {code at from upto : ℕ} → First-without Asked 8 code → Wrong c code at from upto → Turned-away c code at from upto
+  away {code} x w = record { wrong = w; first = λ {k} v. elim (decLt k code) [ yes h ↦ absurd (not-had v (x .before k h)) | no h ↦ omega arith ] }
+
+  unfoldable pub verdict : Verdict
+  verdict = elim (look-through Asked ask 8) [
+    | all f ↦ inside (record { whole = f 1 (omega arith); short = f 2 (omega arith); some-depth = f 3 (omega arith) .0; least-depth = f 3 (omega arith) .1; roomy = f 4 (omega arith); ascii = f 5 (omega arith); sound = f 6 (omega arith); closed = f 7 (omega arith) })
+    | lacking {i = i} x ↦ let f = find i (x .lacks) in turned i (f .0) (f .1) (f .2) (away x (f .3))
+  ]

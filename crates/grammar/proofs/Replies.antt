@@ -1,0 +1,52 @@
+-- The table of calls is right, by computation: the certified door decides whether a call is let in, and the certified reader what comes of it then.
+use Prim.Native.Nat.{ℕ}
+use mathlib.Core.List.{List, [], _∷_, map}
+use mathlib.Core.Option.{Option, some, none}
+use mathlib.Core.Path.{_≡_, refl, subst}
+use native.Mathlib.Decide.{ℕ-discrete, decLe, decLt}
+use native.Mathlib.Omega.{arith}
+use Rattle.grammar.specs.Answer.{Answer, success, refuse, rooms-cleared, rooms-filled, Answers}
+use Rattle.grammar.specs.Call.{Call}
+use Rattle.grammar.specs.Float.{caseless, seen}
+use Rattle.grammar.specs.Handle.{block-tail, block-list}
+use Rattle.grammar.specs.Kaori.{above, rules, kaori}
+use Rattle.grammar.specs.Lexeme.{spelling}
+use Rattle.grammar.specs.Outcome.{Outcome, accepted, refusal, Comes}
+use Rattle.grammar.specs.Pattern.{nullable, after, matches, literal}
+use Rattle.grammar.specs.Refusal.{refused}
+use Rattle.grammar.specs.Replies.{Reply, All-answered, replies}
+use Rattle.grammar.specs.Room.{Rooms}
+use Rattle.grammar.specs.Rows.{same, seek, interned, links-of, numbers, write, fill, put, make, walk, written}
+use Rattle.grammar.specs.Rule.{rule}
+use Rattle.grammar.specs.Token.{start, end}
+use Rattle.grammar.proofs.Doors.{by-test, carried, also, implies, denied, look-through, each, text-is, matched, fitting, parted, sounds, closes, in-bytes, in-tokens, in-ends, ask, find, Verdict, inside, turned, verdict}
+use Rattle.grammar.proofs.Reader.{reader}
+use Rattle.grammar.proofs.Samples.{answer, outcome-of, right, coming}
+
+module _ (c : Call) where
+  -- what is answered, of what the door says and what comes of the list
+  unfoldable reply : Verdict c → Option Outcome → Option (Answer × Rooms)
+  reply (turned code at from upto t) o = some (refuse code at from upto 255, c .rooms)
+  reply (inside d) (some (accepted w)) = some (success w, rooms-filled w (c .rooms))
+  reply (inside d) (some (refusal (refused code at expected))) = some (refuse code at (start (c .tokens) at) (end (c .tokens) at) expected, rooms-cleared (c .rooms))
+  reply (inside d) none = none
+
+  said : {a b : Answer} {r s : Rooms} → Answers c a r → _≡_ {A = Option (Answer × Rooms)} (some (a, r)) (some (b, s)) → Answers c b s
+  said {a} {b} {r} {s} x e = let z : _≡_ {A = Answer × Rooms} (a, r) (b, s) = cc in subst (λ (p : Answer × Rooms). Answers c (p .0) (p .1)) z x
+
+  replied : (v : Verdict c) (o : Option Outcome) → ((p : Outcome) → o ≡ some p → Comes (c .text) (c .tokens) (c .limit) p) → {a : Answer} {r : Rooms} → reply v o ≡ some (a, r) → Answers c a r
+  unfolding reply
+  replied (turned code at from upto t) o f e = said (Answers.turned-away t) e
+  replied (inside d) (some (accepted w)) f e = said (Answers.accepted d (f _ refl)) e
+  replied (inside d) (some (refusal (refused code at expected))) f e = said (Answers.refused d (f _ refl)) e
+  replied (inside d) none f e = absurd (let z : _≡_ {A = ℕ} 0 1 = cc in omega arith)
+
+all-answered : (rs : List Reply) → map (λ r. reply (r .call) (verdict (r .call)) (coming (r .call .text) (r .call .tokens) (r .call .limit))) rs ≡ map (λ r. some (r .answer, r .after)) rs → All-answered rs
+unfolding coming
+all-answered [] e = tt
+all-answered (r ∷ rs) e =
+    (replied (r .call) (verdict (r .call)) (coming (r .call .text) (r .call .tokens) (r .call .limit)) (λ p. right (r .call .text) (r .call .tokens) (r .call .limit) (answer (r .call .text) (r .call .tokens) (r .call .limit)) {o = p}) (cc), all-answered rs (cc))
+
+pub replies-right : All-answered replies
+unfolding reply verdict look-through each ask find by-test also implies denied carried text-is matched fitting parted sounds closes in-bytes in-tokens in-ends decLe literal spelling coming answer outcome-of reader kaori rules above seen matches after nullable caseless ℕ-discrete decLt written walk make put fill write numbers links-of interned seek same rule block-list block-tail
+replies-right = all-answered replies refl
