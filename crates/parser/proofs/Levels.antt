@@ -12,11 +12,11 @@ use Rattle.grammar.specs.Phrase.{token, node, choice, chain, Tree, whole, begun
 use Rattle.grammar.specs.Refusal.{Refused, Refuses}
 use Rattle.token.specs.Level.{level}
 use Rattle.token.proofs.Operators.{operator-link, no-operator}
-use Rattle.parser.specs.Answers.{node-of}
-use Rattle.parser.specs.Chains.{Going}
-use Rattle.parser.specs.Reading.{Reading}
-use Rattle.parser.specs.State.{State, Within, Rooms}
-use Rattle.parser.proofs.Laws.{first, ended, rooms-same, rooms-on}
+use Rattle.reading.specs.Answers.{node-of}
+use Rattle.reading.specs.Chains.{Going}
+use Rattle.reading.specs.Reading.{Reading}
+use Rattle.reading.specs.State.{State, Within, Rooms}
+use Rattle.reading.proofs.Laws.{first, ended, rooms-same, rooms-on}
 
 -- what a table of operators has is an operator of its level, with a right operand of it
 link-form : (n x : ℕ) → n < 6 → {f : Label} {q : Form} → kaori (operators n) x ≡ node f q → q ≡ token x (above n)

@@ -1,16 +1,5 @@
-pub mod Laws
-pub mod Bound
-pub mod Entering
-pub mod Replies
-pub mod Chains
 pub mod Levels
-pub mod Listings
 pub mod Entries
 pub mod Forms
-pub mod Gathering
-pub mod Picks
-pub mod Taking
-pub mod Names
-pub mod Leaf
 pub mod Sorts
 pub mod Statements

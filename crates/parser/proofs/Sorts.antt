@@ -16,8 +16,8 @@ use Rattle.grammar.proofs.Handles.{Known, All-known, Aligned, walk-sound}
 use Rattle.grammar.proofs.Shapes.{table, shape, ok}
 use Rattle.grammar.proofs.Sizes.{Fits, one}
 use Rattle.grammar.proofs.Trees.{grows}
-use Rattle.parser.specs.Reading.{Reading}
-use Rattle.parser.specs.State.{State, written, Within}
+use Rattle.reading.specs.Reading.{Reading}
+use Rattle.reading.specs.State.{State, written, Within}
 
 -- what is written so far is whole rows
 whole-rows : {text ts : List ℕ} {s : State} → Within text ts s → Whole (written s)

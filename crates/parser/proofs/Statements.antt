@@ -24,16 +24,16 @@ use Rattle.grammar.specs.Rows.{links-of, make}
 use Rattle.grammar.specs.Token.{kind, start, end, lexeme}
 use Rattle.grammar.proofs.Room.{links-length}
 use Rattle.grammar.proofs.Tables.{Unlisted}
-use Rattle.parser.specs.Answers.{next, node-of, tail-of, Case, Answered, Listed, Fill-case, Fills, Stated, State-case, States}
-use Rattle.parser.specs.Parts.{forms, form-of, ending, Ends, Ended, Untailed}
-use Rattle.parser.specs.Reading.{refusal, Success, Refusing}
-use Rattle.parser.specs.State.{State, state, held, Within, Ready}
-use Rattle.parser.specs.declared.Cursor.{Cursor}
-use Rattle.parser.specs.declared.Read.{Read}
-use Rattle.parser.specs.declared.Refusal.{Refusal}
-use Rattle.parser.proofs.Laws.{sees, sees-not, Made, unwritten, nothing, chosen, ended, alone, joined, taken, ready-next, ready-on}
-use Rattle.parser.proofs.Listings.{pushed, links-append, Statements, listing-none, none-items, listing-more, more-items}
-use Rattle.parser.proofs.Replies.{after-once}
+use Rattle.reading.specs.Answers.{next, node-of, tail-of, Answer-case, Answered, Listed, Fill-case, Fills, Stated, State-case, States}
+use Rattle.reading.specs.Parts.{forms, form-of, ending, Ends, Ended, Untailed}
+use Rattle.reading.specs.Reading.{refusal, Success, Refusing}
+use Rattle.reading.specs.State.{State, state, held, Within, Ready}
+use Rattle.reading.specs.declared.Cursor.{Cursor}
+use Rattle.reading.specs.declared.Read.{Read}
+use Rattle.reading.specs.declared.Refusal.{Refusal}
+use Rattle.reading.proofs.Laws.{sees, sees-not, Made, unwritten, nothing, chosen, ended, alone, joined, taken, ready-next, ready-on}
+use Rattle.reading.proofs.Listings.{pushed, links-append, Statements, listing-none, none-items, listing-more, more-items}
+use Rattle.reading.proofs.Replies.{after-once}
 use Rattle.parser.proofs.Sorts.{tail-present, statement-link}
 
 -- a table whose entries are made alike
@@ -107,14 +107,14 @@ module _ {text ts : List ℕ} {limit o : ℕ} {s : State} {ns ls ys ss : List �
       let e = sees text ts (c .at) k (λ y. omega arith) in
       let made : Made text ts Label.Ended (c .at) (state ns ls ys ss (next c)) (node-of n ∷ []) [] (Handle.ended (n .id) ∷ []) (state ns ls ys ss (next c)) = unwritten refl in
       let v = chosen (statement-seen text ts (s .cursor .at) refl) (joined (z .reading) (taken-end text ts (c .at) (kind ts (s .cursor .at)) e) (taken e (nothing (r .deep))) made) in
-      rw (em, ed) (record { says = record { handle = Handle.ended (n .id); row-is = refl; tail-is = refl; success = record { reading = v; within = ready-next (ready-on r (z .within)) k (λ y. omega arith) .within; past = omega (arith, z .past) } } })
+      rw (em, ed) (record { says = record { handle = Handle.ended (n .id); row-is = refl; start-is = refl; tail-is = refl; success = record { reading = v; within = ready-next (ready-on r (z .within)) k (λ y. omega arith) .within; past = omega (arith, z .past) } } })
 
   alone-by : {n m : Node} {c d : Cursor} → Success text ts limit (whole (form-of (kind ts (s .cursor .at)))) o s (node-of n ∷ []) (state ns ls ys ss c) →
       (kind ts (c .at) ≡ Semicolon → ⊥) × ((kind ts (c .at) ≡ RightBrace) ⊎ (ending (kind ts (s .cursor .at)) ≡ may-end)) × (m ≡ record { id = n .id; start = 0; end = n .id }) × (d ≡ c) → States text ts limit o s ns ls ys ss (Read.Node m d)
   unfolding State-case
   alone-by {n} {c = c} z (k, b, em, ed) =
       let v = chosen (statement-seen text ts (s .cursor .at) refl) (alone (no-end text ts (c .at) (kind ts (s .cursor .at)) k b) (z .reading)) in
-      rw (em, ed) (record { says = record { handle = node-of n; row-is = refl; tail-is = refl; success = record { reading = v; within = z .within; past = z .past } } })
+      rw (em, ed) (record { says = record { handle = node-of n; row-is = refl; start-is = refl; tail-is = refl; success = record { reading = v; within = z .within; past = z .past } } })
 
   pub statement-ends : {n : Node} {c : Cursor} {x : ℕ} (r : Read) → Ready text ts limit o s → Success text ts limit (whole (form-of (kind ts (s .cursor .at)))) o s (node-of n ∷ []) (state ns ls ys ss c) → x ≡ kind ts (s .cursor .at) → Ended ts n c x r → States text ts limit o s ns ls ys ss r
   unfolding Ends
@@ -124,7 +124,7 @@ module _ {text ts : List ℕ} {limit o : ℕ} {s : State} {ns ls ys ss : List �
       rw v (states-refused (Refuses.in-choice (statement-seen text ts (s .cursor .at) refl) (after-once (z .reading) (lacking-end text ts (c .at) (kind ts (s .cursor .at)) b y) (Refuses.missing (sees-not text ts (c .at) k (omega arith))))))
 
   pub statement-refused : {r : Read} {q : Refusal} → r ≡ Read.Refused q → Answered text ts limit node-of (whole (form-of (kind ts (s .cursor .at)))) o s ns ls ys ss r → States text ts limit o s ns ls ys ss r
-  unfolding Case
+  unfolding Answer-case
   statement-refused {q = q} e a = rw e (states-refused (Refuses.in-choice (statement-seen text ts (s .cursor .at) refl) (Refuses.in-only ((rw e at a) .says))))
 
 -- a block's tail: after one more item, and what is left of the items without it
@@ -180,7 +180,7 @@ module _ {text ts : List ℕ} {limit o : ℕ} {s : State} {ns ls ys ss : List �
       go false z =
           let y = no-tail (l .items) z in
           let a : tail ≡ absent = t ∙ rw z in
-          rw (u .none a) (record { says = record { items = l .items; reading = ended e (l .reading); tail = t; count = rw y (l .count); rows = rw y (l .rows); within = l .within; past = l .past } })
+          rw (u .none a) (record { says = record { items = l .items; reading = ended e (l .reading); tail = t; start-is = refl; end-is = refl; count = rw y (l .count); rows = rw y (l .rows); within = l .within; past = l .past } })
       go true z =
           let y = one-tail (l .items) z in
           let a : tail ≡ row (last (l .items)) = t ∙ rw z in
@@ -196,6 +196,8 @@ module _ {text ts : List ℕ} {limit o : ℕ} {s : State} {ns ls ys ss : List �
               items = l .items;
               reading = ended e (l .reading);
               tail = t;
+              start-is = refl;
+              end-is = refl;
               count = omega (arith, l .count);
               rows = shorter (c .held) ss (held s) hs h room rows;
               within = record { roomy = record { nodes = w .roomy .nodes; links = w .roomy .links; symbols = w .roomy .symbols; scratch = w .roomy .scratch }; at = w .at; rows = w .rows; links = omega (arith, w .links); symbols = w .symbols; table = w .table };

@@ -1,24 +1,24 @@
 // The readers that call each other: a block holds statements, a statement holds expressions, an expression may hold a block.
-use crate::Cursor;
-use crate::Read;
-use crate::Refusal;
-use crate::leaves::identifier;
-use crate::leaves::number;
-use crate::leaves::property_access;
-use crate::leaves::single;
-use crate::leaves::string;
-use crate::lists::comma;
-use crate::lists::consume;
-use crate::lists::gather;
-use crate::lists::import;
-use crate::lists::name;
-use crate::lists::names;
-use crate::pieces::bound;
-use crate::pieces::joined;
-use crate::pieces::semicolon;
-use crate::pieces::untailed;
 use ast::Node;
 use ast::room::push;
+use reading::Cursor;
+use reading::Read;
+use reading::Refusal;
+use reading::leaves::identifier;
+use reading::leaves::number;
+use reading::leaves::property_access;
+use reading::leaves::single;
+use reading::leaves::string;
+use reading::lists::comma;
+use reading::lists::consume;
+use reading::lists::gather;
+use reading::lists::import;
+use reading::lists::name;
+use reading::lists::names;
+use reading::pieces::bound;
+use reading::pieces::joined;
+use reading::pieces::semicolon;
+use reading::pieces::untailed;
 use token::list::kind_at;
 use token::ops::level_of;
 use token::ops::sign_of;
@@ -29,16 +29,18 @@ ghost use Rattle.grammar.specs.Kind.{LeftParen, RightParen, RightBrace, Identif
 ghost use Rattle.grammar.specs.Label.{Node as Label, Label as Labels};
 ghost use Rattle.grammar.specs.Phrase.{part, node, choice, chain, empty, whole, begun};
 ghost use Rattle.grammar.specs.Token.{kind};
-ghost use Rattle.parser.specs.Answers.{node-of, entry-of, Answered, Lists, Fills, States};
-ghost use Rattle.parser.specs.Chains.{Onward};
-ghost use Rattle.parser.specs.Parts.{Binder, Sign, Other, form-of, binding-node};
-ghost use Rattle.parser.specs.State.{state, Ready};
+ghost use Rattle.reading.specs.Answers.{node-of, entry-of, Answered, Lists, Fills, States};
+ghost use Rattle.reading.specs.Chains.{Onward};
+ghost use Rattle.reading.specs.Parts.{Binder, Sign, Other, form-of, binding-node};
+ghost use Rattle.reading.specs.State.{state, Ready};
 
 // No row.
 const ABSENT: u32 = 4294967295;
 
-// A statement: its row, and its row once more if it may be a tail, or else absent. It is public for the crates above, which know what it asks.
-// Ruled out: a call whose row does not name its callee; a `not` whose row ends with its operand.
+// A statement: its row, and at its node's end the row once more if it may be a tail, or else absent; the node's start is 0.
+// It asks for a text and a list that the door lets in, a cursor at a token of it, room in each room for a row of each token, no more rows so far than tokens
+// before the cursor, symbols that are a table of the text, and a depth no more than the limit. It is public for crate syntax.
+// Ruled out: a call whose span starts at its callee; a `not` whose operand ends at the first operator.
 pub fn statement(
     text: &[u8],
     tokens: &[u32],
@@ -1050,7 +1052,7 @@ fn unary(
     Read::Node(node, past)
 }
 
-// `not` takes a whole expression, and has the span of its own token.
+// `not` takes a whole expression, which is one opening deeper and has every level; its span is that of its own token.
 fn not_(
     text: &[u8],
     tokens: &[u32],
@@ -1069,7 +1071,15 @@ fn not_(
     let Read::Node(lead, next) = read else {
         return read;
     };
-    let read = expression(
+    if limit <= depth {
+        return Read::Refused(Refusal {
+            code: 11,
+            at: next.at,
+            expected: 255,
+        });
+    }
+    let loosest = 6;
+    let read = binary(
         text,
         tokens,
         nodes,
@@ -1077,8 +1087,9 @@ fn not_(
         symbols,
         scratch,
         limit,
-        depth,
+        depth + 1,
         next,
+        loosest,
     );
     let Read::Node(child, end) = read else {
         return read;
@@ -1623,7 +1634,7 @@ fn call(
     ensures { λ r. ⌜ Onward (now (text .entry)) (now (tokens .entry)) limit (form.leaf Label.Identifier Identifier) form.calls (begun (form.leaf Label.Identifier Identifier) form.calls) depth (state (now (nodes .entry)) (now (links .entry)) (now (symbols .entry)) (now (scratch .entry)) cur) callee (cur .at + 1) (now (nodes .exit)) (now (links .exit)) (now (symbols .exit)) (now (scratch .exit)) r ⌝ }
 {
     let read = consume(tokens, cur, 17);
-    let Read::Node(open, next) = read else {
+    let Read::Node(paren, next) = read else {
         return read;
     };
     let read = arguments(
@@ -1655,7 +1666,7 @@ fn call(
         callee.id,
         first as u32,
         count as u32,
-        open.start,
+        paren.start,
         close.end,
     );
     let mut past = done;

@@ -1,10 +1,1 @@
-pub mod Ranges
 pub mod Operators
-pub mod Deciding
-pub mod Spellings
-pub mod Runs
-pub mod Texts
-pub mod Numbers
-pub mod Fitting
-pub mod Floats
-pub mod Keywords

@@ -1,7 +1,3 @@
-// Tokens and operators: a port of token.rs and ops.rs.
-pub mod display;
-pub mod float;
-pub mod lexeme;
+// Tokens of a list, and operators: a port of ops.rs.
 pub mod list;
 pub mod ops;
-pub mod spelling;

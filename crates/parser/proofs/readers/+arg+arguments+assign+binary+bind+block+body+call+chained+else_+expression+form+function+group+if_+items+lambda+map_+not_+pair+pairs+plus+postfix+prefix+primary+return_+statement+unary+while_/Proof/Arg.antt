@@ -3,15 +3,15 @@ use Prim.Native.Nat.{ℕ}
 use borrow.Author.Needs.{needs}
 use Rattle.grammar.specs.Kind.{RightParen}
 use Rattle.grammar.specs.Refusal.{Refuses}
-use Rattle.parser.proofs.Names.{plain, separated}
-use Rattle.parser.proofs.Replies.{Told, success, passed}
+use Rattle.reading.proofs.Names.{plain, separated}
+use Rattle.reading.proofs.Replies.{Told, success, passed}
 use Rattle.parser.proofs.readers.+arg+arguments+assign+binary+bind+block+body+call+chained+else_+expression+form+function+group+if_+items+lambda+map_+not_+pair+pairs+plus+postfix+prefix+primary+return_+statement+unary+while_ as cycle
 use Rattle.parser.proofs.readers as readers
 use cycle.Lts-arg as lts
 use cycle.Proof.Measures.{just, below, arg-at, expression-at}
 use readers.arg.Reads as arg
 use readers.expression.Reads as expression
-use Rattle.parser.proofs.lists.comma.Reads as comma-reads
+use Rattle.reading.proofs.lists.comma.Reads as comma-reads
 
 module _ (t : ℕ) where
   abbrev claims : lts.Claims

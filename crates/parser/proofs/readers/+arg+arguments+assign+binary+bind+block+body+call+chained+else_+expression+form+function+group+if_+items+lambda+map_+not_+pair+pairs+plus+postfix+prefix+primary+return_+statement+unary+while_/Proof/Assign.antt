@@ -9,11 +9,11 @@ use Rattle.grammar.specs.Refusal.{Refuses}
 use Rattle.grammar.specs.Rows.{make, put, fill, numbers, write}
 use Rattle.grammar.specs.Rule.{rule}
 use Rattle.grammar.proofs.Room.{paid, spare}
-use Rattle.parser.proofs.Entering.{row-made}
-use Rattle.parser.proofs.Laws.{sees, alone, joined, taken, ready-next, ready-on}
-use Rattle.parser.proofs.Names.{plain, unkeyed}
-use Rattle.parser.proofs.Replies.{Told, success, passed, answer, after-once}
-use Rattle.parser.proofs.Taking.{free}
+use Rattle.reading.proofs.Entering.{row-made}
+use Rattle.reading.proofs.Laws.{sees, alone, joined, taken, ready-next, ready-on}
+use Rattle.reading.proofs.Names.{plain, unkeyed}
+use Rattle.reading.proofs.Replies.{Told, success, passed, answer, after-once}
+use Rattle.reading.proofs.Taking.{free}
 use Rattle.parser.proofs.readers.+arg+arguments+assign+binary+bind+block+body+call+chained+else_+expression+form+function+group+if_+items+lambda+map_+not_+pair+pairs+plus+postfix+prefix+primary+return_+statement+unary+while_ as cycle
 use Rattle.parser.proofs.readers as readers
 use cycle.Lts-assign as lts

@@ -5,20 +5,20 @@ use native.Mathlib.Omega.{arith}
 use mathlib.Core.Path.{sym}
 use Rattle.grammar.specs.Refusal.{Refuses}
 use Rattle.grammar.specs.Token.{count}
-use Rattle.parser.specs.State.{state}
-use Rattle.parser.proofs.Chains.{going-link}
-use Rattle.parser.proofs.Laws.{ready-next, ready-on, taken}
+use Rattle.reading.specs.State.{state}
+use Rattle.reading.proofs.Chains.{going-link}
+use Rattle.reading.proofs.Laws.{ready-next, ready-on, taken}
 use Rattle.parser.proofs.Levels.{Climbing, climbing-none, climbing-on, settled, refused-link, refused-operand}
-use Rattle.parser.proofs.Picks.{level-is, level-most, operator-seen, operator-goes, operator-form, operator-made}
-use Rattle.parser.proofs.Replies.{Told, success, passed, answered, further}
-use Rattle.parser.proofs.Taking.{free}
+use Rattle.reading.proofs.Picks.{level-is, level-most, operator-seen, operator-goes, operator-form, operator-made}
+use Rattle.reading.proofs.Replies.{Told, success, passed, answered, further}
+use Rattle.reading.proofs.Taking.{free}
 use Rattle.parser.proofs.readers.+arg+arguments+assign+binary+bind+block+body+call+chained+else_+expression+form+function+group+if_+items+lambda+map_+not_+pair+pairs+plus+postfix+prefix+primary+return_+statement+unary+while_ as cycle
 use Rattle.parser.proofs.readers as readers
 use cycle.Lts-binary as lts
 use cycle.Proof.Measures.{just, below, binary-at, prefix-at}
 use readers.binary.Reads as binary
 use readers.prefix.Reads as prefix
-use Rattle.parser.proofs.pieces.joined.Reads as joined-reads
+use Rattle.reading.proofs.pieces.joined.Reads as joined-reads
 use Rattle.token.proofs.list.kind_at.Reads as kind-at-reads
 use Rattle.token.proofs.ops.level_of.Reads as level-of-reads
 

@@ -18,26 +18,26 @@ use Rattle.grammar.specs.Rows.{make, put, fill, numbers, write}
 use Rattle.grammar.specs.Rule.{child, named, writes, rule}
 use Rattle.grammar.specs.Token.{start as start-of}
 use Rattle.grammar.proofs.Room.{paid, spare}
-use Rattle.parser.specs.Answers.{node-of, Answered}
-use Rattle.parser.specs.Parts.{binding-node}
-use Rattle.parser.specs.Reading.{Reading}
-use Rattle.parser.specs.State.{State, state, written, Within, Ready}
-use Rattle.parser.specs.declared.Cursor.{Cursor}
-use Rattle.parser.specs.declared.Read.{Read}
-use Rattle.parser.proofs.Bound.{Paid}
-use Rattle.parser.proofs.Entering.{grown}
-use Rattle.parser.proofs.Laws.{both, ready-on}
-use Rattle.parser.proofs.Replies.{Told, success, token-taken, passed, lacks, after}
-use Rattle.parser.proofs.Taking.{Taken-by, starts, past-at, led, led-refused, ready-led, free, inserted-as, row-answered, binder-low}
+use Rattle.reading.specs.Answers.{node-of, Answered}
+use Rattle.reading.specs.Parts.{binding-node}
+use Rattle.reading.specs.Reading.{Reading}
+use Rattle.reading.specs.State.{State, state, written, Within, Ready}
+use Rattle.reading.specs.declared.Cursor.{Cursor}
+use Rattle.reading.specs.declared.Read.{Read}
+use Rattle.reading.proofs.Bound.{Paid}
+use Rattle.reading.proofs.Entering.{grown}
+use Rattle.reading.proofs.Laws.{both, ready-on}
+use Rattle.reading.proofs.Replies.{Told, success, token-taken, passed, lacks, after}
+use Rattle.reading.proofs.Taking.{Taken-by, starts, past-at, led, led-refused, ready-led, free, inserted-as, row-answered, binder-low}
 use Rattle.parser.proofs.readers.+arg+arguments+assign+binary+bind+block+body+call+chained+else_+expression+form+function+group+if_+items+lambda+map_+not_+pair+pairs+plus+postfix+prefix+primary+return_+statement+unary+while_ as cycle
 use Rattle.parser.proofs.readers as readers
 use cycle.Lts-bind as lts
 use cycle.Proof.Measures.{just, below, bind-at, expression-at}
 use readers.bind.Reads as bind
 use readers.expression.Reads as expression
-use Rattle.parser.proofs.pieces.bound.Reads as bound-reads
-use Rattle.parser.proofs.lists.consume.Reads as consume-reads
-use Rattle.parser.proofs.lists.name.Reads as name-reads
+use Rattle.reading.proofs.pieces.bound.Reads as bound-reads
+use Rattle.reading.proofs.lists.consume.Reads as consume-reads
+use Rattle.reading.proofs.lists.name.Reads as name-reads
 
 -- the rows of the three differ in their kind alone
 binds : (ts : List ℕ) (a b : ℕ) (xs ys : List Handle) (x y : Handle) (is-let is-const : Bool) → rule ts (cond is-let Node.Variable (cond is-const Node.Constant Node.Ref)) a b xs ys x y ≡ writes (start-of ts a) (upto y) (named x ∷ child y ∷ [])

@@ -4,10 +4,10 @@ use borrow.Author.Needs.{needs}
 use native.Mathlib.Omega.{arith}
 use Rattle.grammar.specs.Refusal.{Refuses}
 use Rattle.grammar.proofs.Room.{paid, spare}
-use Rattle.parser.proofs.Laws.{opened, labelled, ready-deep}
-use Rattle.parser.proofs.Replies.{token-taken, filled, refuse, lacks, passed-fill, inside, after}
-use Rattle.parser.proofs.Taking.{Taken-by, led, ready-led, led-refused, starts, past-at}
-use Rattle.parser.proofs.Gathering.{Fill-told, Kept-fill, Ready-at, Within-at, token-within, token-closes, token-end, token-held, fill-kept, fill-reading, kept-as, kept-under, gather-asks, gathered-free, numbers-fit, gathered-answer, block-made}
+use Rattle.reading.proofs.Laws.{opened, labelled, ready-deep}
+use Rattle.reading.proofs.Replies.{token-taken, filled, refuse, lacks, passed-fill, inside, after}
+use Rattle.reading.proofs.Taking.{Taken-by, led, ready-led, led-refused, starts, past-at}
+use Rattle.reading.proofs.Gathering.{Fill-told, Kept-fill, Ready-at, Within-at, token-within, token-closes, token-end, token-held, fill-kept, fill-reading, kept-as, kept-under, gather-asks, gathered-free, numbers-fit, gathered-answer, block-made}
 use Rattle.parser.proofs.readers.+arg+arguments+assign+binary+bind+block+body+call+chained+else_+expression+form+function+group+if_+items+lambda+map_+not_+pair+pairs+plus+postfix+prefix+primary+return_+statement+unary+while_ as cycle
 use Rattle.parser.proofs.readers as readers
 use cycle.Lts-block as lts
@@ -15,8 +15,8 @@ use cycle.Proof.Measures.{just, below, block-at, items-at}
 use readers.block.Reads as block
 use readers.items.Reads as items
 use Rattle.ast.proofs.block.Reads as block-reads
-use Rattle.parser.proofs.lists.consume.Reads as consume-reads
-use Rattle.parser.proofs.lists.gather.Reads as gather-reads
+use Rattle.reading.proofs.lists.consume.Reads as consume-reads
+use Rattle.reading.proofs.lists.gather.Reads as gather-reads
 
 module _ (t : ℕ) where
   abbrev claims : lts.Claims

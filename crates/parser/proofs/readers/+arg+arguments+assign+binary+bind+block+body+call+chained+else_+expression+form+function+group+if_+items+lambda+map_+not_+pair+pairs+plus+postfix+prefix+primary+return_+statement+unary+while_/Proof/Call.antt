@@ -10,21 +10,21 @@ use Rattle.grammar.specs.Kind.{LeftParen}
 use Rattle.grammar.specs.Label.{Node}
 use Rattle.grammar.specs.Refusal.{Refuses}
 use Rattle.grammar.specs.Token.{kind}
-use Rattle.parser.proofs.Laws.{sees}
-use Rattle.parser.proofs.Replies.{token-taken, listed, after, further}
-use Rattle.parser.proofs.Chains.{going-link, goes, stops-lacking, stopped-list}
-use Rattle.parser.proofs.Taking.{Taken-by, led, ready-led, led-refused, starts, past-at}
-use Rattle.parser.proofs.Listings.{Held}
-use Rattle.parser.proofs.Gathering.{Kept-told, Ready-at, Within-at, token-within, token-closes, token-end, token-held, list-kept, list-reading, kept-as, kept-under, gather-asks, gathered-free, gathered-at, gathered-table, numbers-fit, call-made}
+use Rattle.reading.proofs.Laws.{sees}
+use Rattle.reading.proofs.Replies.{token-taken, listed, after, further}
+use Rattle.reading.proofs.Chains.{going-link, goes, stops-lacking, stopped-list}
+use Rattle.reading.proofs.Taking.{Taken-by, led, ready-led, led-refused, starts, past-at}
+use Rattle.reading.proofs.Listings.{Held}
+use Rattle.reading.proofs.Gathering.{Kept-told, Ready-at, Within-at, token-within, token-closes, token-end, token-held, list-kept, list-reading, kept-as, kept-under, gather-asks, gathered-free, gathered-at, gathered-table, numbers-fit, call-made}
 use Rattle.parser.proofs.readers.+arg+arguments+assign+binary+bind+block+body+call+chained+else_+expression+form+function+group+if_+items+lambda+map_+not_+pair+pairs+plus+postfix+prefix+primary+return_+statement+unary+while_ as cycle
 use Rattle.parser.proofs.readers as readers
 use cycle.Lts-call as lts
 use cycle.Proof.Measures.{just, below, args-at, call-at}
 use readers.arguments.Reads as args
 use readers.call.Reads as call
-use Rattle.parser.proofs.lists.consume.Reads as consume-reads
+use Rattle.reading.proofs.lists.consume.Reads as consume-reads
 use Rattle.ast.proofs.function_call.Reads as function-call-reads
-use Rattle.parser.proofs.lists.gather.Reads as gather-reads
+use Rattle.reading.proofs.lists.gather.Reads as gather-reads
 
 -- a `(` after a callee is a call
 call-link : (text ts : List ℕ) (a : ℕ) → kind ts a ≡ LeftParen → kaori calls (seen text ts a) ≡ row Node.FunctionCall form

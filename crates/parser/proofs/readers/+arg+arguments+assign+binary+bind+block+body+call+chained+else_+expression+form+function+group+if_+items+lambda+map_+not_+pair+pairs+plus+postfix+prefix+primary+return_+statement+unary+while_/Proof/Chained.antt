@@ -6,18 +6,18 @@ use mathlib.Core.Logic.{inl, inr}
 use mathlib.Core.Path.{refl, _∙_}
 use Rattle.grammar.specs.Refusal.{Refuses}
 use Rattle.grammar.proofs.Room.{paid, spare}
-use Rattle.parser.proofs.Bound.{strictly}
-use Rattle.parser.proofs.Chains.{onward}
-use Rattle.parser.proofs.Laws.{first, ended, ready-on}
-use Rattle.parser.proofs.Picks.{no-call}
-use Rattle.parser.proofs.Replies.{Told, success, passed, answered}
+use Rattle.reading.proofs.Bound.{strictly}
+use Rattle.reading.proofs.Chains.{onward}
+use Rattle.reading.proofs.Laws.{first, ended, ready-on}
+use Rattle.reading.proofs.Picks.{no-call}
+use Rattle.reading.proofs.Replies.{Told, success, passed, answered}
 use Rattle.parser.proofs.readers.+arg+arguments+assign+binary+bind+block+body+call+chained+else_+expression+form+function+group+if_+items+lambda+map_+not_+pair+pairs+plus+postfix+prefix+primary+return_+statement+unary+while_ as cycle
 use Rattle.parser.proofs.readers as readers
 use cycle.Lts-chained as lts
 use cycle.Proof.Measures.{just, below, postfix-at, chained-at}
 use readers.postfix.Reads as postfix
 use readers.chained.Reads as chained
-use Rattle.parser.proofs.leaves.identifier.Reads as identifier-reads
+use Rattle.reading.proofs.leaves.identifier.Reads as identifier-reads
 use Rattle.token.proofs.list.kind_at.Reads as kind-at-reads
 
 module _ (t : ℕ) where

@@ -3,8 +3,8 @@ use Prim.Native.Nat.{ℕ}
 use borrow.Author.Needs.{needs}
 use native.Mathlib.Omega.{arith}
 use Rattle.grammar.specs.Refusal.{Refuses}
-use Rattle.parser.proofs.Laws.{opened, ready-deep}
-use Rattle.parser.proofs.Replies.{mapped, refuse, inside}
+use Rattle.reading.proofs.Laws.{opened, ready-deep}
+use Rattle.reading.proofs.Replies.{mapped, refuse, inside}
 use Rattle.parser.proofs.readers.+arg+arguments+assign+binary+bind+block+body+call+chained+else_+expression+form+function+group+if_+items+lambda+map_+not_+pair+pairs+plus+postfix+prefix+primary+return_+statement+unary+while_ as cycle
 use Rattle.parser.proofs.readers as readers
 use cycle.Lts-expression as lts

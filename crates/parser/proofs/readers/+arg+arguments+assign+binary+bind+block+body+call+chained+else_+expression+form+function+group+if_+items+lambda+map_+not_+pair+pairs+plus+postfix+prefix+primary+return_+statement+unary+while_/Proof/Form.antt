@@ -5,9 +5,9 @@ use native.Mathlib.Omega.{arith}
 use mathlib.Core.Logic.{inl, inr, ⊎-elim}
 use mathlib.Core.Path.{ap, sym, _∙_}
 use Rattle.grammar.specs.Refusal.{Refuses}
-use Rattle.parser.specs.Parts.{form-of}
+use Rattle.reading.specs.Parts.{form-of}
 use Rattle.parser.proofs.Forms.{binder-of, keyword-of, keyword-single, form-binding, form-single, form-other}
-use Rattle.parser.proofs.Replies.{refuse}
+use Rattle.reading.proofs.Replies.{refuse}
 use Rattle.parser.proofs.readers.+arg+arguments+assign+binary+bind+block+body+call+chained+else_+expression+form+function+group+if_+items+lambda+map_+not_+pair+pairs+plus+postfix+prefix+primary+return_+statement+unary+while_ as cycle
 use Rattle.parser.proofs.readers as readers
 use cycle.Lts-form as lts
@@ -20,9 +20,9 @@ use readers.function.Reads as function
 use readers.if_.Reads as if-
 use readers.return_.Reads as return-
 use readers.while_.Reads as while-
-use Rattle.parser.proofs.lists.import.Reads as import-reads
+use Rattle.reading.proofs.lists.import.Reads as import-reads
 use Rattle.token.proofs.list.kind_at.Reads as kind-at-reads
-use Rattle.parser.proofs.leaves.single.Reads as single-reads
+use Rattle.reading.proofs.leaves.single.Reads as single-reads
 
 module _ (t : ℕ) where
   abbrev claims : lts.Claims

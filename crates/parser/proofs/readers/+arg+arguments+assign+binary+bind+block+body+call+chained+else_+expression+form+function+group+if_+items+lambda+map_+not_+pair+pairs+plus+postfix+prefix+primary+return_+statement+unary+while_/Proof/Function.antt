@@ -6,22 +6,22 @@ use mathlib.Core.Logic.{inl, inr}
 use mathlib.Core.Path.{refl, _∙_}
 use Rattle.grammar.specs.Refusal.{Refuses}
 use Rattle.grammar.proofs.Room.{paid, spare}
-use Rattle.parser.proofs.Laws.{both, both-first, labelled, ready-on}
-use Rattle.parser.proofs.Listings.{Held, lower}
-use Rattle.parser.proofs.Replies.{token-taken, listed, Told, success, lacks, passed, passed-list, after}
-use Rattle.parser.proofs.Taking.{Taken-by, led, ready-led, led-refused, starts, past-at}
-use Rattle.parser.proofs.Gathering.{Kept-told, Ready-at, Within-at, token-within, token-closes, token-held, list-kept, list-reading, kept-as, kept-on, kept-under, gather-asks, gathered-free, numbers-fit, gathered-answer, function-made}
+use Rattle.reading.proofs.Laws.{both, both-first, labelled, ready-on}
+use Rattle.reading.proofs.Listings.{Held, lower}
+use Rattle.reading.proofs.Replies.{token-taken, listed, Told, success, lacks, passed, passed-list, after}
+use Rattle.reading.proofs.Taking.{Taken-by, led, ready-led, led-refused, starts, past-at}
+use Rattle.reading.proofs.Gathering.{Kept-told, Ready-at, Within-at, token-within, token-closes, token-held, list-kept, list-reading, kept-as, kept-on, kept-under, gather-asks, gathered-free, numbers-fit, gathered-answer, function-made}
 use Rattle.parser.proofs.readers.+arg+arguments+assign+binary+bind+block+body+call+chained+else_+expression+form+function+group+if_+items+lambda+map_+not_+pair+pairs+plus+postfix+prefix+primary+return_+statement+unary+while_ as cycle
 use Rattle.parser.proofs.readers as readers
 use cycle.Lts-function as lts
 use cycle.Proof.Measures.{just, below, block-at, function-at}
 use readers.block.Reads as block
 use readers.function.Reads as function
-use Rattle.parser.proofs.lists.consume.Reads as consume-reads
+use Rattle.reading.proofs.lists.consume.Reads as consume-reads
 use Rattle.ast.proofs.function.Reads as function-reads
-use Rattle.parser.proofs.lists.gather.Reads as gather-reads
-use Rattle.parser.proofs.lists.name.Reads as name-reads
-use Rattle.parser.proofs.lists.names.Reads as names-reads
+use Rattle.reading.proofs.lists.gather.Reads as gather-reads
+use Rattle.reading.proofs.lists.name.Reads as name-reads
+use Rattle.reading.proofs.lists.names.Reads as names-reads
 
 module _ (t : ℕ) where
   abbrev claims : lts.Claims

@@ -5,16 +5,16 @@ use native.Mathlib.Omega.{arith}
 use Rattle.grammar.specs.Kaori.{above}
 use Rattle.grammar.specs.Refusal.{Refuses}
 use Rattle.grammar.proofs.Room.{paid, spare}
-use Rattle.parser.proofs.Laws.{nothing, both, ready-on}
-use Rattle.parser.proofs.Replies.{Told, success, token-taken, passed, answer, lacks, after}
-use Rattle.parser.proofs.Taking.{Taken-by, past-at, led, led-refused, ready-led}
+use Rattle.reading.proofs.Laws.{nothing, both, ready-on}
+use Rattle.reading.proofs.Replies.{Told, success, token-taken, passed, answer, lacks, after}
+use Rattle.reading.proofs.Taking.{Taken-by, past-at, led, led-refused, ready-led}
 use Rattle.parser.proofs.readers.+arg+arguments+assign+binary+bind+block+body+call+chained+else_+expression+form+function+group+if_+items+lambda+map_+not_+pair+pairs+plus+postfix+prefix+primary+return_+statement+unary+while_ as cycle
 use Rattle.parser.proofs.readers as readers
 use cycle.Lts-group as lts
 use cycle.Proof.Measures.{just, below, expression-at, group-at}
 use readers.expression.Reads as expression
 use readers.group.Reads as group
-use Rattle.parser.proofs.lists.consume.Reads as consume-reads
+use Rattle.reading.proofs.lists.consume.Reads as consume-reads
 
 module _ (t : ℕ) where
   abbrev claims : lts.Claims

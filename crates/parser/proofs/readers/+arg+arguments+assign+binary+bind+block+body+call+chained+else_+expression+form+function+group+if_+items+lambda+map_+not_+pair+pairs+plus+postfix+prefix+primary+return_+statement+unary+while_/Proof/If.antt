@@ -7,11 +7,11 @@ use Rattle.grammar.specs.Kaori.{rules, above, otherwise}
 use Rattle.grammar.specs.Kind.{Else}
 use Rattle.grammar.specs.Refusal.{Refuses}
 use Rattle.grammar.proofs.Room.{paid, spare}
-use Rattle.parser.proofs.Laws.{sees, nothing, both, both-more, opened, chosen, labelled, taken, ready-next, ready-deep, ready-on}
-use Rattle.parser.proofs.Names.{plain, keyed, unkeyed}
-use Rattle.parser.proofs.Replies.{token-taken, Told, success, refuse, answer, lacks, passed, inside, after}
-use Rattle.parser.proofs.Taking.{Taken-by, led, ready-led, led-refused, starts, past-at, free}
-use Rattle.parser.proofs.Gathering.{Ready-at, if-made, else-made}
+use Rattle.reading.proofs.Laws.{sees, nothing, both, both-more, opened, chosen, labelled, taken, ready-next, ready-deep, ready-on}
+use Rattle.reading.proofs.Names.{plain, keyed, unkeyed}
+use Rattle.reading.proofs.Replies.{token-taken, Told, success, refuse, answer, lacks, passed, inside, after}
+use Rattle.reading.proofs.Taking.{Taken-by, led, ready-led, led-refused, starts, past-at, free}
+use Rattle.reading.proofs.Gathering.{Ready-at, if-made, else-made}
 use Rattle.parser.proofs.readers.+arg+arguments+assign+binary+bind+block+body+call+chained+else_+expression+form+function+group+if_+items+lambda+map_+not_+pair+pairs+plus+postfix+prefix+primary+return_+statement+unary+while_ as cycle
 use Rattle.parser.proofs.readers as readers
 use cycle.Lts-if_ as lts
@@ -20,7 +20,7 @@ use readers.block.Reads as block
 use readers.else_.Reads as else-
 use readers.expression.Reads as expression
 use readers.if_.Reads as if-
-use Rattle.parser.proofs.lists.consume.Reads as consume-reads
+use Rattle.reading.proofs.lists.consume.Reads as consume-reads
 use Rattle.ast.proofs.if_.Reads as if--reads
 use Rattle.token.proofs.list.kind_at.Reads as kind-at-reads
 

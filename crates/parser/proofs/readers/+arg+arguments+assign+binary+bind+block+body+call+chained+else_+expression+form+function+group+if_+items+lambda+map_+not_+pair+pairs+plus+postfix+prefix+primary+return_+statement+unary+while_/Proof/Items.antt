@@ -9,14 +9,14 @@ use Rattle.grammar.specs.Kind.{RightBrace}
 use Rattle.grammar.specs.Phrase.{empty, choice, chain}
 use Rattle.grammar.specs.Refusal.{Refused}
 use Rattle.grammar.specs.Token.{count}
-use Rattle.parser.specs.Answers.{State-case, States, Fill-case, Fills}
-use Rattle.parser.specs.Reading.{refusal, Refusing}
-use Rattle.parser.specs.State.{State, state}
-use Rattle.parser.specs.declared.Read.{Read}
-use Rattle.parser.specs.declared.Refusal.{Refusal}
-use Rattle.parser.proofs.Listings.{Statements, Item-of, item-less, hold-room, hold-number}
-use Rattle.parser.proofs.Names.{plain, items-end, items-on}
-use Rattle.parser.proofs.Replies.{stated, further}
+use Rattle.reading.specs.Answers.{State-case, States, Fill-case, Fills}
+use Rattle.reading.specs.Reading.{refusal, Refusing}
+use Rattle.reading.specs.State.{State, state}
+use Rattle.reading.specs.declared.Read.{Read}
+use Rattle.reading.specs.declared.Refusal.{Refusal}
+use Rattle.reading.proofs.Listings.{Statements, Item-of, item-less, hold-room, hold-number}
+use Rattle.reading.proofs.Names.{plain, items-end, items-on}
+use Rattle.reading.proofs.Replies.{stated, further}
 use Rattle.parser.proofs.Statements.{statements-none, statements-more, tail-held, block-ends}
 use Rattle.parser.proofs.readers.+arg+arguments+assign+binary+bind+block+body+call+chained+else_+expression+form+function+group+if_+items+lambda+map_+not_+pair+pairs+plus+postfix+prefix+primary+return_+statement+unary+while_ as cycle
 use Rattle.parser.proofs.readers as readers
@@ -26,7 +26,7 @@ use readers.items.Reads as items
 use readers.statement.Reads as statement
 use Rattle.token.proofs.list.kind_at.Reads as kind-at-reads
 use Rattle.ast.proofs.room.push.Reads as push-reads
-use Rattle.parser.proofs.pieces.untailed.Reads as untailed-reads
+use Rattle.reading.proofs.pieces.untailed.Reads as untailed-reads
 
 -- a statement is refused
 passed : {text ts : List ℕ} {limit o o′ : ℕ} {s s′ : State} {ns ls ys ss : List ℕ} {r : Read} {q : Refusal} → r ≡ Read.Refused q → States text ts limit o′ s′ ns ls ys ss r → ((x : Refused) → Refusing text ts limit (choice a-statement) o′ s′ x → Refusing text ts limit (chain empty block-items) o s x) → Fills text ts limit o s ns ls ys ss r

@@ -6,21 +6,21 @@ use mathlib.Core.Logic.{inl}
 use mathlib.Core.Path.{refl}
 use Rattle.grammar.specs.Refusal.{Refuses}
 use Rattle.grammar.proofs.Room.{paid, spare}
-use Rattle.parser.proofs.Laws.{both, labelled, ready-on}
-use Rattle.parser.proofs.Listings.{Held, lower}
-use Rattle.parser.proofs.Replies.{token-taken, listed, Told, success, lacks, passed, passed-list, after}
-use Rattle.parser.proofs.Taking.{Taken-by, led, ready-led, led-refused, starts, past-at}
-use Rattle.parser.proofs.Gathering.{Kept-told, Ready-at, Within-at, token-within, token-held, list-kept, list-reading, kept-as, kept-on, kept-under, gather-asks, gathered-free, numbers-fit, gathered-answer, lambda-made}
+use Rattle.reading.proofs.Laws.{both, labelled, ready-on}
+use Rattle.reading.proofs.Listings.{Held, lower}
+use Rattle.reading.proofs.Replies.{token-taken, listed, Told, success, lacks, passed, passed-list, after}
+use Rattle.reading.proofs.Taking.{Taken-by, led, ready-led, led-refused, starts, past-at}
+use Rattle.reading.proofs.Gathering.{Kept-told, Ready-at, Within-at, token-within, token-held, list-kept, list-reading, kept-as, kept-on, kept-under, gather-asks, gathered-free, numbers-fit, gathered-answer, lambda-made}
 use Rattle.parser.proofs.readers.+arg+arguments+assign+binary+bind+block+body+call+chained+else_+expression+form+function+group+if_+items+lambda+map_+not_+pair+pairs+plus+postfix+prefix+primary+return_+statement+unary+while_ as cycle
 use Rattle.parser.proofs.readers as readers
 use cycle.Lts-lambda as lts
 use cycle.Proof.Measures.{just, below, body-at, lambda-at}
 use readers.body.Reads as body
 use readers.lambda.Reads as lambda
-use Rattle.parser.proofs.lists.consume.Reads as consume-reads
-use Rattle.parser.proofs.lists.gather.Reads as gather-reads
+use Rattle.reading.proofs.lists.consume.Reads as consume-reads
+use Rattle.reading.proofs.lists.gather.Reads as gather-reads
 use Rattle.ast.proofs.lambda.Reads as lambda-reads
-use Rattle.parser.proofs.lists.names.Reads as names-reads
+use Rattle.reading.proofs.lists.names.Reads as names-reads
 
 module _ (t : ℕ) where
   abbrev claims : lts.Claims

@@ -5,19 +5,19 @@ use native.Mathlib.Omega.{arith}
 use mathlib.Core.Path.{_∙_}
 use Rattle.grammar.specs.Refusal.{Refuses}
 use Rattle.grammar.proofs.Room.{paid, spare}
-use Rattle.parser.proofs.Laws.{labelled}
-use Rattle.parser.proofs.Replies.{token-taken, listed, lacks, passed-list, after}
-use Rattle.parser.proofs.Taking.{Taken-by, led, ready-led, led-refused, starts, past-at}
-use Rattle.parser.proofs.Listings.{Held}
-use Rattle.parser.proofs.Gathering.{Kept-told, Ready-at, Within-at, token-within, token-closes, token-end, token-held, list-kept, list-reading, kept-as, kept-under, gather-asks, gathered-free, numbers-fit, gathered-answer, map-made}
+use Rattle.reading.proofs.Laws.{labelled}
+use Rattle.reading.proofs.Replies.{token-taken, listed, lacks, passed-list, after}
+use Rattle.reading.proofs.Taking.{Taken-by, led, ready-led, led-refused, starts, past-at}
+use Rattle.reading.proofs.Listings.{Held}
+use Rattle.reading.proofs.Gathering.{Kept-told, Ready-at, Within-at, token-within, token-closes, token-end, token-held, list-kept, list-reading, kept-as, kept-under, gather-asks, gathered-free, numbers-fit, gathered-answer, map-made}
 use Rattle.parser.proofs.readers.+arg+arguments+assign+binary+bind+block+body+call+chained+else_+expression+form+function+group+if_+items+lambda+map_+not_+pair+pairs+plus+postfix+prefix+primary+return_+statement+unary+while_ as cycle
 use Rattle.parser.proofs.readers as readers
 use cycle.Lts-map_ as lts
 use cycle.Proof.Measures.{just, below, pairs-at, map--at}
 use readers.pairs.Reads as pairs
 use readers.map_.Reads as map-
-use Rattle.parser.proofs.lists.consume.Reads as consume-reads
-use Rattle.parser.proofs.lists.gather.Reads as gather-reads
+use Rattle.reading.proofs.lists.consume.Reads as consume-reads
+use Rattle.reading.proofs.lists.gather.Reads as gather-reads
 use Rattle.ast.proofs.map.Reads as map-reads
 
 module _ (t : ℕ) where

@@ -5,7 +5,7 @@ use mathlib.Core.Path.{_≡_}
 use borrow.Fn.Kinds.{PK, In}
 use borrow.Fn.PlainCycle.{Measures}
 use Rattle.grammar.specs.Token.{count}
-use Rattle.parser.specs.declared.Cursor.{Cursor}
+use Rattle.reading.specs.declared.Cursor.{Cursor}
 use Rattle.parser.proofs.readers as readers
 use readers.arg.Reads as arg
 use readers.arguments.Reads as args

@@ -1,4 +1,4 @@
--- A `not`, and a whole expression: a LogicalNot with the span of the `not` alone.
+-- A `not`, and a whole expression, one opening deeper: a LogicalNot with the span of the `not` alone.
 use Prim.Native.Nat.{ℕ}
 use borrow.Author.Needs.{needs}
 use native.Mathlib.Omega.{arith}
@@ -8,46 +8,53 @@ use Rattle.grammar.specs.Refusal.{Refuses}
 use Rattle.grammar.specs.Rows.{make, put, fill, numbers, write}
 use Rattle.grammar.specs.Rule.{rule}
 use Rattle.grammar.proofs.Room.{paid, spare}
-use Rattle.parser.proofs.Replies.{Told, success, token-taken, passed, lacks}
-use Rattle.parser.proofs.Taking.{Taken-by, starts, ends, past-at, led, led-refused, ready-led, free, inserted-as, row-answered}
+use Rattle.reading.proofs.Laws.{opened, ready-deep}
+use Rattle.reading.proofs.Replies.{Told, success, token-taken, passed, refuse, lacks, inside}
+use Rattle.reading.proofs.Taking.{Taken-by, starts, ends, past-at, led, led-refused, ready-led, free, inserted-as, row-answered}
 use Rattle.parser.proofs.readers.+arg+arguments+assign+binary+bind+block+body+call+chained+else_+expression+form+function+group+if_+items+lambda+map_+not_+pair+pairs+plus+postfix+prefix+primary+return_+statement+unary+while_ as cycle
 use Rattle.parser.proofs.readers as readers
 use cycle.Lts-not_ as lts
-use cycle.Proof.Measures.{just, below, expression-at, not--at}
-use readers.expression.Reads as expression
+use cycle.Proof.Measures.{just, below, binary-at, not--at}
+use readers.binary.Reads as binary
 use readers.not_.Reads as not-
-use Rattle.parser.proofs.lists.consume.Reads as consume-reads
+use Rattle.reading.proofs.lists.consume.Reads as consume-reads
 use Rattle.ast.proofs.logical_not.Reads as logical-not-reads
 
 module _ (t : ℕ) where
   abbrev claims : lts.Claims
-  claims = (consume-reads.Asked, consume-reads.Learnt, expression-at (below t), expression.Post, logical-not-reads.Asked, logical-not-reads.Learnt)
+  claims = (consume-reads.Asked, consume-reads.Learnt, binary-at (below t), binary.Post, logical-not-reads.Asked, logical-not-reads.Learnt)
 
-  -- the token, what the expression's success says, and where the reader began
+  -- the token, what the operand's success says, and where the reader began
   lead : (c : lts.After-known-told claims (not--at (just t)) not-.Post) → Taken-by (c .before .before .before .consume .ensures) (c .before .read .given .0 .0) (c .before .read .given .0 .1 .0)
   lead c = token-taken (c .before .read .given .1) (c .before .before .before .consume .ensures)
 
-  part : (c : lts.After-known-told2 claims (not--at (just t)) not-.Post) → Told (c .before .before .before .before .before .before .before .before .before .before .before .expression .ensures) (c .before .read2 .given .0 .0) (c .before .read2 .given .0 .1 .0)
-  part c = success (c .before .read2 .given .1) (c .before .before .before .before .before .before .before .before .before .before .before .expression .ensures)
+  part : (c : lts.After-known-told2 claims (not--at (just t)) not-.Post) → Told (c .before .before .before .before .before .before .before .before .before .before .before .binary .ensures) (c .before .read2 .given .0 .0) (c .before .read2 .given .0 .1 .0)
+  part c = success (c .before .read2 .given .1) (c .before .before .before .before .before .before .before .before .before .before .before .binary .ensures)
 
   abbrev start : lts.After-known-told2 claims (not--at (just t)) not-.Post → lts.Start claims (not--at (just t)) not-.Post
-  start c = c .before .before .before .before .before .before .before .before .before .before .before .before .before .before .before .before .before .before .before .before .before .before .before .before .before .before
+  start c = c .before .before .before .before .before .before .before .before .before .before .before .before .before .before .before .before .before .before .before .before .before .before .before .before .before .before .before
 
   returns : lts.Need-returns claims (not--at (just t)) not-.Post
   returns c = lacks (c .enum-told .given .1) (c .before .before .consume .ensures) (omega arith) (λ h. Refuses.in-node (Refuses.missing h))
 
-  expression-requires : lts.Need-expression-requires claims (not--at (just t)) not-.Post
-  expression-requires c κs = let e = past-at (lead (c .before .before .before .before)) in (search needs, ready-led (c .before .before .before .before .before .before .before .before .before .before .before .before .before .before .pre .1) (lead (c .before .before .before .before)) (λ e. omega arith))
-
   returns-2 : lts.Need-returns-2 claims (not--at (just t)) not-.Post
-  returns-2 c = passed (c .enum-told2 .given .1) (c .before .before .before .before .before .before .before .before .before .before .expression .ensures) (λ x h. Refuses.in-node (led-refused _ (lead (c .before .before .before .before .before .before .before .before .before .before .before .before .before .before .before)) (λ e. omega arith) h))
+  returns-2 c = refuse (Refuses.in-node (led-refused _ (lead (c .before)) (λ e. omega arith) (Refuses.too-deep (c .if1 .taken))))
+
+  binary-requires : lts.Need-binary-requires claims (not--at (just t)) not-.Post
+  binary-requires c κs =
+      let k = lead (c .before .before .before .before .before) in
+      let e = past-at k in
+      (search needs, (omega arith, ready-deep (ready-led (c .before .before .before .before .before .before .before .before .before .before .before .before .before .before .before .pre .1) k (λ e. omega arith)) (c .before .before .before .before .if1 .left)))
 
   returns-3 : lts.Need-returns-3 claims (not--at (just t)) not-.Post
+  returns-3 c = passed (c .enum-told2 .given .1) (c .before .before .before .before .before .before .before .before .before .before .binary .ensures) (λ x h. Refuses.in-node (led-refused _ (lead (c .before .before .before .before .before .before .before .before .before .before .before .before .before .before .before .before)) (λ e. omega arith) (inside (c .before .before .before .before .before .before .before .before .before .before .before .before .before .before .before .if1 .left) h)))
+
+  returns-4 : lts.Need-returns-4 claims (not--at (just t)) not-.Post
   unfolding paid spare above make put fill numbers write rule
-  returns-3 c =
-      let k = lead (c .before .before .before .before .before .before .before .before .before .before .before .before .before .before .before .before .before .before .before .before) in
+  returns-4 c =
+      let k = lead (c .before .before .before .before .before .before .before .before .before .before .before .before .before .before .before .before .before .before .before .before .before) in
       let z = part (c .before .before .before .before) in
-      row-answered (start (c .before .before .before .before) .pre .1) (record { pays = tt }) (led k (λ e. omega arith) (z .reading)) (z .within) (inserted-as (starts k) (ends k) refl (c .before .before .logical-not .ensures)) refl
+      row-answered (start (c .before .before .before .before) .pre .1) (record { pays = tt }) (led k (λ e. omega arith) (opened (z .reading))) (z .within) (inserted-as (starts k) (ends k) refl (c .before .before .logical-not .ensures)) refl
 
   pub spec : {M : Type 1} → lts.Closed claims (not--at (just t)) not-.Post M
-  spec = lts.spec claims (not--at (just t)) not-.Post (λ c κs. search needs) (λ c. search needs) (λ c. search needs) returns expression-requires (λ c. search needs) (λ c. search needs) (λ c. search needs) (λ c. search needs) (λ c. search needs) (λ c. search needs) returns-2 (λ c κs. free (start (c .before) .pre .1 .lent) (part (c .before) .within)) (λ c. omega (arith, free (start (c .before .before .before .before) .pre .1 .lent) (part (c .before .before .before .before) .within) .number)) (λ c. search needs) (λ c. search needs) (λ c. search needs) (λ c. search needs) returns-3
+  spec = lts.spec claims (not--at (just t)) not-.Post (λ c κs. search needs) (λ c. search needs) (λ c. search needs) returns returns-2 (λ c. search needs) binary-requires (λ c. search needs) (λ c. search needs) (λ c. search needs) (λ c. search needs) (λ c. search needs) (λ c. search needs) returns-3 (λ c κs. free (start (c .before) .pre .1 .lent) (part (c .before) .within)) (λ c. omega (arith, free (start (c .before .before .before .before) .pre .1 .lent) (part (c .before .before .before .before) .within) .number)) (λ c. search needs) (λ c. search needs) (λ c. search needs) (λ c. search needs) returns-4

@@ -7,16 +7,16 @@ use Rattle.grammar.specs.Kaori.{value, rules}
 use Rattle.grammar.specs.Kind.{Colon, RightBrace}
 use Rattle.grammar.specs.Refusal.{Refuses}
 use Rattle.parser.proofs.Entries.{entry-alone, entry-pair}
-use Rattle.parser.proofs.Laws.{sees, ready-next, ready-on}
-use Rattle.parser.proofs.Names.{plain, keyed, separated}
-use Rattle.parser.proofs.Replies.{Told, success, passed, after}
+use Rattle.reading.proofs.Laws.{sees, ready-next, ready-on}
+use Rattle.reading.proofs.Names.{plain, keyed, separated}
+use Rattle.reading.proofs.Replies.{Told, success, passed, after}
 use Rattle.parser.proofs.readers.+arg+arguments+assign+binary+bind+block+body+call+chained+else_+expression+form+function+group+if_+items+lambda+map_+not_+pair+pairs+plus+postfix+prefix+primary+return_+statement+unary+while_ as cycle
 use Rattle.parser.proofs.readers as readers
 use cycle.Lts-pair as lts
 use cycle.Proof.Measures.{just, below, expression-at, pair-at}
 use readers.expression.Reads as expression
 use readers.pair.Reads as pair
-use Rattle.parser.proofs.lists.comma.Reads as comma-reads
+use Rattle.reading.proofs.lists.comma.Reads as comma-reads
 use Rattle.token.proofs.list.kind_at.Reads as kind-at-reads
 
 module _ (t : ℕ) where

@@ -7,11 +7,11 @@ use Rattle.grammar.specs.Kaori.{comma, rules, entries as table}
 use Rattle.grammar.specs.Kind.{RightBrace}
 use Rattle.grammar.specs.Phrase.{part, choice}
 use Rattle.grammar.specs.Token.{count}
-use Rattle.parser.specs.State.{state}
+use Rattle.reading.specs.State.{state}
 use Rattle.parser.proofs.Entries.{entry}
-use Rattle.parser.proofs.Listings.{Listing, listing-none, listing-more, listing-end, lists, Item-of, item-refused, item-less, hold-room, hold-number}
-use Rattle.parser.proofs.Names.{plain, items-end, items-on}
-use Rattle.parser.proofs.Replies.{Told, success}
+use Rattle.reading.proofs.Listings.{Listing, listing-none, listing-more, listing-end, lists, Item-of, item-refused, item-less, hold-room, hold-number}
+use Rattle.reading.proofs.Names.{plain, items-end, items-on}
+use Rattle.reading.proofs.Replies.{Told, success}
 use Rattle.parser.proofs.readers.+arg+arguments+assign+binary+bind+block+body+call+chained+else_+expression+form+function+group+if_+items+lambda+map_+not_+pair+pairs+plus+postfix+prefix+primary+return_+statement+unary+while_ as cycle
 use Rattle.parser.proofs.readers as readers
 use cycle.Lts-pairs as lts

@@ -4,16 +4,16 @@ use borrow.Author.Needs.{needs}
 use native.Mathlib.Omega.{arith}
 use Rattle.grammar.specs.Kaori.{above}
 use Rattle.grammar.specs.Refusal.{Refuses}
-use Rattle.parser.proofs.Laws.{opened, ready-deep}
-use Rattle.parser.proofs.Replies.{token-taken, mapped, refuse, lacks, inside}
-use Rattle.parser.proofs.Taking.{Taken-by, past-at, led, led-refused, ready-led}
+use Rattle.reading.proofs.Laws.{opened, ready-deep}
+use Rattle.reading.proofs.Replies.{token-taken, mapped, refuse, lacks, inside}
+use Rattle.reading.proofs.Taking.{Taken-by, past-at, led, led-refused, ready-led}
 use Rattle.parser.proofs.readers.+arg+arguments+assign+binary+bind+block+body+call+chained+else_+expression+form+function+group+if_+items+lambda+map_+not_+pair+pairs+plus+postfix+prefix+primary+return_+statement+unary+while_ as cycle
 use Rattle.parser.proofs.readers as readers
 use cycle.Lts-plus as lts
 use cycle.Proof.Measures.{just, below, binary-at, plus-at}
 use readers.binary.Reads as binary
 use readers.plus.Reads as plus
-use Rattle.parser.proofs.lists.consume.Reads as consume-reads
+use Rattle.reading.proofs.lists.consume.Reads as consume-reads
 
 module _ (t : ℕ) where
   abbrev claims : lts.Claims

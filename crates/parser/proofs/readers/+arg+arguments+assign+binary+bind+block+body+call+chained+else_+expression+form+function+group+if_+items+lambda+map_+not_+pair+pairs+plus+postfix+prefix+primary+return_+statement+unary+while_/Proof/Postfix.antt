@@ -8,11 +8,11 @@ use Rattle.grammar.specs.Kind.{Identifier}
 use Rattle.grammar.specs.Label.{Node}
 use Rattle.grammar.specs.Phrase.{begun}
 use Rattle.grammar.specs.Token.{count}
-use Rattle.parser.specs.Chains.{Going}
-use Rattle.parser.specs.State.{state}
-use Rattle.parser.proofs.Chains.{going-on, going-end, gone, goes, stopped-later}
-use Rattle.parser.proofs.Laws.{ready-on}
-use Rattle.parser.proofs.Picks.{no-call}
+use Rattle.reading.specs.Chains.{Going}
+use Rattle.reading.specs.State.{state}
+use Rattle.reading.proofs.Chains.{going-on, going-end, gone, goes, stopped-later}
+use Rattle.reading.proofs.Laws.{ready-on}
+use Rattle.reading.proofs.Picks.{no-call}
 use Rattle.parser.proofs.readers.+arg+arguments+assign+binary+bind+block+body+call+chained+else_+expression+form+function+group+if_+items+lambda+map_+not_+pair+pairs+plus+postfix+prefix+primary+return_+statement+unary+while_ as cycle
 use Rattle.parser.proofs.readers as readers
 use cycle.Lts-postfix as lts
@@ -20,7 +20,7 @@ use cycle.Proof.Measures.{just, below, call-at, postfix-at}
 use readers.call.Reads as call
 use readers.postfix.Reads as postfix
 use Rattle.token.proofs.list.kind_at.Reads as kind-at-reads
-use Rattle.parser.proofs.leaves.property_access.Reads as property-access-reads
+use Rattle.reading.proofs.leaves.property_access.Reads as property-access-reads
 
 abbrev Inv-loop : lts.InvT-loop
 Inv-loop text tokens nodes₀ links₀ symbols₀ scratch₀ limit depth node₀ now₀ nodes links symbols scratch node now = Going text tokens limit (leaf Node.Identifier Identifier) calls (begun (leaf Node.Identifier Identifier) calls) depth (state nodes₀ links₀ symbols₀ scratch₀ now₀) node₀ (state nodes links symbols scratch now) node

@@ -5,7 +5,7 @@ use native.Mathlib.Omega.{arith}
 use mathlib.Core.Logic.{inl, inr}
 use mathlib.Core.Path.{refl, sym, _∙_}
 use Rattle.grammar.specs.Kaori.{kaori, rules, operand}
-use Rattle.parser.proofs.Picks.{picked, picked-as, signed}
+use Rattle.reading.proofs.Picks.{picked, picked-as, signed}
 use Rattle.parser.proofs.readers.+arg+arguments+assign+binary+bind+block+body+call+chained+else_+expression+form+function+group+if_+items+lambda+map_+not_+pair+pairs+plus+postfix+prefix+primary+return_+statement+unary+while_ as cycle
 use Rattle.parser.proofs.readers as readers
 use cycle.Lts-prefix as lts
@@ -18,8 +18,8 @@ use readers.prefix.Reads as prefix
 use readers.primary.Reads as primary
 use readers.unary.Reads as unary
 use Rattle.token.proofs.list.kind_at.Reads as kind-at-reads
-use Rattle.parser.proofs.leaves.number.Reads as number-reads
-use Rattle.parser.proofs.leaves.string.Reads as string-reads
+use Rattle.reading.proofs.leaves.number.Reads as number-reads
+use Rattle.reading.proofs.leaves.string.Reads as string-reads
 
 module _ (t : ℕ) where
   abbrev claims : lts.Claims

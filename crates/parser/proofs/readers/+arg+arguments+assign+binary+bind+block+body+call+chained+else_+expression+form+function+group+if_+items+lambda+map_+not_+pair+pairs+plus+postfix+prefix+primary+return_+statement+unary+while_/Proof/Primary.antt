@@ -5,8 +5,8 @@ use native.Mathlib.Omega.{arith}
 use mathlib.Core.Path.{refl, sym}
 use Rattle.grammar.specs.Kaori.{kaori, rules, operand}
 use Rattle.grammar.specs.Refusal.{Refuses}
-use Rattle.parser.proofs.Picks.{picked, picked-as, a-single, one-token, no-operand}
-use Rattle.parser.proofs.Replies.{refuse}
+use Rattle.reading.proofs.Picks.{picked, picked-as, a-single, one-token, no-operand}
+use Rattle.reading.proofs.Replies.{refuse}
 use Rattle.parser.proofs.readers.+arg+arguments+assign+binary+bind+block+body+call+chained+else_+expression+form+function+group+if_+items+lambda+map_+not_+pair+pairs+plus+postfix+prefix+primary+return_+statement+unary+while_ as cycle
 use Rattle.parser.proofs.readers as readers
 use cycle.Lts-primary as lts
@@ -17,7 +17,7 @@ use readers.lambda.Reads as lambda
 use readers.map_.Reads as map-
 use readers.primary.Reads as primary
 use Rattle.token.proofs.list.kind_at.Reads as kind-at-reads
-use Rattle.parser.proofs.leaves.single.Reads as single-reads
+use Rattle.reading.proofs.leaves.single.Reads as single-reads
 
 module _ (t : ℕ) where
   abbrev claims : lts.Claims

@@ -1,7 +1,7 @@
 -- A statement: its form, and what ends it.
 use Prim.Native.Nat.{ℕ}
 use borrow.Author.Needs.{needs}
-use Rattle.parser.proofs.Replies.{Told, success}
+use Rattle.reading.proofs.Replies.{Told, success}
 use Rattle.parser.proofs.Statements.{statement-ends, statement-refused}
 use Rattle.parser.proofs.readers.+arg+arguments+assign+binary+bind+block+body+call+chained+else_+expression+form+function+group+if_+items+lambda+map_+not_+pair+pairs+plus+postfix+prefix+primary+return_+statement+unary+while_ as cycle
 use Rattle.parser.proofs.readers as readers
@@ -10,7 +10,7 @@ use cycle.Proof.Measures.{just, below, form-at, statement-at}
 use readers.form.Reads as form
 use readers.statement.Reads as statement
 use Rattle.token.proofs.list.kind_at.Reads as kind-at-reads
-use Rattle.parser.proofs.pieces.semicolon.Reads as semicolon-reads
+use Rattle.reading.proofs.pieces.semicolon.Reads as semicolon-reads
 
 module _ (t : ℕ) where
   abbrev claims : lts.Claims

@@ -10,16 +10,16 @@ use Rattle.grammar.specs.Refusal.{Refuses}
 use Rattle.grammar.specs.Rows.{make, put, fill, numbers, write}
 use Rattle.grammar.specs.Rule.{rule}
 use Rattle.grammar.proofs.Room.{paid, spare}
-use Rattle.parser.proofs.Laws.{opened, ready-deep}
-use Rattle.parser.proofs.Replies.{Told, success, token-taken, passed, answer, refuse, lacks, inside}
-use Rattle.parser.proofs.Taking.{Taken-by, starts, past-at, led, led-refused, ready-led, free, inserted-as, rowed, sign-low}
+use Rattle.reading.proofs.Laws.{opened, ready-deep}
+use Rattle.reading.proofs.Replies.{Told, success, token-taken, passed, answer, refuse, lacks, inside}
+use Rattle.reading.proofs.Taking.{Taken-by, starts, past-at, led, led-refused, ready-led, free, inserted-as, rowed, sign-low}
 use Rattle.parser.proofs.readers.+arg+arguments+assign+binary+bind+block+body+call+chained+else_+expression+form+function+group+if_+items+lambda+map_+not_+pair+pairs+plus+postfix+prefix+primary+return_+statement+unary+while_ as cycle
 use Rattle.parser.proofs.readers as readers
 use cycle.Lts-unary as lts
 use cycle.Proof.Measures.{just, below, binary-at, unary-at}
 use readers.binary.Reads as binary
 use readers.unary.Reads as unary
-use Rattle.parser.proofs.lists.consume.Reads as consume-reads
+use Rattle.reading.proofs.lists.consume.Reads as consume-reads
 use Rattle.token.proofs.ops.sign_of.Reads as sign-of-reads
 use Rattle.ast.proofs.unary.Reads as unary-reads
 

@@ -1,0 +1,6 @@
+pub mod Runs
+pub mod Texts
+pub mod Numbers
+pub mod Keywords
+pub mod Fitting
+pub mod Floats

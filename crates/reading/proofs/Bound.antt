@@ -1,0 +1,91 @@
+-- No more rows are written than tokens are read, so every row has its place: the grammar's law, of the rooms and the cursor.
+use Prim.Native.Nat.{ℕ, _+_, _*_, _≤_, _<_}
+use native.Mathlib.Omega.{arith}
+use mathlib.Core.List.{List, [], _∷_}
+use mathlib.Core.Path.{_≡_, refl, ap}
+use lib.Dec.{T}
+use lib.ListN.{length, length-take}
+use Rattle.grammar.specs.Handle.{Handle}
+use Rattle.grammar.specs.Kaori.{Form, Table, kaori}
+use Rattle.grammar.specs.Label.{Label}
+use Rattle.grammar.specs.Phrase.{node, Aim, whole}
+use Rattle.grammar.specs.Rows.{Walked}
+use Rattle.grammar.specs.Token.{count}
+use Rattle.grammar.proofs.Machine.{asked}
+use Rattle.grammar.proofs.Room.{spare, paid, paid-node, paid-entry, Grown, make-grown, links-grow, pays}
+use Rattle.interner.specs.Table.{Table as Symbols}
+use Rattle.reading.specs.Reading.{form, Reading}
+use Rattle.reading.specs.State.{State, written, Roomy, Within}
+use Rattle.reading.proofs.Laws.{roomy-on, Made}
+
+-- a form that has a token for each of its nodes
+pub record Paid (p : Form) : Type 0 where
+  pub pays : T (paid p)
+
+-- what a table has, and what a node holds
+pub paid-link : (t : Table) (x : ℕ) {p : Form} → kaori t x ≡ p → Paid p
+paid-link t x e = record { pays = paid-entry t x e }
+
+pub paid-inside : {f : Label} {q : Form} → Paid (node f q) → Paid q
+paid-inside {f} {q} p = record { pays = paid-node f q (p .pays) .1 }
+
+pub asked-form : (g : Aim Table Label) → asked g ≡ form g
+asked-form (whole p) = refl
+asked-form (Aim.begun p n) = refl
+
+-- from s to s′ with h handles made and `extra` tokens to spare
+pub record Counts (s s′ : State) (h extra : ℕ) : Type 0 where
+  pub nodes : s′ .cursor .nodes + extra + s .cursor .at ≤ s .cursor .nodes + s′ .cursor .at
+  pub links : s′ .cursor .links + h + extra + s .cursor .at ≤ s .cursor .links + s′ .cursor .at
+  pub symbols : s′ .cursor .symbols + extra + s .cursor .at ≤ s .cursor .symbols + s′ .cursor .at
+  pub past : s .cursor .at ≤ s′ .cursor .at
+  pub grows : s .cursor .links ≤ s′ .cursor .links
+
+-- numbers of whole rows in rooms that have a row for each token
+module _ {text ts : List ℕ} where
+  pub counted : {s s′ : State} {k h extra : ℕ} {w : Walked} → Within text ts s → Roomy ts s′ → s′ .cursor .at < count ts → s .cursor .at + extra + k ≤ s′ .cursor .at → w .rows ≡ written s′ → length (w .first) + length (w .rest) ≡ h →
+      Grown (written s) 0 k w → length (written s .links) ≤ length (w .rows .links) → Counts s s′ h extra
+  counted {s} {s′} i r a e z y g l =
+      let gn = rw z at (g .nodes) in
+      let gl = rw z at (g .links) in
+      let gs = rw z at (g .symbols) in
+      let ll = rw z at l in
+      let n = length-take (9 * s .cursor .nodes) (s .nodes) in
+      let n′ = length-take (9 * s′ .cursor .nodes) (s′ .nodes) in
+      let m = length-take (3 * s .cursor .links) (s .links) in
+      let m′ = length-take (3 * s′ .cursor .links) (s′ .links) in
+      let q = length-take (2 * s .cursor .symbols) (s .symbols) in
+      let q′ = length-take (2 * s′ .cursor .symbols) (s′ .symbols) in
+      let rs = i .roomy in
+      record { nodes = omega (arith, rs .nodes, r .nodes, i .rows); links = omega (arith, rs .links, r .links, i .links); symbols = omega (arith, rs .symbols, r .symbols, i .symbols); past = omega arith; grows = omega (arith, rs .links, r .links, i .links) }
+
+module _ {text ts : List ℕ} {limit : ℕ} where
+  pub bound : {g : Aim Table Label} {o : ℕ} {s s′ : State} {xs ys : List Handle} → Within text ts s → Paid (form g) → s′ .cursor .at < count ts → Reading text ts limit g o s xs ys s′ → Counts s s′ (length xs + length ys) (spare (form g))
+  bound {g} {s = s} {s′ = s′} i p a r =
+      let paying = pays text ts (r .reads) (rw (asked-form g) (p .pays)) .pay (written s) in
+      let (k, e, grown) = paying in
+      counted i (roomy-on (i .roomy) (r .rooms)) a (rw (asked-form g) at e) (ap (λ w. w .rows) (r .rows)) (ap (λ w. length (w .first) + length (w .rest)) (r .rows)) grown (links-grow text ts (r .tree) (written s))
+
+  -- what makes a handle takes a token at least
+  pub strictly : {g : Aim Table Label} {o : ℕ} {s s′ : State} {h : Handle} {hs ys : List Handle} → Within text ts s → Paid (form g) → s′ .cursor .at < count ts → Reading text ts limit g o s (h ∷ hs) ys s′ → s .cursor .at < s′ .cursor .at
+  strictly i p a r = let b = bound i p a r in omega arith
+
+  pub arrived : {g : Aim Table Label} {o : ℕ} {s s′ : State} {xs ys : List Handle} → Within text ts s → Paid (form g) → s′ .cursor .at < count ts → Symbols text (written s′ .symbols) → Reading text ts limit g o s xs ys s′ → Within text ts s′
+  arrived i p a t r = let b = bound i p a r in record { roomy = roomy-on (i .roomy) (r .rooms); at = a; rows = omega (arith, i .rows); links = omega (arith, i .links, r .holds); symbols = omega (arith, i .symbols); table = t }
+
+  -- a link of a chain, from where the chain stands: its node has a token of its own
+  pub link-within : {f : Label} {q : Form} {o : ℕ} {s₀ s₁ s₂ : State} {h g : Handle} {ys : List Handle} → Within text ts s₀ → Paid (node f q) → s₁ .cursor .at < count ts → Symbols text (written s₂ .symbols) → Reading text ts limit (whole q) o s₀ ys [] s₁ → Made text ts f (s₀ .cursor .at) s₁ (h ∷ []) ys (g ∷ []) s₂ → Within text ts s₂
+  link-within {f} {q} {s₀ = s₀} {s₁ = s₁} {s₂ = s₂} {h = h} {ys = ys} i p a t r m =
+      let (c, u) = paid-node f q (p .pays) in
+      let b = bound i (record { pays = u }) a r in
+      let y = rw (m .makes) at (make-grown text ts f (s₀ .cursor .at) (s₁ .cursor .at) (written s₁) (h ∷ []) ys) in
+      let roomy₁ = roomy-on (i .roomy) (r .rooms) in
+      let roomy₂ = roomy-on roomy₁ (m .rooms) in
+      let at₂ = m .at in
+      let n = length-take (9 * s₁ .cursor .nodes) (s₁ .nodes) in
+      let n′ = length-take (9 * s₂ .cursor .nodes) (s₂ .nodes) in
+      let l = length-take (3 * s₁ .cursor .links) (s₁ .links) in
+      let l′ = length-take (3 * s₂ .cursor .links) (s₂ .links) in
+      let q = length-take (2 * s₁ .cursor .symbols) (s₁ .symbols) in
+      let q′ = length-take (2 * s₂ .cursor .symbols) (s₂ .symbols) in
+      record { roomy = roomy₂; at = omega arith; rows = omega (arith, i .rows, y .nodes, roomy₁ .nodes, roomy₂ .nodes); links = omega (arith, i .links, y .links, roomy₁ .links, roomy₂ .links, r .holds, m .holds); symbols = omega (arith, i .symbols, y .symbols, roomy₁ .symbols, roomy₂ .symbols); table = t }

@@ -1,0 +1,12 @@
+pub mod Laws
+pub mod Bound
+pub mod Entering
+pub mod Replies
+pub mod Chains
+pub mod Listings
+pub mod Gathering
+pub mod Picks
+pub mod Taking
+pub mod Names
+pub mod Leaf
+pub mod Once

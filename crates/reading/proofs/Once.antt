@@ -1,0 +1,169 @@
+-- Two outcomes that the contract of a reader allows for one entry are the same: both succeed, with one node and one cursor, the same rows written so far and the
+-- same rows held; or both are refused, alike. What the rooms hold beyond these rows, and after a refusal, is not settled: `parse` clears it.
+use Prim.Native.Nat.{ℕ, _+_, _*_, _≤_}
+use native.Mathlib.Decide.{ℕ-discrete}
+use native.Mathlib.Omega.{arith}
+use mathlib.Core.List.{List, [], _∷_, _++_}
+use mathlib.Core.Logic.{inl, inr}
+use mathlib.Core.Path.{_≡_, sym, ap, _∙_}
+use lib.ListN.{length, take}
+use lib.Seq.{length-take-le}
+use Rattle.ast.specs.declared.Node.{Node}
+use Rattle.ast.proofs.Rooms.{written-once}
+use Rattle.grammar.specs.Handle.{Handle, row, absent}
+use Rattle.grammar.specs.Kaori.{Form, may-end, must-end, rules, kaori}
+use Rattle.grammar.specs.Kind.{Eof}
+use Rattle.grammar.specs.Phrase.{whole}
+use Rattle.grammar.specs.Rows.{links-of, walk}
+use Rattle.grammar.proofs.Machine.{one-reading, read-not-refused, one-refusal}
+use Rattle.reading.specs.Answers.{node-of, name-of, tail-of, holding, Took, Consumed, Answer-case, Answered, Listed, List-case, Lists, State-case, States}
+use Rattle.reading.specs.Parts.{Separates, Separated, Gathered, Ends, Ended, Untailed}
+use Rattle.reading.specs.Reading.{refusal, Success}
+use Rattle.reading.specs.State.{State, state, written, held, Within}
+use Rattle.reading.specs.declared.Cursor.{Cursor}
+use Rattle.reading.specs.declared.Read.{Read}
+use Rattle.reading.specs.declared.Refusal.{Refusal}
+
+-- what is the same after two successes: what they stand for, where they ended, what is written and what is held
+pub record Alike (hs hs′ : List Handle) (s s′ : State) : Type 0 where
+  pub handles : hs ≡ hs′
+  pub cursor : s .cursor ≡ s′ .cursor
+  pub rows : written s ≡ written s′
+  pub stack : held s ≡ held s′
+
+-- rows that are the same are as many
+rows-counted : (w n m : ℕ) (l k : List ℕ) → w * n ≤ length l → w * m ≤ length k → take (w * n) l ≡ take (w * m) k → w * n ≡ w * m
+rows-counted w n m l k h i e = sym (length-take-le (w * n) l h) ∙ ap length e ∙ length-take-le (w * m) k i
+
+cursors : {c d : Cursor} → c .nodes ≡ d .nodes → c .links ≡ d .links → c .symbols ≡ d .symbols → c .held ≡ d .held → c .at ≡ d .at → c ≡ d
+cursors {c} {d} n l y h a =
+    let e : _≡_ {A = Cursor} (record { nodes = c .nodes; links = c .links; symbols = c .symbols; held = c .held; at = c .at }) (record { nodes = d .nodes; links = d .links; symbols = d .symbols; held = d .held; at = d .at }) = rw (n, l, y, h, a) in
+    e
+
+nodes : {n m : Node} → n .id ≡ m .id → n .start ≡ m .start → n .end ≡ m .end → n ≡ m
+nodes {n} {m} i s e =
+    let z : _≡_ {A = Node} (record { id = n .id; start = n .start; end = n .end }) (record { id = m .id; start = m .start; end = m .end }) = rw (i, s, e) in
+    z
+
+refusals : {q r : Refusal} → refusal q ≡ refusal r → q ≡ r
+refusals {q} {r} e =
+    let c : q .code ≡ r .code = cc in
+    let a : q .at ≡ r .at = cc in
+    let x : q .expected ≡ r .expected = cc in
+    let z : _≡_ {A = Refusal} (record { code = q .code; expected = q .expected; at = q .at }) (record { code = r .code; expected = r .expected; at = r .at }) = rw (c, a, x) in
+    z
+
+-- two successes of one phrase from one entry
+module _ {text ts : List ℕ} {limit o : ℕ} {p : Form} {s s₁ s₂ : State} {hs hs′ : List Handle} where
+  pub one-success : Success text ts limit (whole p) o s hs s₁ → Success text ts limit (whole p) o s hs′ s₂ → Alike hs hs′ s₁ s₂
+  one-success x y =
+      let (at, tree) = one-reading (x .reading .reads) (y .reading .reads) in
+      let e = sym (x .reading .rows) ∙ ap (λ t. walk text ts t (written s)) tree ∙ y .reading .rows in
+      let w : written s₁ ≡ written s₂ = ap (λ v. v .rows) e in
+      let v = x .within in
+      let u = y .within in
+      let n = rows-counted 9 (s₁ .cursor .nodes) (s₂ .cursor .nodes) (s₁ .nodes) (s₂ .nodes) (omega (arith, v .rows, v .at, v .roomy .nodes)) (omega (arith, u .rows, u .at, u .roomy .nodes)) (ap (λ r. r .nodes) w) in
+      let l = rows-counted 3 (s₁ .cursor .links) (s₂ .cursor .links) (s₁ .links) (s₂ .links) (omega (arith, v .links, v .at, v .roomy .links)) (omega (arith, u .links, u .at, u .roomy .links)) (ap (λ r. r .links) w) in
+      let k = rows-counted 2 (s₁ .cursor .symbols) (s₂ .cursor .symbols) (s₁ .symbols) (s₂ .symbols) (omega (arith, v .symbols, v .at, v .roomy .symbols)) (omega (arith, u .symbols, u .at, u .roomy .symbols)) (ap (λ r. r .symbols) w) in
+      record { handles = ap (λ v. v .first) e; cursor = cursors (omega (arith, n)) (omega (arith, l)) (omega (arith, k)) (x .reading .holds ∙ sym (y .reading .holds)) at; rows = w; stack = x .reading .same ∙ sym (y .reading .same) }
+
+-- two outcomes are the same, in the rows that are written and held
+unfoldable pub Same : (nodes links symbols scratch nodes′ links′ symbols′ scratch′ : List ℕ) → Read → Read → Type 0
+Same ns ls ys ss ns′ ls′ ys′ ss′ (Read.Node n c) (Read.Node m d) = (n ≡ m) × (c ≡ d) × (written (state ns ls ys ss c) ≡ written (state ns′ ls′ ys′ ss′ d)) × (held (state ns ls ys ss c) ≡ held (state ns′ ls′ ys′ ss′ d))
+Same ns ls ys ss ns′ ls′ ys′ ss′ (Read.Refused q) (Read.Refused r) = q ≡ r
+Same ns ls ys ss ns′ ls′ ys′ ss′ (Read.Node n c) (Read.Refused r) = ⊥
+Same ns ls ys ss ns′ ls′ ys′ ss′ (Read.Refused q) (Read.Node m d) = ⊥
+
+heads : {h h′ : Handle} → h ∷ [] ≡ h′ ∷ [] → h ≡ h′
+heads e = cc
+
+-- a node that stands for a row, or for a name, is known by what it stands for
+pub node-alike : (n m : Node) → node-of n ≡ node-of m → n ≡ m
+node-alike n m e = nodes (cc) (cc) (cc)
+
+pub name-alike : (n m : Node) → name-of n ≡ name-of m → n ≡ m
+name-alike n m e = nodes (cc) (cc) (cc)
+
+-- once a list's items are held no more, the cursor is within the list as before
+let-go : {text ts : List ℕ} {limit o : ℕ} {p : Form} {s s₁ : State} → Listed text ts limit (whole p) o s s₁ → Within text ts (holding (s .cursor .held) s₁)
+let-go l = let w = l .within in record { roomy = record { nodes = w .roomy .nodes; links = w .roomy .links; symbols = w .roomy .symbols; scratch = w .roomy .scratch }; at = w .at; rows = w .rows; links = omega (arith, w .links, l .count); symbols = w .symbols; table = w .table }
+
+module _ {text ts : List ℕ} {limit o : ℕ} {p : Form} {s : State} {ns ls ys ss ns′ ls′ ys′ ss′ : List ℕ} where
+  -- of a reader whose node stands for what it read
+  pub one-answered : (h : Node → Handle) → ((n m : Node) → h n ≡ h m → n ≡ m) → (r r′ : Read) → Answered text ts limit h (whole p) o s ns ls ys ss r → Answered text ts limit h (whole p) o s ns′ ls′ ys′ ss′ r′ → Same ns ls ys ss ns′ ls′ ys′ ss′ r r′
+  unfolding Answer-case Same
+  one-answered h alike (Read.Node n c) (Read.Node m d) a b = let e = one-success (a .says) (b .says) in (alike n m (heads (e .handles)), e .cursor, e .rows, e .stack)
+  one-answered h alike (Read.Refused q) (Read.Refused r) a b = refusals (one-refusal (a .says) (b .says))
+  one-answered h alike (Read.Node n c) (Read.Refused r) a b = let x = a .says .reading in read-not-refused (x .reads) (x .fits) (b .says)
+  one-answered h alike (Read.Refused q) (Read.Node m d) a b = let y = b .says .reading in read-not-refused (y .reads) (y .fits) (a .says)
+
+  -- of a list's reader: the items that are held are the same too
+  pub one-lists : (r r′ : Read) → Lists text ts limit (whole p) o s ns ls ys ss r → Lists text ts limit (whole p) o s ns′ ls′ ys′ ss′ r′ → Same ns ls ys ss ns′ ls′ ys′ ss′ r r′
+  unfolding List-case Same
+  one-lists (Read.Node n c) (Read.Node m d) a b =
+      let x = a .says .1 in
+      let y = b .says .1 in
+      let u : Success text ts limit (whole p) o s (x .items) (holding (s .cursor .held) (state ns ls ys ss c)) = record { reading = x .reading; within = let-go x; past = x .past } in
+      let v : Success text ts limit (whole p) o s (y .items) (holding (s .cursor .held) (state ns′ ls′ ys′ ss′ d)) = record { reading = y .reading; within = let-go y; past = y .past } in
+      let e = one-success u v in
+      let k = e .cursor in
+      let h = x .count ∙ ap (λ i. s .cursor .held + length i) (e .handles) ∙ sym (y .count) in
+      (a .says .0 ∙ sym (b .says .0), cursors (ap (λ c. c .nodes) k) (ap (λ c. c .links) k) (ap (λ c. c .symbols) k) h (ap (λ c. c .at) k), e .rows, x .rows ∙ ap (λ i. held s ++ links-of i) (e .handles) ∙ sym (y .rows))
+  one-lists (Read.Refused q) (Read.Refused r) a b = refusals (one-refusal (a .says) (b .says))
+  one-lists (Read.Node n c) (Read.Refused r) a b = let x = a .says .1 .reading in read-not-refused (x .reads) (x .fits) (b .says)
+  one-lists (Read.Refused q) (Read.Node m d) a b = let y = b .says .1 .reading in read-not-refused (y .reads) (y .fits) (a .says)
+
+-- of the functions that read no phrase
+pub one-consumed : {ts : List ℕ} {c : Cursor} {x : ℕ} (r r′ : Read) → Consumed ts c x r → Consumed ts c x r′ → r ≡ r′
+unfolding Took
+one-consumed (Read.Node n c) (Read.Node m d) a b = let i = a .says .1 ∙ sym (b .says .1) in let k = a .says .2 ∙ sym (b .says .2) in cc
+one-consumed (Read.Refused q) (Read.Refused r) a b = ap Read.Refused (a .says .1 ∙ sym (b .says .1))
+one-consumed (Read.Node n c) (Read.Refused r) a b = absurd (b .says .0 (a .says .0))
+one-consumed (Read.Refused q) (Read.Node m d) a b = absurd (a .says .0 (b .says .0))
+
+pub one-untailed : {tail : ℕ} {c : Cursor} {r r′ : Read} → Untailed tail c r → Untailed tail c r′ → r ≡ r′
+one-untailed {tail} a b = elim (ℕ-discrete tail absent) [ yes e ↦ a .none e ∙ sym (b .none e) | no n ↦ a .one n ∙ sym (b .one n) ]
+
+pub one-gathered : {base : ℕ} {c d e : Cursor} {scratch before after other : List ℕ} → Gathered base c scratch before after d → Gathered base c scratch before other e → (d ≡ e) × (after ≡ other)
+one-gathered a b = (a .cursor ∙ sym (b .cursor), written-once (a .links) (b .links))
+
+pub one-separated : {ts : List ℕ} {n : Node} {c : Cursor} {z : ℕ} (r r′ : Read) → Separated ts n c z r → Separated ts n c z r′ → r ≡ r′
+unfolding Separates
+one-separated (Read.Node n d) (Read.Node m e) a b =
+    let i = a .says .0 ∙ sym (b .says .0) in
+    let k : d ≡ e = elim (a .says .1) [
+      | inl x ↦ elim (b .says .1) [ inl y ↦ x .1 ∙ sym (y .1) | inr y ↦ absurd (y .0 (x .0)) ]
+      | inr x ↦ elim (b .says .1) [ inl y ↦ absurd (x .0 (y .0)) | inr y ↦ x .2 ∙ sym (y .2) ]
+    ] in
+    cc
+one-separated (Read.Refused q) (Read.Refused r) a b = ap Read.Refused (a .says .2 ∙ sym (b .says .2))
+one-separated (Read.Node n d) (Read.Refused r) a b = absurd (elim (a .says .1) [ inl x ↦ b .says .0 (x .0) | inr x ↦ b .says .1 (x .1) ])
+one-separated (Read.Refused q) (Read.Node m e) a b = absurd (elim (b .says .1) [ inl x ↦ a .says .0 (x .0) | inr x ↦ a .says .1 (x .1) ])
+
+-- the two tables that end a statement differ: before Eof one has nothing, and the other requires `;`
+may-not-must : may-end ≡ must-end → ⊥
+unfolding kaori rules
+may-not-must e = let z : kaori may-end Eof ≡ kaori must-end Eof = ap (λ t. kaori t Eof) e in let y : _≡_ {A = ℕ} 0 1 = cc in omega (arith, y)
+
+pub one-ended : {ts : List ℕ} {n : Node} {c : Cursor} {x : ℕ} (r r′ : Read) → Ended ts n c x r → Ended ts n c x r′ → r ≡ r′
+unfolding Ends
+one-ended (Read.Node m d) (Read.Node k e) a b = elim (a .says) [
+  | inl u ↦ elim (b .says) [ inl v ↦ (let i = u .1 ∙ sym (v .1) in let j = u .2 ∙ sym (v .2) in cc) | inr v ↦ absurd (v .0 (u .0)) ]
+  | inr u ↦ elim (b .says) [ inl v ↦ absurd (u .0 (v .0)) | inr v ↦ (let i = u .2 ∙ sym (v .2) in let j = u .3 ∙ sym (v .3) in cc) ]
+]
+one-ended (Read.Refused q) (Read.Refused r) a b = ap Read.Refused (a .says .3 ∙ sym (b .says .3))
+one-ended (Read.Node m d) (Read.Refused r) a b = absurd (elim (a .says) [ inl u ↦ b .says .0 (u .0) | inr u ↦ elim (u .1) [ inl v ↦ b .says .1 v | inr v ↦ may-not-must (sym v ∙ b .says .2) ] ])
+one-ended (Read.Refused q) (Read.Node k e) a b = absurd (elim (b .says) [ inl u ↦ a .says .0 (u .0) | inr u ↦ elim (u .1) [ inl v ↦ a .says .1 v | inr v ↦ may-not-must (sym v ∙ a .says .2) ] ])
+
+module _ {text ts : List ℕ} {limit o : ℕ} {s : State} {ns ls ys ss ns′ ls′ ys′ ss′ : List ℕ} where
+  pub one-statement : (r r′ : Read) → States text ts limit o s ns ls ys ss r → States text ts limit o s ns′ ls′ ys′ ss′ r′ → Same ns ls ys ss ns′ ls′ ys′ ss′ r r′
+  unfolding State-case Same
+  one-statement (Read.Node n c) (Read.Node m d) a b =
+      let x = a .says in
+      let y = b .says in
+      let e = one-success (x .success) (y .success) in
+      let h = heads (e .handles) in
+      (nodes (sym (x .row-is) ∙ ap row h ∙ y .row-is) (x .start-is ∙ sym (y .start-is)) (sym (x .tail-is) ∙ ap (λ i. row (tail-of i)) h ∙ y .tail-is), e .cursor, e .rows, e .stack)
+  one-statement (Read.Refused q) (Read.Refused r) a b = refusals (one-refusal (a .says) (b .says))
+  one-statement (Read.Node n c) (Read.Refused r) a b = let x = a .says .success .reading in read-not-refused (x .reads) (x .fits) (b .says)
+  one-statement (Read.Refused q) (Read.Node m d) a b = let y = b .says .success .reading in read-not-refused (y .reads) (y .fits) (a .says)

@@ -1,0 +1,48 @@
+-- `leaves::property_access` goes on with a dot and a name.
+use borrow.Author.Needs.{needs}
+use native.Mathlib.Omega.{arith}
+use mathlib.Core.Path.{ap}
+use Rattle.grammar.specs.Kaori.{calls, rules, kaori}
+use Rattle.grammar.specs.Kind.{Dot}
+use Rattle.grammar.specs.Refusal.{Refuses}
+use Rattle.reading.proofs.Chains.{stops-lacking}
+use Rattle.reading.proofs.Laws.{sees}
+use Rattle.reading.proofs.Leaf.{property-read, property-refused}
+use Rattle.reading.proofs.Replies.{Taken, Told, token-taken, success, further}
+use Rattle.reading.proofs.Taking.{ready-led, free}
+use Rattle.reading.proofs.leaves.property_access.Statement.{statement}
+use Rattle.reading.proofs.leaves.property_access.Tie as tie
+
+abbrev start : tie.After-known-told → tie.Start
+start c = c .before .before .before .before .before .before .before .before .before .before
+
+-- the dot is taken
+dot : (c : tie.After-known-told) → Taken (start c .args .tokens .now) (start c .args .cur) Dot (c .before .read .given .0 .0) (c .before .read .given .0 .1 .0)
+dot c = token-taken (c .before .read .given .1) (c .before .before .before .consume .ensures)
+
+-- where name has answered a node: what that says, and where the dot was taken
+part : (c : tie.After-known-told2) → Told (c .before .before .before .before .before .before .before .before .before .before .before .name .ensures) (c .before .read2 .given .0 .0) (c .before .read2 .given .0 .1 .0)
+part c = success (c .before .read2 .given .1) (c .before .before .before .before .before .before .before .before .before .before .before .name .ensures)
+
+abbrev middle : tie.After-known-told2 → tie.After-known-told
+middle c = c .before .before .before .before .before .before .before .before .before .before .before .before .before .before .before .before
+
+returns : tie.Need-returns
+unfolding kaori rules
+returns c =
+    let s = c .before .before .before .before .before .before .before .before .before in
+    let k = sees (s .args .text .now) (s .args .tokens .now) (s .args .cur .at) (s .pre .0) (λ e. omega arith) in
+    stops-lacking (c .enum-told .given .1) (c .before .before .consume .ensures) (omega arith) (λ s b n. further b (ap (kaori calls) k) (Refuses.missing n))
+
+returns-2 : tie.Need-returns-2
+returns-2 c =
+    let z = c .before .before .before .before .before .before .before .before .before .before .before .before .before .before .before in
+    property-refused (start z .pre .1) (dot z) (c .enum-told2 .given .1) (c .before .before .before .before .before .before .before .before .before .before .name .ensures)
+
+returns-3 : tie.Need-returns-3
+returns-3 c =
+    let z = c .before .before .before .before in
+    property-read (start (middle z) .pre .1) (dot (middle z)) (part z) (c .before .before .property-access .ensures)
+
+pub property-access-spec : {M : Type 1} → statement M
+property-access-spec = tie.close (tie.spec (λ c κs. search needs) (λ c. search needs) (λ c. search needs) returns (λ c κs. ready-led (start (c .before .before .before .before) .pre .1) (dot (c .before .before .before .before)) (λ e. omega arith)) (λ c. search needs) (λ c. search needs) (λ c. search needs) (λ c. search needs) (λ c. search needs) (λ c. search needs) returns-2 (λ c κs. free (start (middle (c .before)) .pre .1 .lent) (part (c .before) .within)) (λ c. omega (arith, free (start (middle (c .before .before .before .before)) .pre .1 .lent) (part (c .before .before .before .before) .within))) (λ c. search needs) (λ c. search needs) (λ c. search needs) (λ c. search needs) returns-3)

@@ -1,0 +1,41 @@
+-- What was read: from one state to another the tokens read as a phrase says, no deeper than the limit, and the rooms have just the rows of that reading.
+use Prim.Native.Nat.{ℕ, _+_, _≤_}
+use mathlib.Core.List.{List, []}
+use mathlib.Core.Path.{_≡_}
+use Rattle.grammar.specs.Float.{seen}
+use Rattle.grammar.specs.Handle.{Handle}
+use Rattle.grammar.specs.Kaori.{Form, Table, kaori}
+use Rattle.grammar.specs.Label.{Label}
+use Rattle.grammar.specs.Phrase.{chain, Tree, Aim, whole, begun, Reads, depth}
+use Rattle.grammar.specs.Refusal.{Refused, refused, Refuses}
+use Rattle.grammar.specs.Rows.{walk}
+use Rattle.reading.specs.State.{State, written, held, Within, Rooms}
+use Rattle.reading.specs.declared.Refusal.{Refusal}
+
+-- the refusals of an aim are those of its phrase
+abbrev pub form : Aim Table Label → Form
+form (whole p) = p
+form (begun p n) = chain p n
+
+abbrev pub refusal : Refusal → Refused
+refusal q = refused (q .code) (q .at) (q .expected)
+
+module _ (text ts : List ℕ) (limit : ℕ) where
+  -- from s to s′, with o openings taken before: the first part made xs, and the rest ys
+  pub record Reading (g : Aim Table Label) (o : ℕ) (s : State) (xs ys : List Handle) (s′ : State) : Type 0 where
+    pub tree : Tree Label
+    pub reads : Reads kaori (seen text ts) g (s .cursor .at) (s′ .cursor .at) tree
+    pub fits : o + depth tree ≤ limit
+    pub rows : walk text ts tree (written s) ≡ record { rows = written s′; first = xs; rest = ys }
+    pub holds : s′ .cursor .held ≡ s .cursor .held
+    pub same : held s′ ≡ held s
+    pub rooms : Rooms s s′
+
+  -- and what the next reader may count on
+  pub record Success (g : Aim Table Label) (o : ℕ) (s : State) (hs : List Handle) (s′ : State) : Type 0 where
+    pub reading : Reading g o s hs [] s′
+    pub within : Within text ts s′
+    pub past : s .cursor .at ≤ s′ .cursor .at
+
+  abbrev pub Refusing : Form → ℕ → State → Refused → Type 0
+  Refusing p o s q = Refuses kaori (seen text ts) limit p o (s .cursor .at) q

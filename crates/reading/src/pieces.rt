@@ -1,0 +1,117 @@
+// What a kind decides about a row, and about the end of a statement.
+use crate::Cursor;
+use crate::Read;
+use crate::Refusal;
+use ast::Node;
+use token::list::kind_at;
+use token::ops::operator_of;
+ghost use mathlib.Core.List.{_∷_, []};
+ghost use mathlib.Core.Path.{_≡_};
+ghost use Prim.Native.Nat.{_≤_, _<_};
+ghost use Rattle.ast.specs.Inserted.{Free, Inserted};
+ghost use Rattle.grammar.specs.Handle.{absent};
+ghost use Rattle.grammar.specs.Label.{number-of};
+ghost use Rattle.grammar.specs.Operator.{joining};
+ghost use Rattle.grammar.specs.Token.{count};
+ghost use Rattle.reading.specs.Parts.{Ended, Untailed, binding-node, joined-fields};
+
+// No row.
+const ABSENT: u32 = 4294967295;
+
+// The row of two operands and the operator of this kind between them. It asks that the room has that row (`Free`).
+// Ruled out: a Binary for `and`; the operands in each other's place.
+pub fn joined(
+    nodes: &mut [u32],
+    n: usize,
+    kind: u32,
+    left: u32,
+    right: u32,
+    start: u32,
+    end: u32,
+) -> Node
+    requires { ⌜ Free n (now nodes) ⌝ }
+    ensures { λ r. ⌜ Inserted n (number-of (joining kind)) start end (joined-fields kind left right) (now (nodes .entry)) (now (nodes .exit)) r ⌝ }
+{
+    match kind {
+        22 => ast::logical_and(nodes, n, left, right, start, end),
+        23 => ast::logical_or(nodes, n, left, right, start, end),
+        _ => ast::binary(nodes, n, operator_of(kind), left, right, start, end),
+    }
+}
+
+// The row of a name that `let`, `const` or `ref` binds. It asks that the room has that row (`Free`).
+// Ruled out: a Variable for `const`; the name's place left out.
+pub fn bound(
+    nodes: &mut [u32],
+    n: usize,
+    kind: u32,
+    word: Node,
+    right: u32,
+    start: u32,
+    end: u32,
+) -> Node
+    requires { ⌜ Free n (now nodes) ⌝ }
+    ensures { λ r. ⌜ Inserted n (number-of (binding-node kind)) start end (word .id ∷ word .start ∷ word .end ∷ right ∷ []) (now (nodes .entry)) (now (nodes .exit)) r ⌝ }
+{
+    match kind {
+        25 => ast::variable(nodes, n, word.id, word.start, word.end, right, start, end),
+        26 => ast::constant(nodes, n, word.id, word.start, word.end, right, start, end),
+        _ => ast::ref_(nodes, n, word.id, word.start, word.end, right, start, end),
+    }
+}
+
+// After a statement that began with a token of kind `first`: a `;` is taken. If there is none, the statement may be a tail, unless the `;` is required. It asks that
+// there is a token. Ruled out: a tail after a `;`; a `let` without one before another statement.
+pub fn semicolon(tokens: &[u32], node: Node, cur: Cursor, first: u32) -> Read
+    requires { ⌜ cur .at < count (now tokens) ⌝ }
+    ensures { λ r. ⌜ Ended (now (tokens .entry)) node cur first r ⌝ }
+{
+    let at = cur.at;
+    let kind = kind_at(tokens, at);
+    if kind == 41 {
+        let mut past = cur;
+        past.at = at + 1;
+        let ended = Node {
+            id: node.id,
+            start: 0,
+            end: ABSENT,
+        };
+        return Read::Node(ended, past);
+    }
+    let open = Node {
+        id: node.id,
+        start: 0,
+        end: node.id,
+    };
+    if kind == 21 {
+        return Read::Node(open, cur);
+    }
+    match first {
+        20 | 28 | 30 | 33 => Read::Node(open, cur),
+        _ => Read::Refused(Refusal {
+            code: 8,
+            at: at,
+            expected: 41,
+        }),
+    }
+}
+
+// A tail is no list item: it is not held. It asks that something is held where there is one.
+// Ruled out: a tail that is a list item too; a statement dropped where there is no tail.
+pub fn untailed(tail: u32, cur: Cursor) -> Read
+    requires { ⌜ ((tail ≡ absent → ⊥) → 1 ≤ cur .held) ⌝ }
+    ensures { λ r. ⌜ Untailed tail cur r ⌝ }
+{
+    let list = Node {
+        id: tail,
+        start: 0,
+        end: 0,
+    };
+    if tail == ABSENT {
+        return Read::Node(list, cur);
+    }
+    let held = cur.held;
+    let mut past = cur;
+    past.held = held - 1;
+    Read::Node(list, past)
+}

@@ -1,0 +1,2 @@
+pub mod Deciding
+pub mod Spellings
