@@ -1,20 +1,22 @@
--- The first code in order that finds something wrong: the checks before it found nothing.
-use Prim.Native.Nat.{ℕ, _+_, _/_, _≤_, _<_}
+-- The first code in order that finds something wrong: the checks before it found nothing. And what each contract of the door allows is one outcome.
+use Prim.Native.Nat.{ℕ, zero, suc, _+_, _≤_, _<_}
 use mathlib.Core.Bool.{cond}
 use mathlib.Core.List.{List}
-use mathlib.Core.Path.{_≡_, refl}
+use mathlib.Core.Path.{_≡_, refl, ap}
 use native.Mathlib.Decide.{decLt}
 use native.Mathlib.Omega.{arith}
-use borrow.Author.Count.{below-more}
+use borrow.Author.Tests.{ne-eqb}
 use lib.Dec.{eqb}
-use lib.ListN.{length, getD}
+use lib.ListN.{length, getD, replicate, length-replicate}
+use Rattle.grammar.specs.Answer.{Answer, refuse, Answers}
 use Rattle.grammar.specs.Call.{Call}
-use Rattle.grammar.specs.Door.{Whole, Roomy, Sound, Closed, First-without, Wrong, Turned-away}
+use Rattle.grammar.specs.Door.{Ascii, Sound, Closed, Admitted, Wrong}
 use Rattle.grammar.specs.Room.{Rooms}
-use Rattle.grammar.specs.Token.{count, start, end}
-use Rattle.grammar.proofs.Answers.{one-turn, admitted-not-wrong}
-use Rattle.door.specs.Entry.{Found, Highest, Right-list, Right-rooms, Measured, Listed, Case, Entered}
+use Rattle.grammar.specs.Token.{count}
+use Rattle.grammar.proofs.Answers.{one-first as one-place, one-turn, lent-admitted, admitted-not-wrong}
+use Rattle.door.specs.Entry.{Searched, Highest, Asks-lengths, Lengths-checked, List-checked, entry-numbers, Enters, Told, Entered}
 use Rattle.door.specs.declared.Entry.{Entry}
+use Rattle.door.proofs.Searching.{Passed, passed-none, passed-more, first-of}
 
 not-over : (n k : ℕ) → (k < n → ⊥) → n ≤ k
 not-over n k h = elim (decLt k n) [ yes z ↦ absurd (h z) | no z ↦ omega arith ]
@@ -22,122 +24,130 @@ not-over n k h = elim (decLt k n) [ yes z ↦ absurd (h z) | no z ↦ omega arit
 -- what the check with code k asks of a call
 abbrev pub Asks : Call → ℕ → Type 0
 Asks c k =
-    cond (eqb k 1) (Whole (c .tokens))
-    (cond (eqb k 2) (length (c .text) ≤ 65536)
-    (cond (eqb k 3) ((1 ≤ c .limit) × (c .limit ≤ 64))
-    (cond (eqb k 4) (Roomy c)
-    (cond (eqb k 5) ((i : ℕ) → i < length (c .text) → getD (c .text) i 0 ≤ 127)
+    cond (eqb k 5) (Ascii (c .text))
     (cond (eqb k 6) ((i : ℕ) → i < count (c .tokens) → Sound (c .text) (c .tokens) i)
     (cond (eqb k 7) ((i : ℕ) → i < count (c .tokens) → Closed (c .tokens) i)
-    (Unit {0})))))))
+    (Asks-lengths (length (c .tokens)) (length (c .text)) (c .limit) (length (c .rooms .nodes)) (length (c .rooms .links)) (length (c .rooms .symbols)) (length (c .rooms .scratch)) k)))
 
--- the call has what the checks before code n ask
-pub record Right (c : Call) (n : ℕ) : Type 0 where
-  pub has : (k : ℕ) → k < n → Asks c k
+-- where the checks before code n found nothing, no code below n finds anything wrong
+pub from : {c : Call} {n : ℕ} → Passed (Asks c) 8 n → {k a s e : ℕ} → Wrong c k a s e → n ≤ k
+from {n = n} r (Wrong.list x) = not-over n 1 (λ h. x (r .before 1 h))
+from {n = n} r (Wrong.text x) = not-over n 2 (λ h. let z = r .before 2 h in omega arith)
+from {n = n} r (Wrong.no-depth x) = not-over n 3 (λ h. let z = r .before 3 h in omega arith)
+from {n = n} r (Wrong.deep x) = not-over n 3 (λ h. let z = r .before 3 h in omega arith)
+from {n = n} r (Wrong.room x) = not-over n 4 (λ h. x (r .before 4 h))
+from {n = n} r (Wrong.byte {i = i} x) = not-over n 5 (λ h. x .lacks (r .before 5 h i (x .place)))
+from {n = n} r (Wrong.token {i = i} x) = not-over n 6 (λ h. x .lacks (r .before 6 h i (x .place)))
+from {n = n} r (Wrong.eof {i = i} x) = not-over n 7 (λ h. x .lacks (r .before 7 h i (x .place)))
 
-unchecked : {c : Call} → Right c 1
-unchecked {c} = record { has = below-more (Asks c) 0 (λ k h. absurd (omega arith)) tt }
+pub turned : {c : Call} {n a s e : ℕ} → Wrong c n a s e → Passed (Asks c) 8 n → Enters c (refuse n a s e 255)
+turned w r = Enters.turned (record { wrong = w; first = from r })
 
-passed : {c : Call} {n : ℕ} → Right c n → Asks c n → Right c (n + 1)
-passed {c} {n} r a = record { has = below-more (Asks c) n (r .has) a }
+-- what is asked of lengths where checks 1 to 4 find nothing
+module _ {list text limit nodes links symbols scratch : ℕ} where
+  pub right-lengths : {k : ℕ} → Lengths-checked list text limit nodes links symbols scratch k → k ≡ 0 → (j : ℕ) → j < 5 → Asks-lengths list text limit nodes links symbols scratch j
+  right-lengths (Lengths-checked.wrong f) e = absurd (f .lacks (rw e tt))
+  right-lengths (Lengths-checked.right f) e = f
 
--- then no code below n finds anything wrong
-pub from : {c : Call} {n : ℕ} → Right c n → {k a s e : ℕ} → Wrong c k a s e → n ≤ k
-from {n = n} r (Wrong.list x) = not-over n 1 (λ h. x (r .has 1 h))
-from {n = n} r (Wrong.text x) = not-over n 2 (λ h. let z = r .has 2 h in omega arith)
-from {n = n} r (Wrong.no-depth x) = not-over n 3 (λ h. let z = r .has 3 h in omega arith)
-from {n = n} r (Wrong.deep x) = not-over n 3 (λ h. let z = r .has 3 h in omega arith)
-from {n = n} r (Wrong.room x) = not-over n 4 (λ h. x (r .has 4 h))
-from {n = n} r (Wrong.byte {i = i} x) = not-over n 5 (λ h. x .lacks (r .has 5 h i (x .place)))
-from {n = n} r (Wrong.token {i = i} x) = not-over n 6 (λ h. x .lacks (r .has 6 h i (x .place)))
-from {n = n} r (Wrong.eof {i = i} x) = not-over n 7 (λ h. x .lacks (r .has 7 h i (x .place)))
+  -- two outcomes of `lengths` are equal
+  pub one-measure : {k l : ℕ} → Lengths-checked list text limit nodes links symbols scratch k → Lengths-checked list text limit nodes links symbols scratch l → k ≡ l
+  one-measure (Lengths-checked.wrong f) (Lengths-checked.wrong g) = one-place _ 5 f g
+  one-measure (Lengths-checked.wrong {k = k} f) (Lengths-checked.right g) = absurd (f .lacks (g k (f .place)))
+  one-measure (Lengths-checked.right f) (Lengths-checked.wrong {k = k} g) = absurd (g .lacks (f k (g .place)))
+  one-measure (Lengths-checked.right f) (Lengths-checked.right g) = refl
 
-pub turned : {c : Call} {n a s e : ℕ} → Wrong c n a s e → Right c n → Turned-away c n a s e
-turned w r = record { wrong = w; first = from r }
-
--- the first place of n without something
-pub first-of : {asked : ℕ → Type 0} {n i : ℕ} → i < n → Found asked n i → First-without asked n i
-first-of h f = record { place = h; lacks = f .lacks h; before = f .before }
-
--- what is right where checks 1 to 4 find nothing
-pub right-lengths : {list text limit nodes links symbols scratch k : ℕ} → Measured list text limit nodes links symbols scratch k → k ≡ 0 → Right-list list × (text ≤ 65536) × (1 ≤ limit) × (limit ≤ 64) × Right-rooms (list / 3) nodes links symbols scratch
-right-lengths (Measured.bad-list x) e = absurd (omega arith)
-right-lengths (Measured.long-text l x) e = absurd (omega arith)
-right-lengths (Measured.no-depth l t x) e = absurd (omega arith)
-right-lengths (Measured.deep l t x) e = absurd (omega arith)
-right-lengths (Measured.small l t d m x) e = absurd (omega arith)
-right-lengths (Measured.right l t d m r) e = (l, t, d, m, r)
-
-pub whole-list : (ts : List ℕ) → Right-list (length ts) → Whole ts
-whole-list ts r = record { rows = r .whole; some = r .some; most = r .most }
-
--- with lengths alone
+-- a call with these lists and rooms
 module _ (text ts : List ℕ) (limit : ℕ) (rooms : Rooms) where
   abbrev pub call : Call
   call = record { text = text; tokens = ts; limit = limit; rooms = rooms }
 
-  right-list : Whole ts → Right-list (length ts)
-  right-list w = record { whole = w .rows; some = w .some; most = w .most }
+  abbrev asked : ℕ → Type 0
+  asked = Asks-lengths (length ts) (length text) limit (length (rooms .nodes)) (length (rooms .links)) (length (rooms .symbols)) (length (rooms .scratch))
 
-  roomy-rooms : Right-rooms (count ts) (length (rooms .nodes)) (length (rooms .links)) (length (rooms .symbols)) (length (rooms .scratch)) → Roomy call
-  roomy-rooms r = record { nodes = r .nodes-fit; links = r .links-fit; symbols = r .symbols-fit; scratch = r .scratch-fit }
+  of-lengths : (k : ℕ) → k < 5 → asked k → Asks call k
+  of-lengths k h a = rw (ne-eqb k 5 (λ e. omega arith), ne-eqb k 6 (λ e. omega arith), ne-eqb k 7 (λ e. omega arith)) a
 
-  right-rooms : Roomy call → Right-rooms (count ts) (length (rooms .nodes)) (length (rooms .links)) (length (rooms .symbols)) (length (rooms .scratch))
-  right-rooms r = record { nodes-fit = r .nodes; links-fit = r .links; symbols-fit = r .symbols; scratch-fit = r .scratch }
+  wrong-lengths : (k : ℕ) → k < 5 → (asked k → ⊥) → Wrong call k 0 0 0
+  wrong-lengths zero h f = absurd (f tt)
+  wrong-lengths (suc zero) h f = Wrong.list f
+  wrong-lengths (suc (suc zero)) h f = Wrong.text (not-over _ _ (λ l. f (omega arith)))
+  wrong-lengths (suc (suc (suc zero))) h f = elim (decLt limit 1) [ yes l ↦ Wrong.no-depth (omega arith) | no l ↦ Wrong.deep (not-over _ _ (λ m. f (omega arith, omega arith))) ]
+  wrong-lengths (suc (suc (suc (suc zero)))) h f = Wrong.room f
+  wrong-lengths (suc (suc (suc (suc (suc k))))) h f = absurd (omega arith)
 
   -- checks 1 to 4
-  pub measured : {k : ℕ} → Measured (length ts) (length text) limit (length (rooms .nodes)) (length (rooms .links)) (length (rooms .symbols)) (length (rooms .scratch)) k → (k ≡ 0 → ⊥) → Turned-away call k 0 0 0
-  measured (Measured.bad-list x) n = turned (Wrong.list (λ w. x (right-list w))) unchecked
-  measured (Measured.long-text l x) n = turned (Wrong.text x) (passed unchecked (whole-list ts l))
-  measured (Measured.no-depth l t x) n = turned (Wrong.no-depth x) (passed (passed unchecked (whole-list ts l)) t)
-  measured (Measured.deep l t x) n = turned (Wrong.deep x) (passed (passed unchecked (whole-list ts l)) t)
-  measured (Measured.small l t d m x) n = turned (Wrong.room (λ r. x (right-rooms r))) (passed (passed (passed unchecked (whole-list ts l)) t) (d, m))
-  measured (Measured.right l t d m r) n = absurd (n refl)
+  pub measured : {k : ℕ} → Lengths-checked (length ts) (length text) limit (length (rooms .nodes)) (length (rooms .links)) (length (rooms .symbols)) (length (rooms .scratch)) k → (k ≡ 0 → ⊥) → Enters call (refuse k 0 0 0 255)
+  measured (Lengths-checked.wrong {k = k} f) n = turned (wrong-lengths k (f .place) (f .lacks)) (record { most = omega (arith, f .place); before = λ j h. of-lengths j (omega (arith, f .place)) (f .before j h) })
+  measured (Lengths-checked.right f) n = absurd (n refl)
 
-  pub measures : {k : ℕ} → Measured (length ts) (length text) limit (length (rooms .nodes)) (length (rooms .links)) (length (rooms .symbols)) (length (rooms .scratch)) k → k ≡ 0 → Right call 5
-  measures x e =
-      let (l, t, d, m, r) = right-lengths x e in
-      passed (passed (passed (passed unchecked (whole-list ts l)) t) (d, m)) (roomy-rooms r)
+  pub measures : {k : ℕ} → Lengths-checked (length ts) (length text) limit (length (rooms .nodes)) (length (rooms .links)) (length (rooms .symbols)) (length (rooms .scratch)) k → k ≡ 0 → Passed (Asks call) 8 5
+  measures x e = record { most = omega arith; before = λ j h. of-lengths j h (right-lengths x e j h) }
 
   -- checks 6 and 7
-  pub listing : {r : Entry} → Right call 6 → Listed text ts r → Case call r
-  unfolding Case
-  listing m (Listed.unsound h f) = turned (Wrong.token (first-of h f)) m
-  listing m (Listed.unclosed h s f) = turned (Wrong.eof (first-of h f)) (passed m s)
-  listing m (Listed.let-in s z) =
-      let (d, e) = m .has 3 (omega arith) in
-      record { whole = m .has 1 (omega arith); short = m .has 2 (omega arith); some-depth = d; least-depth = e; roomy = m .has 4 (omega arith); ascii = m .has 5 (omega arith); sound = s; closed = z }
-
--- every place has it where the search found none
-pub all-have : {asked : ℕ → Type 0} {n r : ℕ} → Found asked n r → n ≤ r → (j : ℕ) → j < n → asked j
-all-have f h j i = f .before j (omega arith)
+  pub listing : {r : Entry} → Passed (Asks call) 8 6 → List-checked text ts r → Enters call (entry-numbers r)
+  listing m (List-checked.unsound f) = turned (Wrong.token f) m
+  listing m (List-checked.unclosed s f) = turned (Wrong.eof f) (passed-more m (omega arith) s)
+  listing m (List-checked.let-in l) =
+      let (d, e) = m .before 3 (omega arith) in
+      Enters.let-in (lent-admitted l (m .before 2 (omega arith)) d e (m .before 4 (omega arith)))
 
 -- no byte is over 127 where the highest is not; and where it is, the search finds one
-pub none-high : {text : List ℕ} {r : ℕ} → Highest text (length text) r → r ≤ 127 → (i : ℕ) → i < length text → getD text i 0 ≤ 127
+pub none-high : {text : List ℕ} {r : ℕ} → Highest text (length text) r → r ≤ 127 → Ascii text
 none-high x h i s = omega (arith, x .most i s)
 
-pub found-high : {text : List ℕ} {r i : ℕ} → Highest text (length text) r → 127 < r → Found (λ j. getD text j 0 ≤ 127) (length text) i → i < length text
+pub found-high : {text : List ℕ} {r i : ℕ} → Highest text (length text) r → 127 < r → Searched (λ j. getD text j 0 ≤ 127) (length text) i → i < length text
 found-high {text} {r} {i} x h f =
     let (j, l, e) = x .there (omega arith) in
     elim (decLt i (length text)) [ yes z ↦ z | no z ↦ absurd (omega (arith, f .before j (omega arith))) ]
 
+listed-told : {text ts : List ℕ} {r : Entry} → List-checked text ts r → Told r
+listed-told (List-checked.unsound f) = omega arith
+listed-told (List-checked.unclosed s f) = omega arith
+listed-told (List-checked.let-in l) = tt
+
 -- the answers, for rooms of any content
-module _ {text ts : List ℕ} {limit nodes links symbols scratch k : ℕ} (m : Measured (length ts) (length text) limit nodes links symbols scratch k) where
+module _ {text ts : List ℕ} {limit nodes links symbols scratch k : ℕ} (m : Lengths-checked (length ts) (length text) limit nodes links symbols scratch k) where
   pub by-lengths : (k ≡ 0 → ⊥) → Entered text ts limit nodes links symbols scratch (Entry.Refused (record { code = k; at = 0; start = 0; end = 0 }))
-  unfolding Case
-  by-lengths n = record { says = λ rooms a b d e. measured text ts limit rooms (rw (a, b, d, e) m) n }
+  by-lengths n = record { told = omega arith; says = λ rooms a b d e. measured text ts limit rooms (rw (a, b, d, e) m) n }
 
-  pub by-byte : {r i : ℕ} → k ≡ 0 → Highest text (length text) r → 127 < r → Found (λ j. getD text j 0 ≤ 127) (length text) i → Entered text ts limit nodes links symbols scratch (Entry.Refused (record { code = 5; at = 0; start = i; end = i + 1 }))
-  unfolding Case
-  by-byte z x h f = record { says = λ rooms a b d e. turned (Wrong.byte (first-of (found-high x h f) f)) (measures text ts limit rooms (rw (a, b, d, e) m) z) }
+  pub by-byte : {r i : ℕ} → k ≡ 0 → Highest text (length text) r → 127 < r → Searched (λ j. getD text j 0 ≤ 127) (length text) i → Entered text ts limit nodes links symbols scratch (Entry.Refused (record { code = 5; at = 0; start = i; end = i + 1 }))
+  by-byte z x h f = record { told = omega arith; says = λ rooms a b d e. turned (Wrong.byte (first-of (found-high x h f) f)) (measures text ts limit rooms (rw (a, b, d, e) m) z) }
 
-  pub by-list : {q : Entry} → k ≡ 0 → ((i : ℕ) → i < length text → getD text i 0 ≤ 127) → Listed text ts q → Entered text ts limit nodes links symbols scratch q
-  by-list z h l = record { says = λ rooms a b d e. listing text ts limit rooms (passed (measures text ts limit rooms (rw (a, b, d, e) m) z) h) l }
+  pub by-list : {q : Entry} → k ≡ 0 → Ascii text → List-checked text ts q → Entered text ts limit nodes links symbols scratch q
+  by-list z h l = record { told = listed-told l; says = λ rooms a b d e. listing text ts limit rooms (passed-more (measures text ts limit rooms (rw (a, b, d, e) m) z) (omega arith) h) l }
 
--- a call has one entry
-pub one-entry : (c : Call) (r s : Entry) → Case c r → Case c s → r ≡ s
-unfolding Case
-one-entry c Entry.Open Entry.Open x y = refl
-one-entry c Entry.Open (Entry.Refused q) x y = absurd (admitted-not-wrong x (y .wrong))
-one-entry c (Entry.Refused q) Entry.Open x y = absurd (admitted-not-wrong y (x .wrong))
-one-entry c (Entry.Refused p) (Entry.Refused q) x y = let e = one-turn x y in λ i. Entry.Refused (record { code = e i .code; at = e i .at; start = e i .start; end = e i .end })
+-- what the numbers of an entry say
+module _ {c : Call} where
+  pub opened : {a : Answer} → Enters c a → a .code ≡ 0 → Admitted c
+  opened (Enters.let-in d) e = d
+  opened (Enters.turned x) e = absurd (omega (arith, from (passed-more passed-none (omega arith) tt) (x .wrong)))
+
+  pub shut : {a : Answer} → Enters c a → 1 ≤ a .code → Answers c a (c .rooms)
+  shut (Enters.let-in d) h = absurd (omega arith)
+  shut (Enters.turned x) h = Answers.turned-away x
+
+  one-numbers : {a b : Answer} → Enters c a → Enters c b → a ≡ b
+  one-numbers (Enters.let-in d) (Enters.let-in f) = refl
+  one-numbers (Enters.let-in d) (Enters.turned y) = absurd (admitted-not-wrong d (y .wrong))
+  one-numbers (Enters.turned x) (Enters.let-in f) = absurd (admitted-not-wrong f (x .wrong))
+  one-numbers (Enters.turned x) (Enters.turned y) = one-turn x y
+
+same-entry : (r s : Entry) → Told r → Told s → entry-numbers r ≡ entry-numbers s → r ≡ s
+same-entry Entry.Open Entry.Open t u e = refl
+same-entry Entry.Open (Entry.Refused q) t u e = absurd (omega (arith, ap (λ a. a .code) e))
+same-entry (Entry.Refused p) Entry.Open t u e = absurd (omega (arith, ap (λ a. a .code) e))
+same-entry (Entry.Refused p) (Entry.Refused q) t u e = λ i. Entry.Refused (record { code = e i .code; at = e i .at; start = e i .start; end = e i .end })
+
+-- two outcomes of `check` are equal
+pub one-entry : {text ts : List ℕ} {limit nodes links symbols scratch : ℕ} {r s : Entry} → Entered text ts limit nodes links symbols scratch r → Entered text ts limit nodes links symbols scratch s → r ≡ s
+one-entry {nodes = ns} {links = ls} {symbols = ys} {scratch = ss} {r = r} {s = s} x y =
+    let rooms : Rooms = record { nodes = replicate ns 0; links = replicate ls 0; symbols = replicate ys 0; scratch = replicate ss 0 } in
+    same-entry r s (x .told) (y .told) (one-numbers (x .says rooms (length-replicate ns 0) (length-replicate ls 0) (length-replicate ys 0) (length-replicate ss 0)) (y .says rooms (length-replicate ns 0) (length-replicate ls 0) (length-replicate ys 0) (length-replicate ss 0)))
+
+-- two outcomes of `highest` are equal
+module _ {text : List ℕ} {n : ℕ} where
+  no-higher : {r s : ℕ} → Highest text n r → Highest text n s → r ≤ s
+  no-higher {r} {s} x y = elim (decLt 0 r) [ yes h ↦ let (i, l, e) = x .there h in omega (arith, y .most i l) | no h ↦ omega arith ]
+
+  pub one-highest : {r s : ℕ} → Highest text n r → Highest text n s → r ≡ s
+  one-highest x y = omega (arith, no-higher x y, no-higher y x)

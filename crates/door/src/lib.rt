@@ -1,17 +1,17 @@
 // The door: checks 1 to 7 of document 01, in order. A call that is let in is one that the readers can read without a test of their own.
-use token::lexeme::fits;
+use lexeme::fits;
+use spelling::words;
 use token::list::end_at;
 use token::list::kind_at;
 use token::list::start_at;
-use token::spelling::words;
 ghost use mathlib.Core.Path.{_≡_};
 ghost use Prim.Native.Nat.{_/_, _≤_, _<_};
 ghost use lib.ListN.{length, getD};
-ghost use Rattle.grammar.specs.Door.{Whole, Sound, Closed};
+ghost use Rattle.grammar.specs.Door.{Whole, Ascii, Sound, Closed};
 ghost use Rattle.grammar.specs.Token.{count};
-ghost use Rattle.token.specs.Decides.{Decides};
-ghost use Rattle.token.specs.Words.{table};
-ghost use Rattle.door.specs.Entry.{Found, Highest, Measured, Listed, Entered};
+ghost use Rattle.spelling.specs.Decides.{Decides};
+ghost use Rattle.spelling.specs.Words.{table};
+ghost use Rattle.door.specs.Entry.{Searched, Highest, Lengths-checked, List-checked, Entered};
 
 // The code, and the numbers at, start and end. No certain kind is ever required here.
 pub struct Refusal {
@@ -26,7 +26,7 @@ pub enum Entry {
     Refused(Refusal),
 }
 
-// The first of checks 1 to 4 that fails, of lengths alone, or 0. For the crates above, too.
+// The first of checks 1 to 4 that finds something wrong, of lengths and the limit alone, or 0.
 // Ruled out: 4 where the limit is 0; 0 for a list of 4,097 tokens.
 pub fn lengths(
     list: usize,
@@ -37,7 +37,7 @@ pub fn lengths(
     symbols: usize,
     scratch: usize,
 ) -> u32
-    ensures { λ r. ⌜ Measured list text limit nodes links symbols scratch r ⌝ }
+    ensures { λ r. ⌜ Lengths-checked list text limit nodes links symbols scratch r ⌝ }
 {
     let tokens = list / 3;
     if list % 3 != 0 {
@@ -73,9 +73,10 @@ pub fn lengths(
     0
 }
 
-// The first byte over 127, or the text's length. For the crates above, too. Ruled out: a later byte over 127; the length where there is one.
+// The first byte over 127, or the text's length.
+// Ruled out: a later byte over 127; the length where there is one.
 pub fn first_high(text: &[u8]) -> usize
-    ensures { λ r. ⌜ Found (λ i. getD (now (text .entry)) i 0 ≤ 127) (length (now (text .entry))) r ⌝ }
+    ensures { λ r. ⌜ Searched (λ i. getD (now (text .entry)) i 0 ≤ 127) (length (now (text .entry))) r ⌝ }
 {
     let mut i = 0;
     while i < text.len() {
@@ -87,7 +88,7 @@ pub fn first_high(text: &[u8]) -> usize
     i
 }
 
-// The highest byte, or 0 of an empty text. The loop has no other way out, so that many bytes are compared at once. For the crates above, too.
+// The highest byte, or 0 of an empty text. The loop has no other way out, so that many bytes are compared at once.
 // Ruled out: the last byte; a byte that the text does not have.
 pub fn highest(text: &[u8]) -> u8
     ensures { λ r. ⌜ Highest (now (text .entry)) (length (now (text .entry))) r ⌝ }
@@ -132,7 +133,7 @@ fn sound(words: &[u8], text: &[u8], tokens: &[u32], at: usize) -> bool
 
 // The first token that is bad in any of these ways, or the count.
 fn first_unsound(text: &[u8], tokens: &[u32]) -> usize
-    ensures { λ r. ⌜ Found (Sound (now (text .entry)) (now (tokens .entry))) (count (now (tokens .entry))) r ⌝ }
+    ensures { λ r. ⌜ Searched (Sound (now (text .entry)) (now (tokens .entry))) (count (now (tokens .entry))) r ⌝ }
 {
     let count = tokens.len() / 3;
     let table = words();
@@ -148,7 +149,7 @@ fn first_unsound(text: &[u8], tokens: &[u32]) -> usize
 
 // The first Eof that is not last, or a last token that is none; or the count.
 fn first_unclosed(tokens: &[u32]) -> usize
-    ensures { λ r. ⌜ Found (Closed (now (tokens .entry))) (count (now (tokens .entry))) r ⌝ }
+    ensures { λ r. ⌜ Searched (Closed (now (tokens .entry))) (count (now (tokens .entry))) r ⌝ }
 {
     let count = tokens.len() / 3;
     let mut i = 0;
@@ -168,10 +169,10 @@ fn first_unclosed(tokens: &[u32]) -> usize
     i
 }
 
-// Checks 6 and 7.
+// Checks 6 and 7, of what checks 1 and 5 let through.
 fn listed(text: &[u8], tokens: &[u32]) -> Entry
-    requires { ⌜ Whole (now tokens) ⌝ }
-    ensures { λ r. ⌜ Listed (now (text .entry)) (now (tokens .entry)) r ⌝ }
+    requires { ⌜ Whole (now tokens) × Ascii (now text) ⌝ }
+    ensures { λ r. ⌜ List-checked (now (text .entry)) (now (tokens .entry)) r ⌝ }
 {
     let count = tokens.len() / 3;
     let bad = first_unsound(text, tokens);

@@ -12,8 +12,8 @@ use Rattle.ast.specs.Written.{Written, Cleared}
 use Rattle.grammar.specs.Kind.{Eof}
 use Rattle.grammar.specs.Room.{cleared, filled}
 use Rattle.grammar.specs.Token.{count}
-use Rattle.lexer.specs.Reads.{blank, Stands, Longest, Blank, Reads, Stops}
-use Rattle.lexer.specs.Parts.{Case, Starts, Capacity, Kept}
+use Rattle.lexer.specs.Reads.{blank, Stands, Longest, Blank, Text-reads, Stops}
+use Rattle.lexer.specs.Parts.{Start-case, Starts, Capacity, Kept}
 use Rattle.lexer.specs.Lexes.{success, refuse, Readable, Lexes}
 use Rattle.lexer.specs.declared.Found.{Found}
 use Rattle.lexer.proofs.Standing.{stands-some}
@@ -33,17 +33,17 @@ module _ {text : List ℕ} {i : ℕ} where
       so b z t = rw z at t
 
   pub token-there : {r : Found} {k e : ℕ} → r ≡ Found.Token k e → Starts text i r → Longest text k i e
-  unfolding Case
+  unfolding Start-case
   token-there z s = (rw z at s) .says
 
   pub nothing-there : {r : Found} → r ≡ Found.Nothing → Starts text i r → (k e : ℕ) → Stands text k i e → ⊥
-  unfolding Case
+  unfolding Start-case
   nothing-there z s = (rw z at s) .says
 
 pub record Made (text room : List ℕ) (rows : ℕ) (list : List ℕ) (n at : ℕ) : Type 0 where
   pub ts : List ℕ
   pub size : length ts ≡ 3 * n
-  pub reads : (us : List ℕ) → Reads text at us → Reads text 0 (ts ++ us)
+  pub reads : (us : List ℕ) → Text-reads text at us → Text-reads text 0 (ts ++ us)
   pub stops : (j : ℕ) → Stops text at j → Stops text 0 j
   pub written : n ≤ rows → take (3 * n) list ≡ ts
   pub same : length list ≡ length room
@@ -59,7 +59,7 @@ module _ {text room : List ℕ} {rows : ℕ} {list : List ℕ} {n at : ℕ} (m :
       record {
         ts = m .ts;
         size = m .size;
-        reads = λ us r. m .reads us (Reads.skip b (rw add-one at r));
+        reads = λ us r. m .reads us (Text-reads.skip b (rw add-one at r));
         stops = λ j s. m .stops j (Stops.skip b (rw add-one at s));
         written = m .written;
         same = m .same;
@@ -72,7 +72,7 @@ module _ {text room : List ℕ} {rows : ℕ} {list : List ℕ} {n at : ℕ} (m :
       record {
         ts = m .ts ++ k ∷ at ∷ e ∷ [];
         size = length-append (m .ts) (k ∷ at ∷ e ∷ []) ∙ omega (arith, m .size);
-        reads = λ us r. rw append-assoc (m .reads (k ∷ at ∷ e ∷ us) (Reads.token l r));
+        reads = λ us r. rw append-assoc (m .reads (k ∷ at ∷ e ∷ us) (Text-reads.token l r));
         stops = λ j s. m .stops j (Stops.token l s);
         written = λ h. w .row (omega arith) .rows ∙ ap (λ (x : List ℕ). x ++ k ∷ at ∷ e ∷ []) (m .written (omega arith));
         same = w .size ∙ m .same;
@@ -88,8 +88,8 @@ module _ {text room : List ℕ} {rows : ℕ} {list : List ℕ} {n at : ℕ} (m :
   stopped r h b s z = rw (all-zeros z) (Lexes.no-token r (m .stops at (Stops.here h b s)))
 
   -- the list of all tokens, Eof last
-  whole : at ≡ length text → Reads text 0 (m .ts ++ Eof ∷ at ∷ at ∷ [])
-  whole e = m .reads (Eof ∷ at ∷ at ∷ []) (Reads.end e)
+  whole : at ≡ length text → Text-reads text 0 (m .ts ++ Eof ∷ at ∷ at ∷ [])
+  whole e = m .reads (Eof ∷ at ∷ at ∷ []) (Text-reads.end e)
 
   counted : count (m .ts ++ Eof ∷ at ∷ at ∷ []) ≡ n + 1
   counted = rw (length-append (m .ts) (Eof ∷ at ∷ at ∷ [])) (omega (arith, m .size))

@@ -9,12 +9,12 @@ use lib.ListN.{length, getD}
 use borrow.Author.Tests.{eqb-true, eqb-false}
 use Rattle.grammar.specs.Pattern.{Pattern, byte, sequence, matches, bytes, among, digit, some, maybe}
 use Rattle.grammar.specs.Token.{lexeme}
-use Rattle.token.specs.Parts.{signed, power}
-use Rattle.token.specs.Run.{Ran}
-use Rattle.token.proofs.Numbers.{rest, rest-none, power-shy, rest-other, rest-point, power-none, power-first, signed-none, signed-sign, signed-digits}
+use Rattle.lexeme.specs.Parts.{signed, power}
+use Rattle.lexeme.specs.Run.{Ran}
+use Rattle.lexeme.proofs.Numbers.{rest, rest-none, power-shy, rest-other, rest-point, power-none, power-first, signed-none, signed-sign, signed-digits}
 use Rattle.grammar.proofs.Lexemes.{at-first, at-end}
 use Rattle.grammar.proofs.Matching.{either-says, no-byte}
-use Rattle.lexer.specs.Parts.{Ends}
+use Rattle.lexer.specs.Parts.{Stretch-ends}
 use Rattle.lexer.proofs.Stretches.{Becomes, stays, run-none}
 
 -- two patterns that say the same at a place, of the empty text and of any other
@@ -40,7 +40,7 @@ module _ {text : List ℕ} {i : ℕ} where
   pub a-point : getD text i 0 ≡ 46 → i < length text → Becomes rest (sequence (some (byte digit)) (maybe power)) text i (i + 1)
   a-point d h = record { onward = omega arith; alike = λ e l m. at-first rest text i e (omega arith) m ∙ rest-point _ _ d }
 
-  pub lone-point : {r : ℕ} → getD text i 0 ≡ 46 → i < length text → Ran digit text (i + 1) (length text) r → r ≡ i + 1 → Ends rest text i i
+  pub lone-point : {r : ℕ} → getD text i 0 ≡ 46 → i < length text → Ran digit text (i + 1) (length text) r → r ≡ i + 1 → Stretch-ends rest text i i
   lone-point d h ran z = stays (omega arith) rest-none (λ e l m. a-point d h .alike e (omega arith) m ∙ run-none ran power-shy z e (omega arith) m)
 
   -- a sign, or none
@@ -51,5 +51,5 @@ module _ {text : List ℕ} {i : ℕ} where
   no-sign s = alike-here (signed-none ∙ sym no-digits) (λ e h m. at-first signed text i e h m ∙ signed-digits _ _ s ∙ sym (at-first (some (byte digit)) text i e h m))
 
   -- no exponent
-  pub no-power : i ≤ length text → among (bytes "eE") (getD text i 0) ≡ false → Ends (maybe power) text i i
+  pub no-power : i ≤ length text → among (bytes "eE") (getD text i 0) ≡ false → Stretch-ends (maybe power) text i i
   no-power h n = stays h power-none (λ e l m. at-first (maybe power) text i e l m ∙ power-first _ _ ∙ rw n)

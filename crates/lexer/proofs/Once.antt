@@ -11,7 +11,7 @@ use Rattle.grammar.specs.Room.{filled}
 use Rattle.grammar.specs.Token.{count, lexeme}
 use Rattle.grammar.proofs.Answers.{one-first}
 use Rattle.grammar.proofs.Tests.{as-true}
-use Rattle.lexer.specs.Reads.{Stands, Longest, Blank, Reads, Stops}
+use Rattle.lexer.specs.Reads.{Stands, Longest, Blank, Text-reads, Stops}
 use Rattle.lexer.specs.Lexes.{success, Readable, Lexes}
 use Rattle.lexer.specs.declared.Lexed.{Lexed}
 use Rattle.lexer.proofs.Sorts.{Sort, blank-none, one-kind}
@@ -47,10 +47,10 @@ data Goes (text : List ℕ) : ℕ → Outcome → Type 0 where
   skip : {i : ℕ} {o : Outcome} → Blank text i → Goes text (suc i) o → Goes text i o
   token : {k i e : ℕ} {o p : Outcome} → Longest text k i e → Goes text e o → p ≡ put-before k i e o → Goes text i p
 
-reading : {text ts : List ℕ} {i : ℕ} → Reads text i ts → Goes text i (Outcome.tokens ts)
-reading (Reads.end e) = Goes.end e
-reading (Reads.skip b r) = Goes.skip b (reading r)
-reading (Reads.token l r) = Goes.token l (reading r) refl
+reading : {text ts : List ℕ} {i : ℕ} → Text-reads text i ts → Goes text i (Outcome.tokens ts)
+reading (Text-reads.end e) = Goes.end e
+reading (Text-reads.skip b r) = Goes.skip b (reading r)
+reading (Text-reads.token l r) = Goes.token l (reading r) refl
 
 stopping : {text : List ℕ} {i j : ℕ} → Stops text i j → Goes text i (Outcome.stop j)
 stopping (Stops.here h b s) = Goes.here h b s
@@ -81,13 +81,13 @@ one-outcome (Goes.token {k = k} {i = i} {e = e} {o = o} l r z) (Goes.token {k = 
 
 -- a text reads as one list at most, stops at one byte at most, and not both
 module _ {text : List ℕ} {i : ℕ} where
-  pub one-list : {ts us : List ℕ} → Reads text i ts → Reads text i us → ts ≡ us
+  pub one-list : {ts us : List ℕ} → Text-reads text i ts → Text-reads text i us → ts ≡ us
   one-list r s = let e = one-outcome (reading r) (reading s) in cc
 
   pub one-stop : {j k : ℕ} → Stops text i j → Stops text i k → j ≡ k
   one-stop r s = let e = one-outcome (stopping r) (stopping s) in cc
 
-  pub read-not-stopped : {ts : List ℕ} {j : ℕ} → Reads text i ts → Stops text i j → ⊥
+  pub read-not-stopped : {ts : List ℕ} {j : ℕ} → Text-reads text i ts → Stops text i j → ⊥
   read-not-stopped r s = let e = one-outcome (reading r) (stopping s) in let z : _≡_ {A = ℕ} 0 1 = cc in omega arith
 
 -- a text that codes 2 and 5 let through has no byte over 127

@@ -1,16 +1,16 @@
--- Every list that the maker makes passes checks 6 and 7, and check 1's count: by the way in which the text reads.
+-- Every list that the maker makes is one that checks 1 and 5 to 7 let through: by the way in which the text reads.
 use Prim.Native.Nat.{ℕ, zero, suc, _+_, _*_, _≤_, _<_}
 use mathlib.Core.List.{List, [], _∷_}
 use mathlib.Core.Path.{_≡_, refl, sym, _∙_}
 use native.Mathlib.Omega.{arith}
 use lib.ListN.{length, getD, take}
 use lib.Seq.{take-at}
-use Rattle.grammar.specs.Door.{Whole, Sound, Closed}
+use Rattle.grammar.specs.Door.{Ascii, Sound, Closed, Lent}
 use Rattle.grammar.specs.Kind.{Eof}
 use Rattle.grammar.specs.Token.{count, kind, start, end, lexeme}
-use Rattle.token.proofs.Fitting.{fits-at-end}
-use Rattle.lexer.specs.Reads.{Longest, Reads}
-use Rattle.lexer.specs.Lexes.{Readable, Lexes}
+use Rattle.lexeme.proofs.Fitting.{fits-at-end}
+use Rattle.lexer.specs.Reads.{Longest, Text-reads}
+use Rattle.lexer.specs.Lexes.{Lexes}
 use Rattle.lexer.specs.declared.Lexed.{Lexed}
 
 -- what checks 6 and 7 ask, of tokens from i on
@@ -78,29 +78,24 @@ good-token {text} {ts} {k} {i} {e} l g =
     closed zero h = record { only = λ z. absurd (omega (arith, l .stands .known)); last = λ z. absurd (omega (arith, count-on k i e ts, g .some)) }
     closed (suc j) h = closed-on k i e ts j (g .closed j (omega (arith, count-on k i e ts)))
 
-good : {text ts : List ℕ} {i : ℕ} → Reads text i ts → Good text ts i
-good (Reads.end e) = good-end e
-good (Reads.skip b r) = let g = good r in record { rows = g .rows; some = g .some; begins = omega (arith, g .begins); sound = g .sound; closed = g .closed }
-good (Reads.token l r) = good-token l (good r)
+good : {text ts : List ℕ} {i : ℕ} → Text-reads text i ts → Good text ts i
+good (Text-reads.end e) = good-end e
+good (Text-reads.skip b r) = let g = good r in record { rows = g .rows; some = g .some; begins = omega (arith, g .begins); sound = g .sound; closed = g .closed }
+good (Text-reads.token l r) = good-token l (good r)
 
--- what checks 1, 6 and 7 let through
-pub record Passes (text ts : List ℕ) : Type 0 where
-  pub whole : Whole ts
-  pub sound : (i : ℕ) → i < count ts → Sound text ts i
-  pub closed : (i : ℕ) → i < count ts → Closed ts i
-
-pub reads-pass : {text ts : List ℕ} {i : ℕ} → Reads text i ts → count ts ≤ 4096 → Passes text ts
-reads-pass r h = let g = good r in record { whole = record { rows = g .rows; some = g .some; most = h }; sound = g .sound; closed = g .closed }
+-- a list of at most 4,096 tokens that a text without bytes over 127 reads as
+pub reads-lent : {text ts : List ℕ} {i : ℕ} → Ascii text → Text-reads text i ts → count ts ≤ 4096 → Lent text ts
+reads-lent a r h = let g = good r in record { whole = record { rows = g .rows; some = g .some; most = h }; ascii = a; sound = g .sound; closed = g .closed }
 
 -- the tokens of a list room that the maker leaves with code 0: those that the text reads as, and what checks 1, 2, 5, 6 and 7 let through
 pub record Made (text ts : List ℕ) : Type 0 where
-  pub readable : Readable text
-  pub reads : Reads text 0 ts
-  pub passes : Passes text ts
+  pub short : length text ≤ 65536
+  pub reads : Text-reads text 0 ts
+  pub lent : Lent text ts
 
 pub made-list : {text room after : List ℕ} {a : Lexed} → Lexes text room a after → a .code ≡ 0 → Made text (take (3 * a .count) after)
 made-list (Lexes.long h) z = absurd (omega arith)
 made-list (Lexes.high h f) z = absurd (omega arith)
 made-list (Lexes.no-token x s) z = absurd (omega arith)
 made-list (Lexes.too-many x r f) z = absurd (omega arith)
-made-list (Lexes.made {ts = ts} x r f) z = rw (take-at ts _ (3 * count ts) (good r .rows)) (record { readable = x; reads = r; passes = reads-pass r (f .most) })
+made-list (Lexes.made {ts = ts} x r f) z = rw (take-at ts _ (3 * count ts) (good r .rows)) (record { short = x .short; reads = r; lent = reads-lent (x .ascii) r (f .most) })

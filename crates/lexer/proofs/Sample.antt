@@ -6,11 +6,11 @@ use native.Mathlib.Omega.{arith}
 use Rattle.grammar.specs.Kind.{NumberLiteral, Dot, Identifier, Eof}
 use Rattle.grammar.specs.Lexeme.{spelling}
 use Rattle.grammar.specs.Pattern.{bytes, digit}
-use Rattle.token.specs.Parts.{Word}
-use Rattle.token.specs.Run.{Ran}
-use Rattle.token.proofs.Keywords.{no-letter}
-use Rattle.token.proofs.Numbers.{rest-shy}
-use Rattle.lexer.specs.Reads.{Longest, Reads}
+use Rattle.lexeme.specs.Parts.{Word}
+use Rattle.lexeme.specs.Run.{Ran}
+use Rattle.lexeme.proofs.Keywords.{no-letter}
+use Rattle.lexeme.proofs.Numbers.{rest-shy}
+use Rattle.lexer.specs.Reads.{Longest, Text-reads}
 use Rattle.lexer.specs.Parts.{Spelt}
 use Rattle.lexer.proofs.Numbers.{lone-point}
 use Rattle.lexer.proofs.Sorts.{other-byte}
@@ -37,5 +37,5 @@ x : Longest text Identifier 2 3
 unfolding spelling
 x = a-word refl (ended (byte-on (omega arith) refl) (many-stop (omega arith) (λ h. absurd (omega arith)))) (Word.name (no-letter (bytes "abcefilnortw") (bytes "x") tt refl))
 
-pub sample : Reads text 0 (NumberLiteral ∷ 0 ∷ 1 ∷ Dot ∷ 1 ∷ 2 ∷ Identifier ∷ 2 ∷ 3 ∷ Eof ∷ 3 ∷ 3 ∷ [])
-sample = Reads.token one (Reads.token point (Reads.token x (Reads.end refl)))
+pub sample : Text-reads text 0 (NumberLiteral ∷ 0 ∷ 1 ∷ Dot ∷ 1 ∷ 2 ∷ Identifier ∷ 2 ∷ 3 ∷ Eof ∷ 3 ∷ 3 ∷ [])
+sample = Text-reads.token one (Text-reads.token point (Text-reads.token x (Text-reads.end refl)))

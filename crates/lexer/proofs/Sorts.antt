@@ -1,7 +1,7 @@
 -- What the first byte of a text decides: which kinds can fit it. A digit, a quote and a letter leave one pattern each, and any other byte the signs, which have one byte or one
 -- and `=`. What is asked of the spellings is computed over their table.
-use Prim.Native.Nat.{ℕ, zero, suc, _≤_, _<_}
-use mathlib.Core.Bool.{Bool, true, false, cond, not, _&&_, _||_, or-false}
+use Prim.Native.Nat.{ℕ, _≤_, _<_}
+use mathlib.Core.Bool.{Bool, true, false, not, _&&_, _||_, or-false}
 use mathlib.Core.List.{List, [], _∷_, _++_}
 use mathlib.Core.Logic.{_⊎_, inl, inr}
 use mathlib.Core.Path.{_≡_, refl, sym, ap, _∙_}
@@ -14,14 +14,15 @@ use Rattle.grammar.specs.Lexeme.{letter, number, string, identifier, spelling, 
 use Rattle.grammar.specs.Pattern.{Pattern, Matches, byte, sequence, matches, nullable, after, bytes, among, from-to, digit}
 use Rattle.grammar.specs.Rows.{same}
 use Rattle.grammar.proofs.Patterns.{matches-sound}
-use Rattle.token.specs.Parts.{Keyword, Word}
-use Rattle.token.proofs.Fitting.{spelled-pattern}
-use Rattle.token.proofs.Keywords.{first}
-use Rattle.token.proofs.Ranges.{member}
+use Rattle.lexeme.specs.Parts.{Keyword, Word}
+use Rattle.lexeme.proofs.Fitting.{spelled-pattern}
+use Rattle.lexeme.proofs.Keywords.{first, one-word}
+use Rattle.spelling.proofs.Spellings.{all-spelt, one-spelling}
+use Rattle.grammar.proofs.Ranges.{member}
 use Rattle.grammar.proofs.Matching.{literal-same}
-use Rattle.grammar.proofs.Tests.{both, as-true, passes, within, same-means}
+use Rattle.grammar.proofs.Tests.{both, as-true, within, same-means}
 use Rattle.lexer.specs.Reads.{blanks, blank}
-use Rattle.lexer.specs.Parts.{Other}
+use Rattle.lexer.specs.Parts.{Other-byte}
 
 -- a text that is not empty, and its first byte
 pub record First (test : ℕ → Bool) (x : List ℕ) : Type 0 where
@@ -59,14 +60,6 @@ sort-of {k} {x} h f = go (eqb k NumberLiteral) refl (eqb k StringLiteral) refl (
         let v : k ≡ 42 → ⊥ = eqb-false k StringLiteral e in
         let w : k ≡ 43 → ⊥ = eqb-false k Identifier g in
         Sort.a-spelling {k = k} (omega arith) u (literal-same (spelling k) (rw (spelled-pattern k u v w) at (f .lexeme h)))
-
--- a test of the spellings that is computed for each kind that has one
-all-spelt : (test : ℕ → Bool) → T (passes (λ k. eqb k NumberLiteral || test k) 0 42) → {k : ℕ} → k < 42 → (k ≡ NumberLiteral → ⊥) → T (test k)
-all-spelt test t {k} h n = go (eqb k NumberLiteral) refl (within (λ k. eqb k NumberLiteral || test k) 0 42 k t (omega arith) h)
-  where
-    go : (b : Bool) → eqb k NumberLiteral ≡ b → T (b || test k) → T (test k)
-    go true e u = absurd (n (eqb-true k NumberLiteral e))
-    go false e u = u
 
 -- the first byte of what fits a kind
 pub digit-first : {x : List ℕ} → Matches number x → First digit x
@@ -137,7 +130,7 @@ module _ {x : List ℕ} (b : ℕ) (xs : List ℕ) (cut : x ≡ b ∷ xs) where
           (rw s (matches-sound identifier (spelling k) m), Word.keyword (leb→le 22 k u) (leb→le k 39 w) s)
 
   -- any other byte, alone or with `=`
-  pub other-only : {k : ℕ} → Other b → Sort x k → (k < 42) × (k ≡ NumberLiteral → ⊥) × (x ≡ spelling k) × ((x ≡ b ∷ []) ⊎ (x ≡ b ∷ 61 ∷ []))
+  pub other-only : {k : ℕ} → Other-byte b → Sort x k → (k < 42) × (k ≡ NumberLiteral → ⊥) × (x ≡ spelling k) × ((x ≡ b ∷ []) ⊎ (x ≡ b ∷ 61 ∷ []))
   unfolding spelling same
   other-only o (Sort.a-number m) = never-both (digit b) (as-true _ (at-head b xs (digit-first m) cut)) (rw (o .no-digit) tt)
   other-only o (Sort.a-string m) = absurd (o .no-quote (quoted (at-head b xs (quote-first m) cut)))
@@ -159,25 +152,6 @@ module _ {x : List ℕ} (b : ℕ) (xs : List ℕ) (cut : x ≡ b ∷ xs) where
   blank-none t (Sort.a-name m n) = never-both (letter b) (as-true _ (at-head b xs (letter-first m) cut)) (member (λ y. not (letter y)) blanks b tt t)
   blank-none t (Sort.a-spelling {k = k} h n s) = let z = eqb→eq _ b (at-head b xs (spelling-first h n) (sym s ∙ cut)) in never-both (blank b) t (rw z at (all-spelt (λ k. not (blank (first (spelling k)))) tt h n))
 
--- the first kind that is spelt so, of n kinds from k
-abbrev place-of : List ℕ → ℕ → ℕ → ℕ
-place-of x k zero = k
-place-of x k (suc n) = cond (same x (spelling k)) k (place-of x (suc k) n)
-
--- no two kinds are spelt alike
-pub one-spelling : {x : List ℕ} {k l : ℕ} → k < 42 → (k ≡ NumberLiteral → ⊥) → x ≡ spelling k → l < 42 → (l ≡ NumberLiteral → ⊥) → x ≡ spelling l → k ≡ l
-unfolding spelling same
-one-spelling {x} {k} {l} h n e i m f = sym (own h n) ∙ ap (λ (y : List ℕ). place-of y 0 42) (sym e ∙ f) ∙ own i m
-  where
-    own : {k : ℕ} → k < 42 → (k ≡ NumberLiteral → ⊥) → place-of (spelling k) 0 42 ≡ k
-    own {k} h n = eqb→eq _ k (all-spelt (λ k. eqb (place-of (spelling k) 0 42) k) tt h n)
-
-one-word : {x : List ℕ} {k l : ℕ} → Word x k → Word x l → k ≡ l
-one-word (Word.keyword l h e) (Word.keyword m i f) = one-spelling (omega arith) (λ z. omega arith) e (omega arith) (λ z. omega arith) f
-one-word (Word.keyword {k = k} l h e) (Word.name n) = absurd (n (k, l, h, e))
-one-word (Word.name n) (Word.keyword {k = k} l h e) = absurd (n (k, l, h, e))
-one-word (Word.name n) (Word.name m) = refl
-
 -- a text fits one kind at most
 pub one-kind : {x : List ℕ} {k l : ℕ} (b : ℕ) (xs : List ℕ) → x ≡ b ∷ xs → Sort x k → Sort x l → k ≡ l
 one-kind {x} {k} {l} b xs cut s t = go (digit b) refl (eqb b 34) refl (letter b) refl
@@ -187,7 +161,7 @@ one-kind {x} {k} {l} b xs cut s t = go (digit b) refl (eqb b 34) refl (letter b)
     go false d true e a f = let z = eqb-true b 34 e in quote-only b xs cut z s .0 ∙ sym (quote-only b xs cut z t .0)
     go false d false e true f = one-word (letter-only b xs cut f s .1) (letter-only b xs cut f t .1)
     go false d false e false f =
-        let o : Other b = record { no-letter = f; no-digit = d; no-quote = eqb-false b 34 e } in
+        let o : Other-byte b = record { no-letter = f; no-digit = d; no-quote = eqb-false b 34 e } in
         let (h, n, y, u) = other-only b xs cut o s in
         let (i, m, z, v) = other-only b xs cut o t in
         one-spelling h n y i m z
@@ -200,5 +174,5 @@ outside low high x f = go (leb low x) refl
     go true e = lt-leb x high (f (leb-true low x e))
     go false e = refl
 
-pub other-byte : (x : ℕ) → (x ≡ 34 → ⊥) → (x ≡ 95 → ⊥) → (48 ≤ x → 57 < x) → (65 ≤ x → 90 < x) → (97 ≤ x → 122 < x) → Other x
+pub other-byte : (x : ℕ) → (x ≡ 34 → ⊥) → (x ≡ 95 → ⊥) → (48 ≤ x → 57 < x) → (65 ≤ x → 90 < x) → (97 ≤ x → 122 < x) → Other-byte x
 other-byte x q u d a z = record { no-letter = rw (outside 97 122 x z, outside 65 90 x a, ne-eqb x 95 u); no-digit = outside 48 57 x d; no-quote = q }

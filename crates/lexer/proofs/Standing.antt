@@ -11,12 +11,12 @@ use Rattle.grammar.specs.Kind.{NumberLiteral, StringLiteral, Eof}
 use Rattle.grammar.specs.Lexeme.{letter, number, string, identifier, spelling, Fits}
 use Rattle.grammar.specs.Pattern.{Pattern, Matches, digit, maybe}
 use Rattle.grammar.specs.Token.{lexeme}
-use Rattle.token.specs.Parts.{Word}
-use Rattle.token.proofs.Fitting.{spelled-pattern}
+use Rattle.lexeme.specs.Parts.{Word}
+use Rattle.lexeme.proofs.Fitting.{spelled-pattern}
 use Rattle.grammar.proofs.Lexemes.{lexeme-none, lexeme-first, lexeme-length}
 use Rattle.grammar.proofs.Matching.{literal-made}
 use Rattle.lexer.specs.Reads.{Stands, Longest}
-use Rattle.lexer.specs.Parts.{Ends, Other, Spelt}
+use Rattle.lexer.specs.Parts.{Stretch-ends, Other-byte, Spelt}
 use Rattle.lexer.proofs.Sorts.{Sort, sort-of, not-empty, digit-only, quote-only, letter-only, other-only}
 
 module _ {text : List ℕ} {k i e : ℕ} where
@@ -31,18 +31,18 @@ module _ {text : List ℕ} {k i e : ℕ} where
   cut-there s = lexeme-first text i e (stands-some s) (s .inside)
 
 -- the longest stretch that matches p is the longest token where all that can stand there match p
-longest-by : {p : Pattern} {text : List ℕ} {k i r : ℕ} → Ends p text i r → k < Eof → Fits k (lexeme text i r) → ((l e : ℕ) → Stands text l i e → Matches p (lexeme text i e)) → Longest text k i r
+longest-by : {p : Pattern} {text : List ℕ} {k i r : ℕ} → Stretch-ends p text i r → k < Eof → Fits k (lexeme text i r) → ((l e : ℕ) → Stands text l i e → Matches p (lexeme text i e)) → Longest text k i r
 longest-by {r = r} n h f only =
     record { stands = record { known = h; forward = n .forward; inside = n .inside; fits = f }; longest = λ l e s. elim (decLt r e) [ yes z ↦ absurd (n .longest e z (s .inside) (only l e s)) | no z ↦ omega arith ] }
 
 module _ {text : List ℕ} {i r : ℕ} where
-  pub a-number : digit (getD text i 0) ≡ true → Ends number text i r → Longest text NumberLiteral i r
+  pub a-number : digit (getD text i 0) ≡ true → Stretch-ends number text i r → Longest text NumberLiteral i r
   a-number d n = longest-by n (omega arith) (record { lexeme = λ h. n .match; no-keyword = λ z. absurd (omega arith) }) (λ l e s. digit-only _ _ (cut-there s) d (sort s) .1)
 
-  pub a-string : getD text i 0 ≡ 34 → Ends string text i r → Longest text StringLiteral i r
+  pub a-string : getD text i 0 ≡ 34 → Stretch-ends string text i r → Longest text StringLiteral i r
   a-string q n = longest-by n (omega arith) (record { lexeme = λ h. n .match; no-keyword = λ z. absurd (omega arith) }) (λ l e s. quote-only _ _ (cut-there s) q (sort s) .1)
 
-  pub no-string : getD text i 0 ≡ 34 → Ends (maybe string) text i r → r ≡ i → (k e : ℕ) → Stands text k i e → ⊥
+  pub no-string : getD text i 0 ≡ 34 → Stretch-ends (maybe string) text i r → r ≡ i → (k e : ℕ) → Stands text k i e → ⊥
   no-string q n z k e s = let h = stands-some s in n .longest e (omega arith) (s .inside) (Matches.left (quote-only _ _ (cut-there s) q (sort s) .1))
 
 word-fits : {k : ℕ} {x : List ℕ} → Matches identifier x → Word x k → Fits k x
@@ -53,7 +53,7 @@ word-known : {k : ℕ} {x : List ℕ} → Word x k → k < Eof
 word-known (Word.keyword l h e) = omega arith
 word-known (Word.name n) = omega arith
 
-pub a-word : {text : List ℕ} {k i r : ℕ} → letter (getD text i 0) ≡ true → Ends identifier text i r → Word (lexeme text i r) k → Longest text k i r
+pub a-word : {text : List ℕ} {k i r : ℕ} → letter (getD text i 0) ≡ true → Stretch-ends identifier text i r → Word (lexeme text i r) k → Longest text k i r
 a-word l n w = longest-by n (word-known w) (word-fits (n .match) w) (λ k e s. letter-only _ _ (cut-there s) l (sort s) .0)
 
 -- a text that is the spelling of a kind fits it, unless it is empty
@@ -73,7 +73,7 @@ not-spelt (Spelt.sign h e) l = absurd (omega arith)
 not-spelt (Spelt.none f) l = f
 
 -- signs
-module _ {text : List ℕ} {i : ℕ} (o : Other (getD text i 0)) where
+module _ {text : List ℕ} {i : ℕ} (o : Other-byte (getD text i 0)) where
   -- a token here is one byte, or two with `=` second
   one-or-two : {k e : ℕ} → Stands text k i e → ((e ≡ i + 1) × (getD text i 0 ∷ [] ≡ spelling k)) ⊎ ((e ≡ i + 1 + 1) × (getD text (i + 1) 0 ≡ 61) × (getD text i 0 ∷ 61 ∷ [] ≡ spelling k))
   one-or-two {k} {e} s = let (h, n, x, y) = other-only _ _ (cut-there s) o (sort s) in ⊎-elim (λ z. inl (one z, sym z ∙ x)) (λ z. inr (two z, equals z, sym z ∙ x)) y

@@ -11,12 +11,12 @@ use borrow.Author.Tests.{eqb-true, eqb-false}
 use Rattle.grammar.specs.Pattern.{Pattern, Matches, byte, sequence, many, matches, some, maybe}
 use Rattle.grammar.specs.Token.{lexeme}
 use Rattle.grammar.proofs.Patterns.{matches-sound, matches-whole}
-use Rattle.token.specs.Run.{run, Ran}
-use Rattle.token.proofs.Runs.{run-on, some-read, none-read}
+use Rattle.lexeme.specs.Run.{run, Ran}
+use Rattle.lexeme.proofs.Runs.{run-on, some-read, none-read}
 use Rattle.grammar.proofs.Lexemes.{at-first, at-end}
 use Rattle.grammar.proofs.Matching.{Shy, byte-then, either-says, many-none, many-on, only-empty, shy-nothing, then-nothing, whole-empty}
 use Rattle.grammar.proofs.Tests.{as-true}
-use Rattle.lexer.specs.Parts.{Ends}
+use Rattle.lexer.specs.Parts.{Stretch-ends}
 
 -- a test that is not true is false
 pub unmatched : (p : Pattern) (xs : List ℕ) → (Matches p xs → ⊥) → matches p xs ≡ false
@@ -39,7 +39,7 @@ pub record Becomes (p q : Pattern) (text : List ℕ) (i j : ℕ) : Type 0 where
 pub becomes-then : {p q s : Pattern} {text : List ℕ} {i j k : ℕ} → Becomes p q text i j → Becomes q s text j k → Becomes p s text i k
 becomes-then b d = record { onward = omega (arith, b .onward, d .onward); alike = λ e h m. b .alike e (omega (arith, d .onward)) m ∙ d .alike e h m }
 
-pub ended : {p q : Pattern} {text : List ℕ} {i j r : ℕ} → Becomes p q text i j → Ends q text j r → Ends p text i r
+pub ended : {p q : Pattern} {text : List ℕ} {i j r : ℕ} → Becomes p q text i j → Stretch-ends q text j r → Stretch-ends p text i r
 ended {p} {q} {text} {i} {j} {r} b n =
     record {
       forward = omega (arith, b .onward, n .forward);
@@ -49,15 +49,15 @@ ended {p} {q} {text} {i} {j} {r} b n =
     }
 
 -- the longest match is the empty one
-pub stays : {p : Pattern} {text : List ℕ} {i : ℕ} → i ≤ length text → matches p [] ≡ true → ((e : ℕ) → i < e → e ≤ length text → matches p (lexeme text i e) ≡ false) → Ends p text i i
+pub stays : {p : Pattern} {text : List ℕ} {i : ℕ} → i ≤ length text → matches p [] ≡ true → ((e : ℕ) → i < e → e ≤ length text → matches p (lexeme text i e) ≡ false) → Stretch-ends p text i i
 stays {p} {text} {i} h n f = record { forward = omega arith; inside = h; match = matched p (lexeme text i i) (at-end p text i i refl ∙ n); longest = λ e l m. unlike (f e l m) }
 
 -- at the text's end there is no other
-pub at-text-end : {p : Pattern} {text : List ℕ} {i : ℕ} → i ≡ length text → matches p [] ≡ true → Ends p text i i
+pub at-text-end : {p : Pattern} {text : List ℕ} {i : ℕ} → i ≡ length text → matches p [] ≡ true → Stretch-ends p text i i
 at-text-end h n = stays (omega arith) n (λ e l m. absurd (omega arith))
 
 -- nothing more is asked for
-pub ends-nothing : {text : List ℕ} {i : ℕ} → i ≤ length text → Ends Pattern.nothing text i i
+pub ends-nothing : {text : List ℕ} {i : ℕ} → i ≤ length text → Stretch-ends Pattern.nothing text i i
 ends-nothing {text} {i} h = stays h (whole-empty [] refl) (λ e l m. at-first Pattern.nothing text i e l m ∙ only-empty _ _)
 
 -- what may be left out
@@ -67,14 +67,14 @@ maybe-some p text i e h m = either-says p Pattern.nothing (lexeme text i e) ∙ 
 maybe-none : (p : Pattern) → matches (maybe p) [] ≡ true
 maybe-none p = as-true _ (matches-whole (maybe p) [] (Matches.right Matches.nothing))
 
-pub left-out : {p : Pattern} {text : List ℕ} {i : ℕ} → i ≤ length text → ((e : ℕ) → i < e → e ≤ length text → matches p (lexeme text i e) ≡ false) → Ends (maybe p) text i i
+pub left-out : {p : Pattern} {text : List ℕ} {i : ℕ} → i ≤ length text → ((e : ℕ) → i < e → e ≤ length text → matches p (lexeme text i e) ≡ false) → Stretch-ends (maybe p) text i i
 left-out {p} {text} {i} h f = stays h (maybe-none p) (λ e l m. maybe-some p text i e l m ∙ f e l m)
 
-pub put-in : {p : Pattern} {text : List ℕ} {i r : ℕ} → Ends p text i r → Ends (maybe p) text i r
+pub put-in : {p : Pattern} {text : List ℕ} {i r : ℕ} → Stretch-ends p text i r → Stretch-ends (maybe p) text i r
 put-in {p} {text} {i} {r} n =
     record { forward = n .forward; inside = n .inside; match = Matches.left (n .match); longest = λ e h m. unlike (maybe-some p text i e (omega (arith, n .forward)) m ∙ unmatched p (lexeme text i e) (n .longest e h m)) }
 
-pub taken-out : {p : Pattern} {text : List ℕ} {i r : ℕ} → Ends (maybe p) text i r → (r ≡ i → ⊥) → Ends p text i r
+pub taken-out : {p : Pattern} {text : List ℕ} {i r : ℕ} → Stretch-ends (maybe p) text i r → (r ≡ i → ⊥) → Stretch-ends p text i r
 taken-out {p} {text} {i} {r} n apart =
     record {
       forward = n .forward;
@@ -84,18 +84,18 @@ taken-out {p} {text} {i} {r} n apart =
     }
 
 -- a first byte that is taken, with what follows it or, where that is missing, not at all
-pub taken-on : {p q : Pattern} {text : List ℕ} {i j r : ℕ} → Becomes p q text i j → Ends (maybe q) text j r → (r ≡ j → ⊥) → Ends (maybe p) text i r
+pub taken-on : {p q : Pattern} {text : List ℕ} {i j r : ℕ} → Becomes p q text i j → Stretch-ends (maybe q) text j r → (r ≡ j → ⊥) → Stretch-ends (maybe p) text i r
 taken-on b n apart = put-in (ended b (taken-out n apart))
 
 -- q is missing from j on
-pub missing : {q : Pattern} {text : List ℕ} {j r : ℕ} → Ends (maybe q) text j r → r ≡ j → matches q [] ≡ false → (e : ℕ) → j ≤ e → e ≤ length text → matches q (lexeme text j e) ≡ false
+pub missing : {q : Pattern} {text : List ℕ} {j r : ℕ} → Stretch-ends (maybe q) text j r → r ≡ j → matches q [] ≡ false → (e : ℕ) → j ≤ e → e ≤ length text → matches q (lexeme text j e) ≡ false
 missing {q} {text} {j} {r} n z none e h m = go (eqb j e) refl
   where
     go : (b : Bool) → eqb j e ≡ b → matches q (lexeme text j e) ≡ false
     go true y = at-end q text j e (eqb-true j e y) ∙ none
     go false y = let apart : j ≡ e → ⊥ = eqb-false j e y in unmatched q _ (λ x. n .longest e (omega arith) m (Matches.left x))
 
-pub given-back : {p q : Pattern} {text : List ℕ} {i r : ℕ} → i < length text → Becomes p q text i (i + 1) → Ends (maybe q) text (i + 1) r → r ≡ i + 1 → matches q [] ≡ false → Ends (maybe p) text i i
+pub given-back : {p q : Pattern} {text : List ℕ} {i r : ℕ} → i < length text → Becomes p q text i (i + 1) → Stretch-ends (maybe q) text (i + 1) r → r ≡ i + 1 → matches q [] ≡ false → Stretch-ends (maybe p) text i i
 given-back {i = i} h b n z none = left-out (omega arith) (λ e l m. b .alike e (omega arith) m ∙ missing n z none e (omega arith) m)
 
 -- one byte
@@ -107,7 +107,7 @@ module _ {test : ℕ → Bool} {text : List ℕ} {i : ℕ} where
   pub many-more : i < length text → test (getD text i 0) ≡ true → Becomes (many (byte test)) (many (byte test)) text i (i + 1)
   many-more h t = record { onward = omega arith; alike = λ e l m. at-first (many (byte test)) text i e (omega arith) m ∙ many-on test _ _ ∙ rw t }
 
-  pub many-stop : i ≤ length text → (i < length text → test (getD text i 0) ≡ false) → Ends (many (byte test)) text i i
+  pub many-stop : i ≤ length text → (i < length text → test (getD text i 0) ≡ false) → Stretch-ends (many (byte test)) text i i
   many-stop h f = stays h (many-none (byte test)) (λ e l m. at-first (many (byte test)) text i e l m ∙ many-on test _ _ ∙ rw (f (omega arith)))
 
 -- a run to the text's end is a run to any end past it
@@ -141,10 +141,10 @@ module _ {test : ℕ → Bool} {text : List ℕ} {i r : ℕ} (ran : Ran test tex
   run-none {q} shy z e h m = none-read test q shy text i e r h m (ran-to e run-forward (omega arith) m) z
 
   -- a run that is all, or none
-  pub run-ends : Ends (maybe (some (byte test))) text i r
+  pub run-ends : Stretch-ends (maybe (some (byte test))) text i r
   run-ends = go (eqb r i) refl
     where
-      go : (b : Bool) → eqb r i ≡ b → Ends (maybe (some (byte test))) text i r
+      go : (b : Bool) → eqb r i ≡ b → Stretch-ends (maybe (some (byte test))) text i r
       go true y =
           let z : r ≡ i = eqb-true r i y in
           rw z (left-out (omega (arith, ran .within)) (λ e l m. sym (then-nothing (some (byte test)) (lexeme text i e)) ∙ run-none (shy-nothing test) z e (omega arith) m))

@@ -11,10 +11,10 @@ use borrow.Author.Tests.{ne-eqb}
 use Rattle.grammar.specs.Lexeme.{string}
 use Rattle.grammar.specs.Pattern.{matches, among, bytes, maybe}
 use Rattle.grammar.specs.Token.{lexeme}
-use Rattle.token.specs.Parts.{inside}
-use Rattle.token.proofs.Texts.{inside-quote, inside-plain, inside-cut, inside-escape, inside-open}
+use Rattle.lexeme.specs.Parts.{inside}
+use Rattle.lexeme.proofs.Texts.{inside-quote, inside-plain, inside-cut, inside-escape, inside-open}
 use Rattle.grammar.proofs.Lexemes.{lexeme-none, lexeme-first, at-first, at-end}
-use Rattle.lexer.specs.Parts.{Ends}
+use Rattle.lexer.specs.Parts.{Stretch-ends}
 use Rattle.lexer.proofs.Stretches.{Becomes, becomes-then, ended, ends-nothing, left-out, put-in, byte-on}
 
 -- no stretch that ends before `at` is a string, and one that ends later is where the rest of it is the inside of one
@@ -49,18 +49,18 @@ module _ {text : List ℕ} {start at : ℕ} (o : Open text start at) where
       further (record { onward = omega arith; alike = λ e l m. two-bytes text at e b (omega arith) m ∙ rw (ne-eqb (getD text (at + 1) 0) 10 n) }) (omega arith)
       (λ e l m. elim (decLt at e) [ yes k ↦ after-backslash text at e b (omega arith) (omega arith) | no k ↦ ends-here text at e (omega arith) ])
 
-  pub closed : at < length text → getD text at 0 ≡ 34 → Ends (maybe string) text start (at + 1)
+  pub closed : at < length text → getD text at 0 ≡ 34 → Stretch-ends (maybe string) text start (at + 1)
   closed h q = put-in (ended (becomes-then (o .on) (record { onward = omega arith; alike = λ e l m. at-first inside text at e (omega arith) m ∙ inside-quote _ _ q })) (ends-nothing (omega arith)))
 
   -- it is never closed
-  never : ((e : ℕ) → at ≤ e → e ≤ length text → matches inside (lexeme text at e) ≡ false) → Ends (maybe string) text start start
+  never : ((e : ℕ) → at ≤ e → e ≤ length text → matches inside (lexeme text at e) ≡ false) → Stretch-ends (maybe string) text start start
   never f = left-out (omega (arith, o .within, o .on .onward)) (λ e l m. elim (decLt e at) [ yes h ↦ o .none e l h | no h ↦ o .on .alike e (omega arith) m ∙ f e (omega arith) m ])
 
-  pub ends-open : length text ≤ at → Ends (maybe string) text start start
+  pub ends-open : length text ≤ at → Stretch-ends (maybe string) text start start
   ends-open h = never (λ e l m. ends-here text at e (omega arith))
 
-  pub ends-cut : getD text at 0 ≡ 92 → at + 1 ≡ length text → Ends (maybe string) text start start
+  pub ends-cut : getD text at 0 ≡ 92 → at + 1 ≡ length text → Stretch-ends (maybe string) text start start
   ends-cut b h = never (λ e l m. elim (decLt at e) [ yes k ↦ after-backslash text at e b (omega arith) m | no k ↦ ends-here text at e (omega arith) ])
 
-  pub ends-broken : getD text at 0 ≡ 92 → getD text (at + 1) 0 ≡ 10 → Ends (maybe string) text start start
+  pub ends-broken : getD text at 0 ≡ 92 → getD text (at + 1) 0 ≡ 10 → Stretch-ends (maybe string) text start start
   ends-broken b n = never (λ e l m. elim (decLt (at + 1) e) [ yes k ↦ two-bytes text at e b k m ∙ rw n | no k ↦ elim (decLt at e) [ yes i ↦ after-backslash text at e b (omega arith) m | no i ↦ ends-here text at e (omega arith) ] ])

@@ -3,10 +3,10 @@
 use Prim.Native.Nat.{ℕ, _+_, _/_, _≤_, _<_}
 use mathlib.Core.List.{List}
 use lib.ListN.{length, getD}
-use Rattle.grammar.specs.Door.{First-without}
+use Rattle.grammar.specs.Door.{Ascii, First-without}
 use Rattle.grammar.specs.Room.{cleared, filled}
 use Rattle.grammar.specs.Token.{count}
-use Rattle.lexer.specs.Reads.{Reads, Stops}
+use Rattle.lexer.specs.Reads.{Text-reads, Stops}
 use Rattle.lexer.specs.declared.Lexed.{Lexed}
 
 -- code 0 and how many tokens; or a code with its numbers, and no tokens
@@ -19,10 +19,10 @@ refuse code from upto = record { code = code; count = 0; at = 0; start = from; e
 -- what codes 2 and 5 let through
 pub record Readable (text : List ℕ) : Type 0 where
   pub short : length text ≤ 65536
-  pub ascii : (i : ℕ) → i < length text → getD text i 0 ≤ 127
+  pub ascii : Ascii text
 
 -- so many tokens, Eof among them, and a whole row of the room for each
-pub record Fitting (tokens : ℕ) (room : List ℕ) : Type 0 where
+pub record List-fits (tokens : ℕ) (room : List ℕ) : Type 0 where
   pub most : tokens ≤ 4096
   pub rows : tokens ≤ length room / 3
 
@@ -31,5 +31,5 @@ pub data Lexes (text room : List ℕ) : Lexed → List ℕ → Type 0 where
   long : 65536 < length text → Lexes text room (refuse 2 0 0) room
   high : {i : ℕ} → length text ≤ 65536 → First-without (λ j. getD text j 0 ≤ 127) (length text) i → Lexes text room (refuse 5 i (i + 1)) room
   no-token : {i : ℕ} → Readable text → Stops text 0 i → Lexes text room (refuse 16 i (i + 1)) (cleared room)
-  too-many : {ts : List ℕ} → Readable text → Reads text 0 ts → (Fitting (count ts) room → ⊥) → Lexes text room (refuse 1 0 0) (cleared room)
-  made : {ts : List ℕ} → Readable text → Reads text 0 ts → Fitting (count ts) room → Lexes text room (success (count ts)) (filled ts room)
+  too-many : {ts : List ℕ} → Readable text → Text-reads text 0 ts → (List-fits (count ts) room → ⊥) → Lexes text room (refuse 1 0 0) (cleared room)
+  made : {ts : List ℕ} → Readable text → Text-reads text 0 ts → List-fits (count ts) room → Lexes text room (success (count ts)) (filled ts room)

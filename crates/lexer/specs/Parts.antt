@@ -13,14 +13,14 @@ use Rattle.lexer.specs.Reads.{Stands, Longest}
 use Rattle.lexer.specs.declared.Found.{Found}
 
 -- the longest stretch from i that matches p ends at r
-pub record Ends (p : Pattern) (text : List ℕ) (i r : ℕ) : Type 0 where
+pub record Stretch-ends (p : Pattern) (text : List ℕ) (i r : ℕ) : Type 0 where
   pub forward : i ≤ r
   pub inside : r ≤ length text
   pub match : Matches p (lexeme text i r)
   pub longest : (e : ℕ) → r < e → e ≤ length text → Matches p (lexeme text i e) → ⊥
 
 -- no word, number or string starts with this byte
-pub record Other (x : ℕ) : Type 0 where
+pub record Other-byte (x : ℕ) : Type 0 where
   pub no-letter : letter x ≡ false
   pub no-digit : digit x ≡ false
   pub no-quote : x ≡ 34 → ⊥
@@ -31,12 +31,12 @@ pub data Spelt (x : List ℕ) : ℕ → Type 0 where
   none : ((k : ℕ) → k < Eof → x ≡ spelling k → ⊥) → Spelt x Eof
 
 -- the longest token that stands at i, or nothing where none does
-unfoldable pub Case : List ℕ → ℕ → Found → Type 0
-Case text i (Found.Token k e) = Longest text k i e
-Case text i Found.Nothing = (k e : ℕ) → Stands text k i e → ⊥
+unfoldable pub Start-case : List ℕ → ℕ → Found → Type 0
+Start-case text i (Found.Token k e) = Longest text k i e
+Start-case text i Found.Nothing = (k e : ℕ) → Stands text k i e → ⊥
 
 pub record Starts (text : List ℕ) (i : ℕ) (r : Found) : Type 0 where
-  pub says : Case text i r
+  pub says : Start-case text i r
 
 -- how many tokens a room of so many numbers can take: whole rows, and 4,096 at most
 pub record Capacity (numbers r : ℕ) : Type 0 where

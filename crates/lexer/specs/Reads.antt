@@ -36,10 +36,10 @@ pub record Blank (text : List ℕ) (i : ℕ) : Type 0 where
   pub test : T (blank (getD text i 0))
 
 -- the text from i on reads as these tokens, three numbers each
-pub data Reads (text : List ℕ) : ℕ → List ℕ → Type 0 where
-  end : {i : ℕ} → i ≡ length text → Reads text i (Eof ∷ i ∷ i ∷ [])
-  skip : {i : ℕ} {ts : List ℕ} → Blank text i → Reads text (suc i) ts → Reads text i ts
-  token : {k i e : ℕ} {ts : List ℕ} → Longest text k i e → Reads text e ts → Reads text i (k ∷ i ∷ e ∷ ts)
+pub data Text-reads (text : List ℕ) : ℕ → List ℕ → Type 0 where
+  end : {i : ℕ} → i ≡ length text → Text-reads text i (Eof ∷ i ∷ i ∷ [])
+  skip : {i : ℕ} {ts : List ℕ} → Blank text i → Text-reads text (suc i) ts → Text-reads text i ts
+  token : {k i e : ℕ} {ts : List ℕ} → Longest text k i e → Text-reads text e ts → Text-reads text i (k ∷ i ∷ e ∷ ts)
 
 -- reading the text from i on, j is the first byte where no token starts
 pub data Stops (text : List ℕ) : ℕ → ℕ → Type 0 where

@@ -7,7 +7,7 @@ use door::first_high;
 use door::highest;
 use scan::is_blank;
 use scan::token_at;
-use token::spelling::words;
+use spelling::words;
 ghost use mathlib.Core.Path.{_≡_};
 ghost use Prim.Native.Nat.{_*_, _≤_};
 ghost use lib.ListN.{length};

@@ -1,8 +1,8 @@
 // Where a token ends, by what its first byte lets stand there: a word, a number, a string or a sign. Each function looks at a byte once, or twice where a part is given back.
 use crate::Found;
-use token::lexeme::digits;
-use token::lexeme::is_letter_or_digit;
-use token::lexeme::keyword;
+use lexeme::digits;
+use lexeme::is_letter_or_digit;
+use lexeme::keyword;
 ghost use mathlib.Core.Bool.{true};
 ghost use mathlib.Core.List.{[], _∷_};
 ghost use mathlib.Core.Path.{_≡_};
@@ -10,10 +10,10 @@ ghost use Prim.Native.Nat.{_≤_, _<_};
 ghost use lib.ListN.{length, getD};
 ghost use Rattle.grammar.specs.Lexeme.{letter, number, string, identifier};
 ghost use Rattle.grammar.specs.Pattern.{digit, maybe};
-ghost use Rattle.token.specs.Parts.{signed, power};
-ghost use Rattle.token.specs.Words.{table};
+ghost use Rattle.lexeme.specs.Parts.{signed, power};
+ghost use Rattle.spelling.specs.Words.{table};
 ghost use Rattle.lexer.specs.Reads.{blank};
-ghost use Rattle.lexer.specs.Parts.{Ends, Other, Spelt, Starts};
+ghost use Rattle.lexer.specs.Parts.{Stretch-ends, Other-byte, Spelt, Starts};
 
 // Space, tab, form feed, return, newline.
 pub(crate) fn is_blank(byte: u8) -> bool
@@ -50,7 +50,7 @@ pub(crate) fn token_at(words: &[u8], text: &[u8], start: usize) -> Found
 // The end of the word that starts with a letter: [a-zA-Z_][a-zA-Z0-9_]*
 fn word_end(text: &[u8], start: usize) -> usize
     requires { ⌜ (start < length (now text)) × (letter (getD (now text) start 0) ≡ true) ⌝ }
-    ensures { λ r. ⌜ Ends identifier (now (text .entry)) start r ⌝ }
+    ensures { λ r. ⌜ Stretch-ends identifier (now (text .entry)) start r ⌝ }
 {
     let mut at = start + 1;
     while at < text.len() {
@@ -65,7 +65,7 @@ fn word_end(text: &[u8], start: usize) -> usize
 // The end of the number that starts with a digit: [0-9]+(\.[0-9]+)?([eE][+-]?[0-9]+)?
 fn number_end(text: &[u8], start: usize) -> usize
     requires { ⌜ (start < length (now text)) × (digit (getD (now text) start 0) ≡ true) ⌝ }
-    ensures { λ r. ⌜ Ends number (now (text .entry)) start r ⌝ }
+    ensures { λ r. ⌜ Stretch-ends number (now (text .entry)) start r ⌝ }
 {
     let at = digits(text, start, text.len());
     if at == text.len() {
@@ -86,7 +86,7 @@ fn number_end(text: &[u8], start: usize) -> usize
 // The end of an exponent, [eE][+-]?[0-9]+, or the start where there is none.
 fn power_end(text: &[u8], start: usize) -> usize
     requires { ⌜ start ≤ length (now text) ⌝ }
-    ensures { λ r. ⌜ Ends (maybe power) (now (text .entry)) start r ⌝ }
+    ensures { λ r. ⌜ Stretch-ends (maybe power) (now (text .entry)) start r ⌝ }
 {
     if start == text.len() {
         return start;
@@ -107,7 +107,7 @@ fn power_end(text: &[u8], start: usize) -> usize
 // The end of digits with a sign or none, or the start where there is none.
 fn signed_end(text: &[u8], start: usize) -> usize
     requires { ⌜ start ≤ length (now text) ⌝ }
-    ensures { λ r. ⌜ Ends (maybe signed) (now (text .entry)) start r ⌝ }
+    ensures { λ r. ⌜ Stretch-ends (maybe signed) (now (text .entry)) start r ⌝ }
 {
     if start == text.len() {
         return start;
@@ -128,7 +128,7 @@ fn signed_end(text: &[u8], start: usize) -> usize
 // The end of the string that starts with a quote, or the start where it is not closed.
 fn string_end(text: &[u8], start: usize) -> usize
     requires { ⌜ (start < length (now text)) × (getD (now text) start 0 ≡ 34) ⌝ }
-    ensures { λ r. ⌜ Ends (maybe string) (now (text .entry)) start r ⌝ }
+    ensures { λ r. ⌜ Stretch-ends (maybe string) (now (text .entry)) start r ⌝ }
 {
     let mut at = start + 1;
     while at < text.len() {
@@ -154,7 +154,7 @@ fn string_end(text: &[u8], start: usize) -> usize
 
 // The sign that starts at a byte: with `=` after it, or alone.
 fn sign_at(text: &[u8], start: usize) -> Found
-    requires { ⌜ (start < length (now text)) × Other (getD (now text) start 0) ⌝ }
+    requires { ⌜ (start < length (now text)) × Other-byte (getD (now text) start 0) ⌝ }
     ensures { λ r. ⌜ Starts (now (text .entry)) start r ⌝ }
 {
     let first = text[start];

@@ -4,7 +4,7 @@ use native.Mathlib.Omega.{arith}
 use mathlib.Core.List.{List}
 use mathlib.Core.Path.{_≡_, refl, sym, ap, _∙_}
 use lib.ListN.{length, length-append, length-replicate}
-use Rattle.grammar.specs.Answer.{Answer as Numbers}
+use Rattle.grammar.specs.Answer.{Answer}
 use Rattle.grammar.specs.Door.{Admitted}
 use Rattle.grammar.specs.Label.{Label}
 use Rattle.grammar.specs.Phrase.{Tree}
@@ -12,26 +12,26 @@ use Rattle.grammar.specs.Room.{Rooms, node-width, link-width, symbol-width, scr
 use Rattle.grammar.proofs.Answers.{admitted-not-wrong, one-answer}
 use Rattle.grammar.proofs.Demands.{Read-as, Refused-at, Sorts, sorts}
 use Rattle.lexer.specs.Lexes.{Lexes}
-use Rattle.lexer.specs.Reads.{Reads}
+use Rattle.lexer.specs.Reads.{Text-reads}
 use Rattle.lexer.specs.declared.Lexed.{Lexed}
 use Rattle.lexer.proofs.Once.{one-answer as one-lexing}
-use Rattle.lexer.proofs.Passing.{reads-pass, made-list as made}
+use Rattle.lexer.proofs.Passing.{reads-lent, made-list as made}
 use Rattle.syntax.specs.Parsed.{numbers, call}
-use Rattle.syntax.specs.declared.Answer.{Answer}
+use Rattle.syntax.specs.declared.Numbers.{Numbers}
 use Rattle.reader.specs.Answered.{lexed-numbers, made-list, Answers-text, Read}
 
 module _ {text : List ℕ} {limit : ℕ} {list : List ℕ} {before : Rooms} where
-  one-text : {a b : Numbers} {m n : List ℕ} {r s : Rooms} → Answers-text text limit list before a m r → Answers-text text limit list before b n s → (a ≡ b) × (m ≡ n) × (r ≡ s)
+  one-text : {a b : Answer} {m n : List ℕ} {r s : Rooms} → Answers-text text limit list before a m r → Answers-text text limit list before b n s → (a ≡ b) × (m ≡ n) × (r ≡ s)
   one-text (Answers-text.unmade x f) (Answers-text.unmade y g) = let (u, v) = one-lexing x y in (ap lexed-numbers u, v, refl)
   one-text (Answers-text.unmade x f) (Answers-text.made y g z) = let (u, v) = one-lexing x y in absurd (f (ap (λ l. l .code) u ∙ g))
   one-text (Answers-text.made x f z) (Answers-text.unmade y g) = let (u, v) = one-lexing x y in absurd (g (ap (λ l. l .code) (sym u) ∙ f))
   one-text (Answers-text.made x f z) (Answers-text.made y g w) = let (u, v) = one-lexing x y in let (p, q) = one-answer (rw (u, v) at z) w in (p, v, q)
 
 -- two outcomes that the contract of `read` allows are equal: the answer, every number of the list room, and every number of the four rooms
-abbrev answer-of : Numbers → Answer
+abbrev answer-of : Answer → Numbers
 answer-of n = record { code = n .code; nodes = n .nodes; links = n .links; symbols = n .symbols; at = n .at; start = n .start; end = n .end; expected = n .expected }
 
-pub one-read : {text : List ℕ} {limit : ℕ} {list m n : List ℕ} {before after after′ : Rooms} {r r′ : Answer} → Read text limit list m before after r → Read text limit list n before after′ r′ → (r ≡ r′) × (m ≡ n) × (after ≡ after′)
+pub one-read : {text : List ℕ} {limit : ℕ} {list m n : List ℕ} {before after after′ : Rooms} {r r′ : Numbers} → Read text limit list m before after r → Read text limit list n before after′ r′ → (r ≡ r′) × (m ≡ n) × (after ≡ after′)
 one-read p q = let (u, v, w) = one-text (p .answers) (q .answers) in (ap answer-of u, v, w)
 
 -- the list that is made stands in its room
@@ -40,7 +40,7 @@ made-fits (Lexes.long h) e = absurd (omega arith)
 made-fits (Lexes.high h x) e = absurd (omega arith)
 made-fits (Lexes.no-token h x) e = absurd (omega arith)
 made-fits (Lexes.too-many h x f) e = absurd (omega arith)
-made-fits (Lexes.made {ts = ts} h x f) e = (simp (length-append, length-replicate) (omega (arith, f .rows, reads-pass x (f .most) .whole .rows)), f .most)
+made-fits (Lexes.made {ts = ts} h x f) e = (simp (length-append, length-replicate) (omega (arith, f .rows, reads-lent (h .ascii) x (f .most) .whole .rows)), f .most)
 
 -- a text, a limit and rooms within the limits: each room has the 4,096 rows that the longest list asks for
 pub record Within-limits (text : List ℕ) (limit : ℕ) (before : Rooms) : Type 0 where
@@ -68,20 +68,19 @@ unmade-code (Lexes.made h x f) s n = absurd (n refl)
 -- what the maker makes of a text within the limits the door lets in
 pub made-admitted : {text list room : List ℕ} {limit : ℕ} {before : Rooms} {l : Lexed} → Within-limits text limit before → Lexes text list l room → l .code ≡ 0 → Admitted (call text (made-list l room) limit before)
 made-admitted w x e =
-    let m = made x e in
-    let p = m .passes in
-    record { whole = p .whole; short = w .short; some-depth = w .some-depth; least-depth = w .least-depth; roomy = record { nodes = omega (arith, p .whole .most, w .nodes); links = omega (arith, p .whole .most, w .links); symbols = omega (arith, p .whole .most, w .symbols); scratch = omega (arith, p .whole .most, w .scratch) }; ascii = m .readable .ascii; sound = p .sound; closed = p .closed }
+    let p = made x e .lent in
+    record { whole = p .whole; short = w .short; some-depth = w .some-depth; least-depth = w .least-depth; roomy = record { nodes = omega (arith, p .whole .most, w .nodes); links = omega (arith, p .whole .most, w .links); symbols = omega (arith, p .whole .most, w .symbols); scratch = omega (arith, p .whole .most, w .scratch) }; ascii = p .ascii; sound = p .sound; closed = p .closed }
 
 -- a text within the limits is refused by 5, 16 or 1; or the tokens ts that it reads as are refused in reading, or have exactly one tree
-pub data Texts (text : List ℕ) (limit : ℕ) (before after : Rooms) (r : Answer) : Type 0 where
+pub data Texts (text : List ℕ) (limit : ℕ) (before after : Rooms) (r : Numbers) : Type 0 where
   unmade : Unmade (r .code) → Texts text limit before after r
-  refused : {ts : List ℕ} → Reads text 0 ts → Refused-at (call text ts limit before) (numbers r) after → Texts text limit before after r
-  tree : {ts : List ℕ} {t : Tree Label} → Reads text 0 ts → r .code ≡ 0 → Read-as (call text ts limit before) (numbers r) after t → Texts text limit before after r
+  refused : {ts : List ℕ} → Text-reads text 0 ts → Refused-at (call text ts limit before) (numbers r) after → Texts text limit before after r
+  tree : {ts : List ℕ} {t : Tree Label} → Text-reads text 0 ts → r .code ≡ 0 → Read-as (call text ts limit before) (numbers r) after t → Texts text limit before after r
 
-pub text-read : {text : List ℕ} {limit : ℕ} {list room : List ℕ} {before after : Rooms} {r : Answer} → Within-limits text limit before → Read text limit list room before after r → Texts text limit before after r
+pub text-read : {text : List ℕ} {limit : ℕ} {list room : List ℕ} {before after : Rooms} {r : Numbers} → Within-limits text limit before → Read text limit list room before after r → Texts text limit before after r
 text-read {text} {limit} {list} {before = before} {after = after} {r = r} w p = by (p .answers) refl refl
   where
-    by : {a : Numbers} {m : List ℕ} {s : Rooms} → Answers-text text limit list before a m s → a ≡ numbers r → s ≡ after → Texts text limit before after r
+    by : {a : Answer} {m : List ℕ} {s : Rooms} → Answers-text text limit list before a m s → a ≡ numbers r → s ≡ after → Texts text limit before after r
     by (Answers-text.unmade x n) e f = Texts.unmade (rw (ap (λ m. m .code) e) at (unmade-code x (w .short) n))
     by (Answers-text.made {l = l} {room = m} x n z) e f = pick (sorts (rw (e, f) at z))
       where

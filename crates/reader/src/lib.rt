@@ -1,6 +1,6 @@
 // From a script's text to its rows, in one call: the token maker, and what `parse` answers of the list that it makes. That list is right by proof, and is not checked again.
 use lexer::lex;
-use syntax::Answer;
+use syntax::Numbers;
 use syntax::parse_checked;
 use syntax::refused;
 ghost use Rattle.reader.specs.Answered.{Read};
@@ -17,7 +17,7 @@ pub fn read(
     links: &mut [u32],
     symbols: &mut [u32],
     scratch: &mut [u32],
-) -> Answer
+) -> Numbers
     ensures { λ r. ⌜ Read (now (text .entry)) limit (now (list .entry)) (now (list .exit)) (rooms (now (nodes .entry)) (now (links .entry)) (now (symbols .entry)) (now (scratch .entry))) (rooms (now (nodes .exit)) (now (links .exit)) (now (symbols .exit)) (now (scratch .exit))) r ⌝ }
 {
     let made = lex(text, list);

@@ -1,13 +1,15 @@
 -- Two outcomes that the contract of an exported function allows are equal: what it hands back, and every number of every lent room.
-use Prim.Native.Nat.{ℕ}
+use Prim.Native.Nat.{ℕ, _≤_, _<_}
 use native.Mathlib.Omega.{arith}
 use mathlib.Core.List.{List}
 use mathlib.Core.Path.{_≡_, refl, ap}
+use lib.ListN.{length}
+use Rattle.diagnostics.specs.Message.{text-of}
 use Rattle.diagnostics.proofs.Messages.{one-message as one-text}
 use Rattle.diagnostics.proofs.Places.{one-place as one-line}
 use Rattle.grammar.specs.Room.{Rooms}
 use Rattle.reader.proofs.Texts.{one-read as one-answer}
-use Rattle.station.specs.Exports.{listed, placed, put, Parses, Reads, Places, Writes}
+use Rattle.station.specs.Exports.{listed, placed, put, Parses, Reads-text, Places, Writes}
 use Rattle.syntax.proofs.Promises.{one-parse as one-tree}
 
 pub one-parse : {text ts : List ℕ} {limit : ℕ} {before after after′ : Rooms} {room out out′ : List ℕ} {r r′ : ℕ} → Parses text ts limit before room after out r → Parses text ts limit before room after′ out′ r′ → (r ≡ r′) × (out ≡ out′) × (after ≡ after′)
@@ -16,11 +18,11 @@ one-parse (Parses.short h) (Parses.parsed i q) = absurd (omega arith)
 one-parse (Parses.parsed h p) (Parses.short i) = absurd (omega arith)
 one-parse {room = room} (Parses.parsed h p) (Parses.parsed i q) = let (e, f) = one-tree p q in (ap (λ a. a .code) e, ap (λ a. put (listed a) room) e, f)
 
-pub one-read : {text : List ℕ} {limit : ℕ} {list tokens tokens′ : List ℕ} {before after after′ : Rooms} {room out out′ : List ℕ} {r r′ : ℕ} → Reads text limit list before room tokens after out r → Reads text limit list before room tokens′ after′ out′ r′ → (r ≡ r′) × (out ≡ out′) × (tokens ≡ tokens′) × (after ≡ after′)
-one-read (Reads.short h) (Reads.short i) = (refl, refl, refl, refl)
-one-read (Reads.short h) (Reads.read i q) = absurd (omega arith)
-one-read (Reads.read h p) (Reads.short i) = absurd (omega arith)
-one-read {room = room} (Reads.read h p) (Reads.read i q) = let (e, f, g) = one-answer p q in (ap (λ a. a .code) e, ap (λ a. put (listed a) room) e, f, g)
+pub one-read : {text : List ℕ} {limit : ℕ} {list tokens tokens′ : List ℕ} {before after after′ : Rooms} {room out out′ : List ℕ} {r r′ : ℕ} → Reads-text text limit list before room tokens after out r → Reads-text text limit list before room tokens′ after′ out′ r′ → (r ≡ r′) × (out ≡ out′) × (tokens ≡ tokens′) × (after ≡ after′)
+one-read (Reads-text.short h) (Reads-text.short i) = (refl, refl, refl, refl)
+one-read (Reads-text.short h) (Reads-text.read i q) = absurd (omega arith)
+one-read (Reads-text.read h p) (Reads-text.short i) = absurd (omega arith)
+one-read {room = room} (Reads-text.read h p) (Reads-text.read i q) = let (e, f, g) = one-answer p q in (ap (λ a. a .code) e, ap (λ a. put (listed a) room) e, f, g)
 
 pub one-place : {text : List ℕ} {offset : ℕ} {room out out′ : List ℕ} {r r′ : ℕ} → Places text offset room out r → Places text offset room out′ r′ → (r ≡ r′) × (out ≡ out′)
 one-place (Places.short h) (Places.short i) = (refl, refl)
@@ -30,3 +32,10 @@ one-place {room = room} (Places.place h p) (Places.place i q) = let e = one-line
 
 pub one-message : {code expected found : ℕ} {before after after′ : List ℕ} {r r′ : ℕ} → Writes code expected found before after r → Writes code expected found before after′ r′ → (r ≡ r′) × (after ≡ after′)
 one-message (Writes.written p) (Writes.written q) = let (e, f) = one-text p q in (ap (λ m. m .length) e, f)
+
+-- the length alone says it all: 0 and nothing written under 52 bytes of room, else that of the text, which stands at the room's start
+pub no-room : {code expected found : ℕ} {before after : List ℕ} {r : ℕ} → length before < 52 → Writes code expected found before after r → (r ≡ 0) × (after ≡ before)
+no-room h (Writes.written p) = (ap (λ m. m .length) (p .refused h), p .untouched h)
+
+pub with-room : {code expected found : ℕ} {before after : List ℕ} {r : ℕ} → 52 ≤ length before → Writes code expected found before after r → (r ≡ length (text-of code expected found)) × (after ≡ put (text-of code expected found) before)
+with-room h (Writes.written p) = (ap (λ m. m .length) (p .answer h), p .room h)

@@ -4,16 +4,16 @@ use Prim.Native.Nat.{ℕ, _≤_, _<_}
 use mathlib.Core.List.{List, [], _∷_, _++_}
 use lib.ListN.{length, drop}
 use Rattle.diagnostics.specs.Line.{Placed}
-use Rattle.diagnostics.specs.Message.{Written}
+use Rattle.diagnostics.specs.Message.{Message-given}
 use Rattle.diagnostics.specs.declared.Message.{Message}
 use Rattle.diagnostics.specs.declared.Place.{Place}
 use Rattle.grammar.specs.Room.{Rooms}
 use Rattle.reader.specs.Answered.{Read}
 use Rattle.syntax.specs.Parsed.{Parsed}
-use Rattle.syntax.specs.declared.Answer.{Answer}
+use Rattle.syntax.specs.declared.Numbers.{Numbers}
 
 -- 'code, three row counts, at, start, end, expected'
-abbrev pub listed : Answer → List ℕ
+abbrev pub listed : Numbers → List ℕ
 listed a = a .code ∷ a .nodes ∷ a .links ∷ a .symbols ∷ a .at ∷ a .start ∷ a .end ∷ a .expected ∷ []
 
 abbrev pub placed : Place → List ℕ
@@ -26,11 +26,11 @@ put numbers room = numbers ++ drop (length numbers) room
 -- room: for the answer, before the call; then the four rooms, the room for the answer, and the code after it
 pub data Parses (text ts : List ℕ) (limit : ℕ) (before : Rooms) (room : List ℕ) : Rooms → List ℕ → ℕ → Type 0 where
   short : length room < 8 → Parses text ts limit before room before room 13
-  parsed : {after : Rooms} {a : Answer} → 8 ≤ length room → Parsed text ts limit before after a → Parses text ts limit before room after (put (listed a) room) (a .code)
+  parsed : {after : Rooms} {a : Numbers} → 8 ≤ length room → Parsed text ts limit before after a → Parses text ts limit before room after (put (listed a) room) (a .code)
 
-pub data Reads (text : List ℕ) (limit : ℕ) (list : List ℕ) (before : Rooms) (room : List ℕ) : List ℕ → Rooms → List ℕ → ℕ → Type 0 where
-  short : length room < 8 → Reads text limit list before room list before room 13
-  read : {tokens : List ℕ} {after : Rooms} {a : Answer} → 8 ≤ length room → Read text limit list tokens before after a → Reads text limit list before room tokens after (put (listed a) room) (a .code)
+pub data Reads-text (text : List ℕ) (limit : ℕ) (list : List ℕ) (before : Rooms) (room : List ℕ) : List ℕ → Rooms → List ℕ → ℕ → Type 0 where
+  short : length room < 8 → Reads-text text limit list before room list before room 13
+  read : {tokens : List ℕ} {after : Rooms} {a : Numbers} → 8 ≤ length room → Read text limit list tokens before after a → Reads-text text limit list before room tokens after (put (listed a) room) (a .code)
 
 pub data Places (text : List ℕ) (offset : ℕ) (room : List ℕ) : List ℕ → ℕ → Type 0 where
   short : length room < 3 → Places text offset room room 13
@@ -38,4 +38,4 @@ pub data Places (text : List ℕ) (offset : ℕ) (room : List ℕ) : List ℕ �
 
 -- the length alone: it is 0 where the text's room has under 52 bytes
 pub data Writes (code expected found : ℕ) (before after : List ℕ) : ℕ → Type 0 where
-  written : {m : Message} → Written code expected found before after m → Writes code expected found before after (m .length)
+  written : {m : Message} → Message-given code expected found before after m → Writes code expected found before after (m .length)

@@ -3,16 +3,16 @@
 use diagnostics::line::place;
 use diagnostics::text::message;
 use reader::read;
-use syntax::Answer;
+use syntax::Numbers;
 use syntax::parse;
 ghost use Prim.Native.Nat.{_≤_};
 ghost use mathlib.Core.Path.{_≡_};
 ghost use lib.ListN.{length};
-ghost use Rattle.station.specs.Exports.{listed, put, Parses, Reads, Places, Writes};
+ghost use Rattle.station.specs.Exports.{listed, put, Parses, Reads-text, Places, Writes};
 ghost use Rattle.syntax.specs.Parsed.{rooms};
 
 // Puts the eight numbers of an answer at the start of a room.
-fn list(a: Answer, room: &mut [u32])
+fn list(a: Numbers, room: &mut [u32])
     requires { ⌜ 8 ≤ length (now room) ⌝ }
     ensures { λ _. ⌜ now (room .exit) ≡ put (listed a) (now (room .entry)) ⌝ }
 {
@@ -62,7 +62,7 @@ pub extern "C" fn kaori_read(
     scratch: &mut [u32],
     answer: &mut [u32],
 ) -> u32
-    ensures { λ r. ⌜ Reads (now (text .entry)) limit (now (tokens .entry)) (rooms (now (nodes .entry)) (now (links .entry)) (now (symbols .entry)) (now (scratch .entry))) (now (answer .entry)) (now (tokens .exit)) (rooms (now (nodes .exit)) (now (links .exit)) (now (symbols .exit)) (now (scratch .exit))) (now (answer .exit)) r ⌝ }
+    ensures { λ r. ⌜ Reads-text (now (text .entry)) limit (now (tokens .entry)) (rooms (now (nodes .entry)) (now (links .entry)) (now (symbols .entry)) (now (scratch .entry))) (now (answer .entry)) (now (tokens .exit)) (rooms (now (nodes .exit)) (now (links .exit)) (now (symbols .exit)) (now (scratch .exit))) (now (answer .exit)) r ⌝ }
 {
     if answer.len() < 8 {
         return 13;

@@ -5,7 +5,7 @@ use native.Mathlib.Omega.{arith}
 use mathlib.Core.List.{List}
 use mathlib.Core.Logic.{_⊎_, inl, inr}
 use mathlib.Core.Path.{_≡_, ap}
-use Rattle.grammar.specs.Answer.{Answer as Numbers}
+use Rattle.grammar.specs.Answer.{Answer}
 use Rattle.grammar.specs.Door.{Admitted}
 use Rattle.grammar.specs.Float.{seen}
 use Rattle.grammar.specs.Kaori.{Script}
@@ -17,17 +17,17 @@ use Rattle.grammar.proofs.Answers.{admitted-not-wrong, one-answer}
 use Rattle.grammar.proofs.Demands.{Read-as, Refused-at, Sorts, sorts}
 use Rattle.grammar.proofs.Outcomes.{script-not-refused}
 use Rattle.syntax.specs.Parsed.{numbers, call, Parsed}
-use Rattle.syntax.specs.declared.Answer.{Answer}
+use Rattle.syntax.specs.declared.Numbers.{Numbers}
 
 -- the answer that has these numbers
-abbrev answer-of : Numbers → Answer
+abbrev answer-of : Answer → Numbers
 answer-of n = record { code = n .code; nodes = n .nodes; links = n .links; symbols = n .symbols; at = n .at; start = n .start; end = n .end; expected = n .expected }
 
 -- demand 1: two outcomes that the contract allows are equal, the answer and every number of every room
-pub one-parse : {text ts : List ℕ} {limit : ℕ} {before after after′ : Rooms} {r r′ : Answer} → Parsed text ts limit before after r → Parsed text ts limit before after′ r′ → (r ≡ r′) × (after ≡ after′)
+pub one-parse : {text ts : List ℕ} {limit : ℕ} {before after after′ : Rooms} {r r′ : Numbers} → Parsed text ts limit before after r → Parsed text ts limit before after′ r′ → (r ≡ r′) × (after ≡ after′)
 one-parse p q = let (n, m) = one-answer (p .answers) (q .answers) in (ap answer-of n, m)
 
-module _ {text ts : List ℕ} {limit : ℕ} {before after : Rooms} {r : Answer} (p : Parsed text ts limit before after r) where
+module _ {text ts : List ℕ} {limit : ℕ} {before after : Rooms} {r : Numbers} (p : Parsed text ts limit before after r) where
   -- demand 3: what succeeds has a reading, which is the only one, and just its rows are in the rooms
   pub success-reads : r .code ≡ 0 → (t : Tree Label) × Read-as (call text ts limit before) (numbers r) after t
   success-reads e = by (sorts (p .answers))

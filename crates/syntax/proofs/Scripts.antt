@@ -10,10 +10,12 @@ use Rattle.ast.specs.Inserted.{Inserted}
 use Rattle.ast.specs.Written.{Written, Cleared}
 use Rattle.ast.specs.declared.Node.{Node}
 use Rattle.ast.proofs.Rooms.{row-number, cleared-filled}
-use Rattle.door.specs.Entry.{Case, Entered}
+use Rattle.door.specs.Entry.{entry-numbers, Entered}
 use Rattle.door.specs.declared.Entry.{Entry}
 use Rattle.door.specs.declared.Refusal.{Refusal as Turned}
+use Rattle.door.proofs.Codes.{opened, shut}
 use Rattle.grammar.specs.Answer.{success, rooms-cleared, rooms-filled, Answers}
+use Rattle.grammar.specs.Door.{Lent}
 use Rattle.grammar.specs.Float.{seen}
 use Rattle.grammar.specs.Handle.{absent}
 use Rattle.grammar.specs.Kaori.{script, script-items, Script}
@@ -25,26 +27,27 @@ use Rattle.grammar.specs.Refusal.{Refused, Refuses}
 use Rattle.grammar.specs.Room.{Rooms, cleared, filled}
 use Rattle.grammar.specs.Rows.{Rows, numbers as field-numbers, write, fill, put, make, walk, written}
 use Rattle.grammar.specs.Token.{kind, count}
+use Rattle.grammar.proofs.Answers.{admitted-lent}
 use Rattle.grammar.proofs.Demands.{refused-place}
 use Rattle.grammar.proofs.Outcomes.{ends-at-eof}
 use Rattle.interner.proofs.Grown.{empty-table}
-use Rattle.parser.specs.Answers.{Listed, List-case, Lists}
-use Rattle.parser.specs.Reading.{refusal, Refusing}
-use Rattle.parser.specs.State.{State, state, Lent, Ready}
-use Rattle.parser.specs.declared.Cursor.{Cursor}
-use Rattle.parser.specs.declared.Read.{Read}
-use Rattle.parser.specs.declared.Refusal.{Refusal}
-use Rattle.parser.proofs.Gathering.{first-link}
-use Rattle.parser.proofs.Laws.{sees-not}
-use Rattle.syntax.specs.Parsed.{numbers, rooms, Parsed, Let-in, turned-numbers, refused-numbers, Cut, with-root, Fitting, Rooted}
-use Rattle.syntax.specs.declared.Answer.{Answer}
+use Rattle.reading.specs.Answers.{Listed, List-case, Lists}
+use Rattle.reading.specs.Reading.{refusal, Refusing}
+use Rattle.reading.specs.State.{State, state, Ready}
+use Rattle.reading.specs.declared.Cursor.{Cursor}
+use Rattle.reading.specs.declared.Read.{Read}
+use Rattle.reading.specs.declared.Refusal.{Refusal}
+use Rattle.reading.proofs.Gathering.{first-link}
+use Rattle.reading.proofs.Laws.{sees-not}
+use Rattle.syntax.specs.Parsed.{numbers, rooms, Parsed, Let-in, refused-numbers, Cut, with-root, Root-fits, Rooted}
+use Rattle.syntax.specs.declared.Numbers.{Numbers}
 
 -- a room that is cleared from its start
 wiped : {l m : List ℕ} → Cleared 0 l m → m ≡ cleared l
 wiped {l} z = let e : length l - 0 ≡ length l = omega arith in z .zeros ∙ rw e
 
 -- the root's row and links are written, and zeros after them
-pub rooted : {c : Cursor} {ns ls ys ss ns₁ ls₁ ns₂ ls₂ ys₂ ss₂ : List ℕ} {n : Node} {r : Answer} → Fitting c (rooms ns ls ys ss) → Written (3 * c .links) (3 * (c .links + c .held)) (take (3 * c .held) ss) ls ls₁ → Inserted (c .nodes) 20 0 0 (c .links ∷ c .held ∷ absent ∷ []) ns ns₁ n →
+pub rooted : {c : Cursor} {ns ls ys ss ns₁ ls₁ ns₂ ls₂ ys₂ ss₂ : List ℕ} {n : Node} {r : Numbers} → Root-fits c (rooms ns ls ys ss) → Written (3 * c .links) (3 * (c .links + c .held)) (take (3 * c .held) ss) ls ls₁ → Inserted (c .nodes) 20 0 0 (c .links ∷ c .held ∷ absent ∷ []) ns ns₁ n →
     Cleared (9 * (c .nodes + 1)) ns₁ ns₂ → Cleared (3 * (c .links + c .held)) ls₁ ls₂ → Cleared (2 * c .symbols) ys ys₂ → Cleared 0 ss ss₂ → numbers r ≡ record { code = 0; nodes = c .nodes + 1; links = c .links + c .held; symbols = c .symbols; at = 0; start = 0; end = 0; expected = 255 } →
     Rooted c (rooms ns ls ys ss) (rooms ns₂ ls₂ ys₂ ss₂) r
 rooted {c} {ns} {ls} {ys} {ss} {ns₁} {ls₁} {ns₂} {ls₂} f w i zn zl zy zs e =
@@ -57,7 +60,7 @@ rooted {c} {ns} {ls} {ys} {ss} {ns₁} {ls₁} {ns₂} {ls₂} f w i zn zl zy zs
     record { numbers-are = e ∙ rw (nodes, links, symbols); rooms-are = rw (n, l, cleared-filled (f .symbols) zy, wiped zs) }
 
 -- all rooms are cleared
-pub cut : {ts : List ℕ} {q : Refusal} {ns ls ys ss ns₁ ls₁ ys₁ ss₁ : List ℕ} {r : Answer} → Cleared 0 ns ns₁ → Cleared 0 ls ls₁ → Cleared 0 ys ys₁ → Cleared 0 ss ss₁ → numbers r ≡ refused-numbers ts q → Cut ts q (rooms ns ls ys ss) (rooms ns₁ ls₁ ys₁ ss₁) r
+pub cut : {ts : List ℕ} {q : Refusal} {ns ls ys ss ns₁ ls₁ ys₁ ss₁ : List ℕ} {r : Numbers} → Cleared 0 ns ns₁ → Cleared 0 ls ls₁ → Cleared 0 ys ys₁ → Cleared 0 ss ss₁ → numbers r ≡ refused-numbers ts q → Cut ts q (rooms ns ls ys ss) (rooms ns₁ ls₁ ys₁ ss₁) r
 cut zn zl zy zs e = record { numbers-are = e; rooms-are = rw (wiped zn, wiped zl, wiped zy, wiped zs) }
 
 -- where a script begins
@@ -79,7 +82,7 @@ filled-alike w a = rw (a .nodes, a .links, a .symbols, a .scratch)
 
 module _ {text ts : List ℕ} {limit : ℕ} {before : Rooms} (d : Let-in text ts limit before) where
   pub lent : Lent text ts
-  lent = let a = d .admitted in record { whole = a .whole; sound = a .sound; closed = a .closed }
+  lent = admitted-lent (d .admitted)
 
   pub ready : Ready text ts limit 0 (state (before .nodes) (before .links) (before .symbols) (before .scratch) start)
   ready =
@@ -95,7 +98,7 @@ module _ {text ts : List ℕ} {limit : ℕ} {before : Rooms} (d : Let-in text ts
     pub refused-at : q .at < count ts
     refused-at = omega (arith, refused-place (d .admitted) (Refuses.in-node x) .place, lent .whole .some)
 
-    pub refused-answer : {middle after : Rooms} {r : Answer} → Alike before middle → Cut ts q middle after r → Parsed text ts limit before after r
+    pub refused-answer : {middle after : Rooms} {r : Numbers} → Alike before middle → Cut ts q middle after r → Parsed text ts limit before after r
     refused-answer a c = record { answers = rw (c .numbers-are, c .rooms-are, cleared-alike a) (Answers.refused (d .admitted) (Comes.stop (Refuses.in-node x))) }
 
   -- the statements up to Eof are a script
@@ -107,7 +110,7 @@ module _ {text ts : List ℕ} {limit : ℕ} {before : Rooms} (d : Let-in text ts
     unfolding tree
     reads-script = Reads.labelled (l .reading .reads)
 
-    pub fitting : Fitting c (rooms ns ls ys ss)
+    pub fitting : Root-fits c (rooms ns ls ys ss)
     fitting =
         let w = l .within in
         let r = w .roomy in
@@ -129,7 +132,7 @@ module _ {text ts : List ℕ} {limit : ℕ} {before : Rooms} (d : Let-in text ts
     unfolding depth tree
     tree-fits = omega (arith, l .reading .fits)
 
-    pub accepted-answer : {after : Rooms} {r : Answer} → Rooted c (rooms ns ls ys ss) after r → Parsed text ts limit before after r
+    pub accepted-answer : {after : Rooms} {r : Numbers} → Rooted c (rooms ns ls ys ss) after r → Parsed text ts limit before after r
     accepted-answer {after} {r} a =
         let m = l .reading .rooms in
         let alike : Alike before (rooms ns ls ys ss) = record { nodes = m .nodes; links = m .links; symbols = m .symbols; scratch = m .scratch } in
@@ -146,14 +149,12 @@ module _ {text ts : List ℕ} {limit : ℕ} {s : State} {ns ls ys ss : List ℕ}
 
   pub listed-told : {n : Node} {c : Cursor} → r ≡ Read.Node n c → Listed text ts limit (whole (chain empty script-items)) 0 s (state ns ls ys ss c)
   unfolding List-case
-  listed-told e = (rw e at a) .says
+  listed-told e = (rw e at a) .says .1
 
 -- what the door's answer says, by its case
 module _ {text ts : List ℕ} {limit : ℕ} {before : Rooms} {e : Entry} (a : Entered text ts limit (length (before .nodes)) (length (before .links)) (length (before .symbols)) (length (before .scratch)) e) where
   pub let-in : e ≡ Entry.Open → Let-in text ts limit before
-  unfolding Case
-  let-in h = record { admitted = (rw h at a) .says before refl refl refl refl }
+  let-in h = record { admitted = opened ((rw h at a) .says before refl refl refl refl) refl }
 
-  pub turned : {q : Turned} {r : Answer} → e ≡ Entry.Refused q → numbers r ≡ turned-numbers q → Parsed text ts limit before before r
-  unfolding Case
-  turned h n = record { answers = rw n (Answers.turned-away ((rw h at a) .says before refl refl refl refl)) }
+  pub turned : {q : Turned} {r : Numbers} → e ≡ Entry.Refused q → numbers r ≡ entry-numbers (Entry.Refused q) → Parsed text ts limit before before r
+  turned h n = let b = rw h at a in record { answers = rw n (shut (b .says before refl refl refl refl) (b .told)) }

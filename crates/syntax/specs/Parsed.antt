@@ -3,22 +3,21 @@
 use Prim.Native.Nat.{ℕ, _+_, _*_, _≤_, _<_}
 use mathlib.Core.List.{List, [], _∷_, _++_}
 use mathlib.Core.Path.{_≡_}
-use lib.ListN.{length, getD, take}
-use Rattle.door.specs.declared.Refusal.{Refusal as Turned}
-use Rattle.grammar.specs.Answer.{Answer as Numbers, success, refuse, rooms-cleared, rooms-filled, Answers}
+use lib.ListN.{length, take}
+use Rattle.grammar.specs.Answer.{Answer, success, refuse, rooms-cleared, rooms-filled, Answers}
 use Rattle.grammar.specs.Call.{Call}
-use Rattle.grammar.specs.Door.{Sound, Closed, Admitted}
+use Rattle.grammar.specs.Door.{Admitted}
 use Rattle.grammar.specs.Handle.{absent}
 use Rattle.grammar.specs.Label.{Node, number-of}
 use Rattle.grammar.specs.Room.{Rooms, node-width, link-width, symbol-width, scratch-width}
 use Rattle.grammar.specs.Rows.{Rows, padded}
-use Rattle.grammar.specs.Token.{count, start, end}
-use Rattle.parser.specs.declared.Cursor.{Cursor}
-use Rattle.parser.specs.declared.Refusal.{Refusal}
-use Rattle.syntax.specs.declared.Answer.{Answer}
+use Rattle.grammar.specs.Token.{start, end}
+use Rattle.reading.specs.declared.Cursor.{Cursor}
+use Rattle.reading.specs.declared.Refusal.{Refusal}
+use Rattle.syntax.specs.declared.Numbers.{Numbers}
 
 -- 'code, three row counts, at, start, end, expected'
-abbrev pub numbers : Answer → Numbers
+abbrev pub numbers : Numbers → Answer
 numbers r = record { code = r .code; nodes = r .nodes; links = r .links; symbols = r .symbols; at = r .at; start = r .start; end = r .end; expected = r .expected }
 
 abbrev pub rooms : (nodes links symbols scratch : List ℕ) → Rooms
@@ -28,28 +27,19 @@ abbrev pub call : (text ts : List ℕ) (limit : ℕ) → Rooms → Call
 call text ts limit r = record { text = text; tokens = ts; limit = limit; rooms = r }
 
 -- the call with these rooms is answered so, and leaves the rooms so
-pub record Parsed (text ts : List ℕ) (limit : ℕ) (before after : Rooms) (r : Answer) : Type 0 where
+pub record Parsed (text ts : List ℕ) (limit : ℕ) (before after : Rooms) (r : Numbers) : Type 0 where
   pub answers : Answers (call text ts limit before) (numbers r) after
 
 -- the call is let in
 pub record Let-in (text ts : List ℕ) (limit : ℕ) (before : Rooms) : Type 0 where
   pub admitted : Admitted (call text ts limit before)
 
--- checks 5 to 7 find nothing
-pub record Checked (text ts : List ℕ) : Type 0 where
-  pub ascii : (i : ℕ) → i < length text → getD text i 0 ≤ 127
-  pub sound : (i : ℕ) → i < count ts → Sound text ts i
-  pub closed : (i : ℕ) → i < count ts → Closed ts i
-
--- the numbers of a refusal at the door, and of one in reading
-abbrev pub turned-numbers : Turned → Numbers
-turned-numbers q = refuse (q .code) (q .at) (q .start) (q .end) 255
-
-abbrev pub refused-numbers : (ts : List ℕ) → Refusal → Numbers
+-- the numbers of a refusal in reading
+abbrev pub refused-numbers : (ts : List ℕ) → Refusal → Answer
 refused-numbers ts q = refuse (q .code) (q .at) (start ts (q .at)) (end ts (q .at)) (q .expected)
 
 -- a reading is refused: all rooms are zero throughout
-pub record Cut (ts : List ℕ) (q : Refusal) (before after : Rooms) (r : Answer) : Type 0 where
+pub record Cut (ts : List ℕ) (q : Refusal) (before after : Rooms) (r : Numbers) : Type 0 where
   pub numbers-are : numbers r ≡ refused-numbers ts q
   pub rooms-are : after ≡ rooms-cleared before
 
@@ -61,8 +51,12 @@ with-root c r = record {
   symbols = take (symbol-width * c .symbols) (r .symbols);
 }
 
+-- the numbers of a reading that is whole
+abbrev pub accepted-numbers : Cursor → Rooms → Answer
+accepted-numbers c r = success (with-root c r)
+
 -- there is room for that
-pub record Fitting (c : Cursor) (r : Rooms) : Type 0 where
+pub record Root-fits (c : Cursor) (r : Rooms) : Type 0 where
   pub nodes : node-width * (c .nodes + 1) ≤ length (r .nodes)
   pub links : link-width * (c .links + c .held) ≤ length (r .links)
   pub symbols : symbol-width * c .symbols ≤ length (r .symbols)
@@ -70,6 +64,6 @@ pub record Fitting (c : Cursor) (r : Rooms) : Type 0 where
   pub few : c .nodes + c .links + c .held + c .symbols < 65536
 
 -- a script is read: its rows, then zeros to the end of each room
-pub record Rooted (c : Cursor) (before after : Rooms) (r : Answer) : Type 0 where
-  pub numbers-are : numbers r ≡ success (with-root c before)
+pub record Rooted (c : Cursor) (before after : Rooms) (r : Numbers) : Type 0 where
+  pub numbers-are : numbers r ≡ accepted-numbers c before
   pub rooms-are : after ≡ rooms-filled (with-root c before) before

@@ -6,29 +6,30 @@ use ast::room::push;
 use door::Entry;
 use door::check;
 use door::lengths;
-use parser::Cursor;
-use parser::Read;
-use parser::Refusal;
 use parser::readers::statement;
+use reading::Cursor;
+use reading::Read;
+use reading::Refusal;
 use token::list::end_at;
 use token::list::kind_at;
 use token::list::start_at;
 ghost use mathlib.Core.Path.{_≡_};
 ghost use Prim.Native.Nat.{_≤_, _<_};
 ghost use Rattle.grammar.specs.Answer.{refuse};
+ghost use Rattle.grammar.specs.Door.{Lent};
 ghost use Rattle.grammar.specs.Kaori as form;
 ghost use Rattle.grammar.specs.Phrase.{empty, chain, whole};
 ghost use Rattle.grammar.specs.Token.{count};
-ghost use Rattle.parser.specs.Answers.{Lists};
-ghost use Rattle.parser.specs.State.{state, Ready};
-ghost use Rattle.syntax.specs.Parsed.{numbers, rooms, Parsed, Let-in, Checked, Cut, Fitting, Rooted};
+ghost use Rattle.reading.specs.Answers.{Lists};
+ghost use Rattle.reading.specs.State.{state, Ready};
+ghost use Rattle.syntax.specs.Parsed.{numbers, rooms, Parsed, Let-in, Cut, Root-fits, Rooted};
 
 // No row.
 const ABSENT: u32 = 4294967295;
 
 // The answer of a call: a code, which is 0 or a refusal's; how many rows each room has, 0 for a refusal; and a refusal's place and the kind that was
 // required there (255: no certain kind).
-pub struct Answer {
+pub struct Numbers {
     pub code: u32,
     pub nodes: u32,
     pub links: u32,
@@ -39,13 +40,13 @@ pub struct Answer {
     pub expected: u32,
 }
 
-// The answer of a refusal: no rows are counted. Public for the crates above.
+// The answer of a refusal: no rows are counted. It is public for crate reader, which has refusals of its own.
 // Ruled out: a count that is not 0; a start and an end in each other's place.
-pub fn refused(code: u32, at: u32, start: u32, end: u32, expected: u32) -> Answer
+pub fn refused(code: u32, at: u32, start: u32, end: u32, expected: u32) -> Numbers
     ensures { λ r. ⌜ numbers r ≡ refuse code at start end expected ⌝ }
 {
     let rows = 0;
-    Answer {
+    Numbers {
         code: code,
         nodes: rows,
         links: rows,
@@ -72,9 +73,10 @@ fn statements(
     ensures { λ r. ⌜ Lists (now (text .entry)) (now (tokens .entry)) limit (whole (chain empty form.script-items)) 0 (state (now (nodes .entry)) (now (links .entry)) (now (symbols .entry)) (now (scratch .entry)) cur) (now (nodes .exit)) (now (links .exit)) (now (symbols .exit)) (now (scratch .exit)) r ⌝ }
 {
     let mut now = cur;
+    let first = cur.at;
+    let mut kind = kind_at(tokens, first);
     'list: loop {
-        let at = now.at;
-        if kind_at(tokens, at) == 44 {
+        if kind == 44 {
             break 'list;
         }
         let read = statement(text, tokens, nodes, links, symbols, scratch, limit, 0, now);
@@ -85,6 +87,8 @@ fn statements(
         push(scratch, held, item.id, 0, 0);
         now = end;
         now.held = held + 1;
+        let next = end.at;
+        kind = kind_at(tokens, next);
     }
     let list = Node {
         id: 0,
@@ -101,8 +105,8 @@ fn root(
     symbols: &mut [u32],
     scratch: &mut [u32],
     end: Cursor,
-) -> Answer
-    requires { ⌜ Fitting end (rooms (now nodes) (now links) (now symbols) (now scratch)) ⌝ }
+) -> Numbers
+    requires { ⌜ Root-fits end (rooms (now nodes) (now links) (now symbols) (now scratch)) ⌝ }
     ensures { λ r. ⌜ Rooted end (rooms (now (nodes .entry)) (now (links .entry)) (now (symbols .entry)) (now (scratch .entry))) (rooms (now (nodes .exit)) (now (links .exit)) (now (symbols .exit)) (now (scratch .exit))) r ⌝ }
 {
     let first = end.links;
@@ -116,7 +120,7 @@ fn root(
     clear(links, 3 * used);
     clear(symbols, 2 * known);
     clear(scratch, 0);
-    Answer {
+    Numbers {
         code: 0,
         nodes: last.id + 1,
         links: used as u32,
@@ -136,7 +140,7 @@ fn cut(
     symbols: &mut [u32],
     scratch: &mut [u32],
     why: Refusal,
-) -> Answer
+) -> Numbers
     requires { ⌜ (why .at < count (now tokens)) × (count (now tokens) ≤ 4096) ⌝ }
     ensures { λ r. ⌜ Cut (now (tokens .entry)) why (rooms (now (nodes .entry)) (now (links .entry)) (now (symbols .entry)) (now (scratch .entry))) (rooms (now (nodes .exit)) (now (links .exit)) (now (symbols .exit)) (now (scratch .exit))) r ⌝ }
 {
@@ -159,7 +163,7 @@ fn script(
     links: &mut [u32],
     symbols: &mut [u32],
     scratch: &mut [u32],
-) -> Answer
+) -> Numbers
     requires { ⌜ Let-in (now text) (now tokens) limit (rooms (now nodes) (now links) (now symbols) (now scratch)) ⌝ }
     ensures { λ r. ⌜ Parsed (now (text .entry)) (now (tokens .entry)) limit (rooms (now (nodes .entry)) (now (links .entry)) (now (symbols .entry)) (now (scratch .entry))) (rooms (now (nodes .exit)) (now (links .exit)) (now (symbols .exit)) (now (scratch .exit))) r ⌝ }
 {
@@ -177,8 +181,8 @@ fn script(
     }
 }
 
-// Reads a script whose text and list have what checks 5 to 7 ask, so that they need not be looked at: the answer of `parse`. For the crates above, which know
-// that of a list that they made. Ruled out: 3 where the list has too many tokens; a reading in rooms that are too small.
+// Reads a script as `parse` does, but looks at lengths and the limit alone. It asks that text and list have what checks 1 and 5 to 7 ask: the crates above know that
+// of a list that they made. Ruled out: 4 where the limit is 0; a reading in rooms that are too small.
 pub fn parse_checked(
     text: &[u8],
     tokens: &[u32],
@@ -187,8 +191,8 @@ pub fn parse_checked(
     links: &mut [u32],
     symbols: &mut [u32],
     scratch: &mut [u32],
-) -> Answer
-    requires { ⌜ Checked (now text) (now tokens) ⌝ }
+) -> Numbers
+    requires { ⌜ Lent (now text) (now tokens) ⌝ }
     ensures { λ r. ⌜ Parsed (now (text .entry)) (now (tokens .entry)) limit (rooms (now (nodes .entry)) (now (links .entry)) (now (symbols .entry)) (now (scratch .entry))) (rooms (now (nodes .exit)) (now (links .exit)) (now (symbols .exit)) (now (scratch .exit))) r ⌝ }
 {
     let code = lengths(
@@ -217,7 +221,7 @@ pub fn parse(
     links: &mut [u32],
     symbols: &mut [u32],
     scratch: &mut [u32],
-) -> Answer
+) -> Numbers
     ensures { λ r. ⌜ Parsed (now (text .entry)) (now (tokens .entry)) limit (rooms (now (nodes .entry)) (now (links .entry)) (now (symbols .entry)) (now (scratch .entry))) (rooms (now (nodes .exit)) (now (links .exit)) (now (symbols .exit)) (now (scratch .exit))) r ⌝ }
 {
     let entry = check(

@@ -1,7 +1,7 @@
 -- `first_unsound` meets its contract: the loop keeps that every token passed is sound. The table of spellings that it lends is made before it.
 use borrow.Author.Tests.{not-true, not-false}
-use Rattle.token.proofs.Deciding.{held, failed}
-use Rattle.token.proofs.Spellings.{whole}
+use Rattle.spelling.proofs.Deciding.{held, failed}
+use Rattle.spelling.proofs.Spellings.{whole}
 use borrow.Author.Needs.{needs}
 use Prim.Native.Nat.{_-_, _/_}
 use lib.ListN.{length}

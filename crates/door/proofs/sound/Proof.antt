@@ -2,7 +2,7 @@
 use mathlib.Core.Path.{_≡_}
 use Prim.Native.Nat.{_-_}
 use native.Mathlib.Omega.{arith}
-use Rattle.token.proofs.Deciding.{fails, carried}
+use Rattle.spelling.proofs.Deciding.{fails, carried}
 use borrow.Author.Needs.{needs}
 use Rattle.door.proofs.sound.Statement.{statement}
 use Rattle.door.proofs.sound.Tie as tie

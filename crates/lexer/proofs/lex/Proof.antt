@@ -1,6 +1,7 @@
 -- `lex` meets its contract: the text's length, its first high byte, and then what `tokens` answers.
 use borrow.Author.Needs.{needs}
-use Rattle.door.proofs.Codes.{first-of, found-high, none-high}
+use Rattle.door.proofs.Searching.{first-of}
+use Rattle.door.proofs.Codes.{found-high, none-high}
 use Rattle.lexer.specs.Lexes.{Lexes}
 use Rattle.lexer.proofs.lex.Statement.{statement}
 use Rattle.lexer.proofs.lex.Tie as tie

@@ -4,7 +4,7 @@ use mathlib.Core.Path.{_∙_}
 use native.Mathlib.Omega.{arith}
 use lib.ListN.{length}
 use borrow.Author.Needs.{needs}
-use Rattle.token.proofs.Spellings.{whole}
+use Rattle.spelling.proofs.Spellings.{whole}
 use Rattle.lexer.specs.Reads.{Longest}
 use Rattle.lexer.proofs.Making.{Made, a-blank, no-blank, token-there, nothing-there, made-none, made-blank, made-token, stopped, too-many, all-made}
 use Rattle.lexer.proofs.Standing.{stands-some}

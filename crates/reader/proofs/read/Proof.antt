@@ -1,4 +1,4 @@
--- `read` meets its contract: the token maker's refusal, or what `parse` answers of the list that it made, which has what checks 5 to 7 ask.
+-- `read` meets its contract: the token maker's refusal, or what `parse` answers of the list that it made, which has what checks 1 and 5 to 7 ask.
 use borrow.Author.Needs.{needs}
 use native.Mathlib.Omega.{arith}
 use mathlib.Core.Path.{sym}
@@ -22,9 +22,7 @@ slice-aggregate-parse-checked : tie.Need-slice-aggregate-parse-checked
 slice-aggregate-parse-checked c = sym (length-take-le _ _ (made-fits (c .before .before .before .before .before .before .lex .ensures) (c .before .before .if1 .left) .0))
 
 parse-checked-requires : tie.Need-parse-checked-requires
-parse-checked-requires c κs =
-    let m = made-list (c .before .before .before .before .before .before .before .before .before .before .lex .ensures) (c .before .before .before .before .before .before .if1 .left) in
-    record { ascii = m .readable .ascii; sound = m .passes .sound; closed = m .passes .closed }
+parse-checked-requires c κs = made-list (c .before .before .before .before .before .before .before .before .before .before .lex .ensures) (c .before .before .before .before .before .before .if1 .left) .lent
 
 returns-2 : tie.Need-returns-2
 returns-2 c = record { answers = Answers-text.made (c .before .before .before .before .before .before .before .before .before .before .before .before .before .before .before .before .before .before .before .lex .ensures) (c .before .before .before .before .before .before .before .before .before .before .before .before .before .before .before .if1 .left) (c .before .before .before .before .before .before .before .before .parse-checked .ensures .answers) }

@@ -18,13 +18,10 @@ told h q e = rw e (Places.place h q)
 returns : tie.Need-returns
 returns c = Places.short (omega arith)
 
-slice-write-answer-2 : tie.Need-slice-write-answer-2
-slice-write-answer-2 c = simp length-set (omega arith)
-
 returns-2 : tie.Need-returns-2
 returns-2 c =
     let p = c .place .result in
     told (omega arith) (c .place .ensures) (three (c .before .before .before .before .args .answer .now) (p .code) (p .line) (p .column) (omega arith))
 
 pub kaori-place-spec : {M : Type 1} → statement M
-kaori-place-spec = tie.close (tie.spec returns (λ c κs. search needs) (λ c. search needs) slice-write-answer-2 (λ c. search needs) (λ c. search needs) returns-2)
+kaori-place-spec = tie.close (tie.spec returns (λ c κs. search needs) (λ c. search needs) (λ c. simp length-set (omega arith)) (λ c. search needs) (λ c. search needs) returns-2)

@@ -1,7 +1,7 @@
 -- `parse_checked` meets its contract: what its lengths turn away is answered so, and anything else would be let in by the door.
 use mathlib.Core.Path.{refl}
 use borrow.Author.Needs.{needs}
-use Rattle.door.specs.Entry.{Listed}
+use Rattle.door.specs.Entry.{List-checked}
 use Rattle.door.proofs.Codes.{by-lengths, by-list}
 use Rattle.syntax.proofs.Scripts.{let-in, turned}
 use Rattle.syntax.proofs.parse_checked.Statement.{statement}
@@ -13,7 +13,7 @@ returns c = turned (by-lengths (c .before .before .lengths .ensures) (c .before 
 script-requires : tie.Need-script-requires
 script-requires c κs =
     let p = c .before .before .before .before .before .before .before .before .before .before .before .before .pre in
-    let-in (by-list (c .before .before .before .before .before .lengths .ensures) (c .before .before .before .before .if1 .left) (p .ascii) (Listed.let-in (p .sound) (p .closed))) refl
+    let-in (by-list (c .before .before .before .before .before .lengths .ensures) (c .before .before .before .before .if1 .left) (p .ascii) (List-checked.let-in p)) refl
 
 returns-2 : tie.Need-returns-2
 returns-2 c = c .before .before .before .before .before .before .before .before .script .ensures

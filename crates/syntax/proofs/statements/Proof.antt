@@ -1,4 +1,4 @@
--- The statements up to Eof: the loop keeps a listing, as that of any list, and each turn holds one statement more.
+-- The statements up to Eof: the loop keeps a listing, as that of any list, and the kind of the token after it; each turn holds one statement more.
 use Prim.Native.Nat.{ℕ, _-_}
 use borrow.Author.Needs.{needs}
 use native.Mathlib.Omega.{arith}
@@ -10,15 +10,15 @@ use Rattle.grammar.specs.Kaori.{rules, script-items, statement as a-statement}
 use Rattle.grammar.specs.Kind.{Eof}
 use Rattle.grammar.specs.Phrase.{empty, choice, chain, whole}
 use Rattle.grammar.specs.Refusal.{Refused}
-use Rattle.grammar.specs.Token.{count}
-use Rattle.parser.specs.Answers.{State-case, States, Stated, List-case, Lists}
-use Rattle.parser.specs.Reading.{refusal, Refusing}
-use Rattle.parser.specs.State.{State, state, Within}
-use Rattle.parser.specs.declared.Read.{Read}
-use Rattle.parser.specs.declared.Refusal.{Refusal}
-use Rattle.parser.proofs.Listings.{Listing, Item-of, listing-none, listing-more, listing-end, lists, item-less, hold-room, hold-number}
-use Rattle.parser.proofs.Names.{plain, keyed, unkeyed}
-use Rattle.parser.proofs.Replies.{stated, further}
+use Rattle.grammar.specs.Token.{kind, count}
+use Rattle.reading.specs.Answers.{State-case, States, Stated, List-case, Lists}
+use Rattle.reading.specs.Reading.{refusal, Refusing}
+use Rattle.reading.specs.State.{State, state, Within}
+use Rattle.reading.specs.declared.Read.{Read}
+use Rattle.reading.specs.declared.Refusal.{Refusal}
+use Rattle.reading.proofs.Listings.{Listing, Item-of, listing-none, listing-more, listing-end, lists, item-less, hold-room, hold-number}
+use Rattle.reading.proofs.Names.{plain, keyed, unkeyed}
+use Rattle.reading.proofs.Replies.{stated, further}
 use Rattle.parser.proofs.Sorts.{statement-link}
 use Rattle.syntax.proofs.statements.Statement.{statement}
 use Rattle.syntax.proofs.statements.Tie as tie
@@ -33,22 +33,27 @@ passed {q = q} e a up = rw e (record { says = up (refusal q) ((rw e at a) .says)
 row-held : {text ts : List ℕ} {limit o : ℕ} {s s′ : State} {n : Node} → Within text ts s → (z : Stated text ts limit o s n s′) → n .id ∷ 0 ∷ 0 ∷ [] ≡ link (z .handle)
 row-held w z = sym (statement-link w (z .success .reading) ∙ ap (λ i. i ∷ 0 ∷ 0 ∷ []) (z .row-is))
 
+-- what the loop keeps: what is read and held since s, and the kind of the token that comes next
+record Up-to (text ts : List ℕ) (limit : ℕ) (s s₁ : State) (x : ℕ) : Type 0 where
+  listing : Listing text ts limit script-items 0 s s₁
+  next-is : x ≡ kind ts (s₁ .cursor .at)
+
 abbrev Inv-list : tie.InvT-list
-Inv-list text tokens nodes₀ links₀ symbols₀ scratch₀ limit now₀ nodes links symbols scratch now = Listing text tokens limit script-items 0 (state nodes₀ links₀ symbols₀ scratch₀ now₀) (state nodes links symbols scratch now)
+Inv-list text tokens nodes₀ links₀ symbols₀ scratch₀ limit now₀ first kind₀ nodes links symbols scratch now kind = Up-to text tokens limit (state nodes₀ links₀ symbols₀ scratch₀ now₀) (state nodes links symbols scratch now) kind
 
 abbrev μ-list : tie.MeasureT-list
-μ-list text tokens nodes₀ links₀ symbols₀ scratch₀ limit now₀ nodes links symbols scratch now = count tokens - now .at
+μ-list text tokens nodes₀ links₀ symbols₀ scratch₀ limit now₀ first kind₀ nodes links symbols scratch now kind = count tokens - now .at
 
 -- where the script goes on: what its table has there
-on : (c : tie.Else1 Inv-list μ-list) → Item-of (c .before .before .list .inv) (choice a-statement)
+on : (c : tie.In-list Inv-list μ-list) → Item-of (c .before .list .inv .listing) (choice a-statement)
 unfolding rules
-on c = unkeyed _ _ script-items _ refl (plain Eof tt) (rw (c .before .kind-at .ensures) at (c .if1 .left))
+on c = unkeyed _ _ script-items _ refl (plain Eof tt) (rw (c .before .list .inv .next-is) at (c .list-test .left))
 
 list-holds : tie.Need-list-holds Inv-list μ-list
-list-holds c = let p = c .before .before .before .before .before .before .pre in listing-none (p .deep) (p .within)
+list-holds c = let p = c .before .before .before .before .before .before .before .pre in record { listing = listing-none (p .deep) (p .within); next-is = c .kind-at .ensures }
 
 returns : tie.Need-returns Inv-list μ-list
-returns c = passed (c .enum-told .given .1) (c .before .before .before .before .before .before .before .before .before .before .statement .ensures) (λ x h. further (c .before .before .before .before .before .before .before .before .before .before .before .before .before .before .before .before .before .list .inv .reading) (on (c .before .before .before .before .before .before .before .before .before .before .before .before .before .before .before)) h)
+returns c = passed (c .enum-told .given .1) (c .before .before .before .before .before .before .before .before .before .before .statement .ensures) (λ x h. further (c .before .before .before .before .before .before .before .before .before .before .before .before .before .before .before .before .list .inv .listing .reading) (on (c .before .before .before .before .before .before .before .before .before .before .before .before .before .before .before)) h)
 
 push-requires : tie.Need-push-requires Inv-list μ-list
 push-requires c κs = hold-room (stated (c .before .before .read .given .1) (c .before .before .before .before .before .before .before .before .before .before .before .before .statement .ensures) .success .within)
@@ -56,20 +61,23 @@ push-requires c κs = hold-room (stated (c .before .before .read .given .1) (c .
 add-now : tie.Need-add-now Inv-list μ-list
 add-now c = omega (arith, hold-number (stated (c .before .before .before .before .before .read .given .1) (c .before .before .before .before .before .before .before .before .before .before .before .before .before .before .before .statement .ensures) .success .within) (c .before .before .before .before .before .before .before .before .before .before .before .before .before .before .before .before .before .before .before .before .before .before .before .before .before .before .before .before .before .pre .lent))
 
-list-less : tie.Need-list-less Inv-list μ-list
-list-less c = item-less (c .before .before .before .before .before .before .before .before .before .before .before .before .before .before .before .before .before .before .before .before .before .before .list .inv) (on (c .before .before .before .before .before .before .before .before .before .before .before .before .before .before .before .before .before .before .before .before)) (stated (c .before .before .before .before .before .read .given .1) (c .before .before .before .before .before .before .before .before .before .before .before .before .before .before .before .statement .ensures) .success)
+kind-at-requires-2 : tie.Need-kind-at-requires-2 Inv-list μ-list
+kind-at-requires-2 c κs = stated (c .before .before .before .before .before .read .given .1) (c .before .before .before .before .before .before .before .before .before .before .before .before .before .before .before .statement .ensures) .success .within .at
 
 list-again : tie.Need-list-again Inv-list μ-list
 list-again c =
-    let l = c .before .before .before .before .before .before .before .before .before .before .before .before .before .before .before .before .before .before .before .before .before .before .list .inv in
-    let z = stated (c .before .before .before .before .before .read .given .1) (c .before .before .before .before .before .before .before .before .before .before .before .before .before .before .before .statement .ensures) in
-    listing-more l (on (c .before .before .before .before .before .before .before .before .before .before .before .before .before .before .before .before .before .before .before .before)) (z .success) (c .before .before .push .ensures) (row-held (l .within) z)
+    let l = c .before .before .before .before .before .before .before .before .before .before .before .before .before .before .before .before .before .before .before .before .before .before .list .inv .listing in
+    let z = stated (c .before .before .before .before .before .before .read .given .1) (c .before .before .before .before .before .before .before .before .before .before .before .before .before .before .before .before .statement .ensures) in
+    record { listing = listing-more l (on (c .before .before .before .before .before .before .before .before .before .before .before .before .before .before .before .before .before .before .before .before .before)) (z .success) (c .before .before .before .push .ensures) (row-held (l .within) z); next-is = c .kind-at2 .ensures }
+
+list-less : tie.Need-list-less Inv-list μ-list
+list-less c = item-less (c .before .before .before .before .before .before .before .before .before .before .before .before .before .before .before .before .before .before .before .before .before .before .list .inv .listing) (on (c .before .before .before .before .before .before .before .before .before .before .before .before .before .before .before .before .before .before .before .before .before)) (stated (c .before .before .before .before .before .before .read .given .1) (c .before .before .before .before .before .before .before .before .before .before .before .before .before .before .before .before .statement .ensures) .success)
 
 returns-2 : tie.Need-returns-2 Inv-list μ-list
 unfolding rules
-returns-2 c = lists (listing-end (c .before .before .list .inv) (keyed _ _ script-items _ refl (plain Eof tt) (rw (c .before .kind-at .ensures) at (c .if1 .taken))))
+returns-2 c = lists (listing-end (c .before .list .inv .listing) (keyed _ _ script-items _ refl (plain Eof tt) (rw (c .before .list .inv .next-is) at (c .list-test .taken))))
 
 pub statements-spec : {M : Type 1} → statement M
 statements-spec =
     tie.close
-    (tie.spec Inv-list μ-list list-holds (λ c κs. search needs) (λ c κs. search needs) (λ c. search needs) (λ c. search needs) (λ c. search needs) (λ c. search needs) (λ c. search needs) (λ c. search needs) returns push-requires add-now list-less list-again (λ c. search needs) (λ c. search needs) (λ c. search needs) (λ c. search needs) returns-2)
+    (tie.spec Inv-list μ-list (λ c κs. search needs) list-holds (λ c κs. search needs) (λ c. search needs) (λ c. search needs) (λ c. search needs) (λ c. search needs) (λ c. search needs) (λ c. search needs) returns push-requires add-now kind-at-requires-2 list-less list-again (λ c. search needs) (λ c. search needs) (λ c. search needs) (λ c. search needs) returns-2)

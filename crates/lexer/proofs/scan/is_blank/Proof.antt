@@ -1,7 +1,7 @@
 -- `scan::is_blank` meets its contract: each way through the match is a range of bytes on which the test has one value.
 use mathlib.Core.Path.{sym}
 use native.Mathlib.Omega.{arith}
-use Rattle.token.proofs.Ranges.{true-on, false-on, not-among}
+use Rattle.grammar.proofs.Ranges.{true-on, false-on, not-among}
 use Rattle.lexer.specs.Reads.{blanks, blank}
 use Rattle.lexer.proofs.scan.is_blank.Statement.{statement}
 use Rattle.lexer.proofs.scan.is_blank.Tie as tie

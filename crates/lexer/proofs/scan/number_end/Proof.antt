@@ -2,7 +2,7 @@
 use native.Mathlib.Omega.{arith}
 use borrow.Author.Needs.{needs}
 use Rattle.grammar.specs.Lexeme.{number}
-use Rattle.token.proofs.Numbers.{rest, rest-shy, rest-none, power-shy}
+use Rattle.lexeme.proofs.Numbers.{rest, rest-shy, rest-none, power-shy}
 use Rattle.lexer.proofs.Stretches.{Becomes, becomes-then, ended, at-text-end, run-on-some, run-some}
 use Rattle.lexer.proofs.Numbers.{no-point, a-point, lone-point}
 use Rattle.lexer.proofs.scan.number_end.Statement.{statement}

@@ -3,8 +3,8 @@ use mathlib.Core.Logic.{inl, inr}
 use native.Mathlib.Omega.{arith}
 use borrow.Author.Needs.{needs}
 use Rattle.grammar.specs.Pattern.{bytes, among}
-use Rattle.token.proofs.Numbers.{signed-none}
-use Rattle.token.proofs.Ranges.{of-two, not-among}
+use Rattle.lexeme.proofs.Numbers.{signed-none}
+use Rattle.grammar.proofs.Ranges.{of-two, not-among}
 use Rattle.lexer.proofs.Stretches.{left-out, taken-on, given-back, byte-on}
 use Rattle.lexer.proofs.Numbers.{no-power}
 use Rattle.lexer.proofs.scan.power_end.Statement.{statement}

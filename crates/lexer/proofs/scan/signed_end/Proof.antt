@@ -5,7 +5,7 @@ use native.Mathlib.Omega.{arith}
 use borrow.Author.Needs.{needs}
 use borrow.Author.Tests.{not-true}
 use Rattle.grammar.specs.Pattern.{bytes, among, digit}
-use Rattle.token.proofs.Ranges.{of-two, not-among}
+use Rattle.grammar.proofs.Ranges.{of-two, not-among}
 use Rattle.lexer.proofs.Stretches.{ended, left-out, taken-on, given-back, run-ends}
 use Rattle.lexer.proofs.Numbers.{a-sign, no-sign, no-digits, maybe-alike}
 use Rattle.lexer.proofs.scan.signed_end.Statement.{statement}

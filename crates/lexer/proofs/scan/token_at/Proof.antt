@@ -8,8 +8,8 @@ use lib.ListN.{getD}
 use borrow.Author.Needs.{needs}
 use Rattle.grammar.specs.Lexeme.{letter}
 use Rattle.grammar.specs.Pattern.{digit}
-use Rattle.token.proofs.Ranges.{true-on}
-use Rattle.lexer.specs.Parts.{Case}
+use Rattle.grammar.proofs.Ranges.{true-on}
+use Rattle.lexer.specs.Parts.{Start-case}
 use Rattle.lexer.proofs.Sorts.{other-byte}
 use Rattle.lexer.proofs.Standing.{a-number, a-string, no-string, a-word}
 use Rattle.lexer.proofs.Stretches.{taken-out}
@@ -17,11 +17,11 @@ use Rattle.lexer.proofs.scan.token_at.Statement.{statement}
 use Rattle.lexer.proofs.scan.token_at.Tie as tie
 
 returns : tie.Need-returns
-unfolding Case
+unfolding Start-case
 returns c = record { says = no-string (c .before .before .match .keys1) (c .before .string-end .ensures) (c .if1 .taken) }
 
 returns-2 : tie.Need-returns-2
-unfolding Case
+unfolding Start-case
 returns-2 c = record { says = a-string (c .before .before .match .keys1) (taken-out (c .before .string-end .ensures) (c .if1 .left)) }
 
 a-digit : (c : tie.Then3) → let a = c .before .before .before .before .before .before .args in digit (getD (a .text .now) (a .start) 0) ≡ true
@@ -31,7 +31,7 @@ number-end-requires : tie.Need-number-end-requires
 number-end-requires c κs = (search needs, a-digit c)
 
 returns-3 : tie.Need-returns-3
-unfolding Case
+unfolding Start-case
 returns-3 c = record { says = a-number (a-digit (c .before)) (c .number-end .ensures) }
 
 -- between the ranges of the arms
@@ -54,7 +54,7 @@ word-end-requires : tie.Need-word-end-requires
 word-end-requires c κs = (search needs, a-letter c)
 
 returns-5 : tie.Need-returns-5
-unfolding Case
+unfolding Start-case
 returns-5 c = record { says = a-word (a-letter (c .before .before)) (c .before .word-end .ensures) (c .keyword .ensures) }
 
 pub token-at-spec : {M : Type 1} → statement M

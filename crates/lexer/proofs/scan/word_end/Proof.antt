@@ -7,7 +7,7 @@ use borrow.Author.Needs.{needs}
 use borrow.Author.Tests.{not-true, not-false}
 use Rattle.grammar.specs.Lexeme.{identifier}
 use Rattle.grammar.specs.Pattern.{byte, many}
-use Rattle.token.specs.Parts.{letter-or-digit}
+use Rattle.lexeme.specs.Parts.{letter-or-digit}
 use Rattle.lexer.proofs.Stretches.{Becomes, becomes-then, ended, byte-on, many-more, many-stop}
 use Rattle.lexer.proofs.scan.word_end.Statement.{statement}
 use Rattle.lexer.proofs.scan.word_end.Tie as tie
