@@ -1,22 +1,30 @@
--- The children of a row, place by place, and what each kind names.
+-- What `child` answers at each place, and what stands below a row of each kind.
 use Prim.Native.Nat.{ℕ, zero, suc, _+_, _-_, _*_, _/_, _%_, _≤_, _<_}
 use native.Mathlib.Decide.{decLt, ℕ-discrete}
 use native.Mathlib.Omega.{arith}
-use mathlib.Core.Bool.{Bool, true, false, cond, _||_}
+use mathlib.Core.Bool.{Bool, true, false, _||_}
 use mathlib.Core.List.{List, [], _∷_, _++_}
 use mathlib.Core.Path.{_≡_, refl, sym, ap, _∙_}
-use lib.Dec.{T, eqb}
-use borrow.Author.Tests.{ne-eqb}
+use lib.Dec.{T}
 use lib.ListN.{length, getD, drop, length-append, List·getD-append, List·getD-eq-default}
 use lib.Seq.{getD-append-add, getD-drop}
 use Rattle.grammar.specs.Handle.{absent}
-use Rattle.grammar.specs.Layout.{Slot, layout, layouts}
-use Rattle.grammar.specs.Naming.{linked-nodes, linked-entries, naming, named-by}
+use Rattle.grammar.specs.Layout.{layout, layouts}
 use Rattle.grammar.specs.Pattern.{among}
 use Rattle.grammar.specs.Room.{node-width, link-width}
-use Rattle.grammar.proofs.Tests.{within}
-use Rattle.children.specs.Below.{Number, present, held, many-of, many, children, Below, Child}
+use Rattle.grammar.proofs.Tests.{None, not-among, within}
+use Rattle.children.specs.Below.{Number, three, nothing, one-more, listing, placed, Below, held, many-of, many, children, Child}
 use Rattle.children.specs.declared.Children.{Children}
+use Rattle.children.proofs.Pieces.{Piece, single, list, pieces, arranged, placed-pieces}
+
+-- a number of a list, whatever there would be past it
+pub in-list : (xs : List ℕ) (i d e : ℕ) → i < length xs → getD xs i d ≡ getD xs i e
+in-list [] i d e h = absurd (omega arith)
+in-list (x ∷ xs) zero d e h = refl
+in-list (x ∷ xs) (suc i) d e h = in-list xs i d e (omega arith)
+
+pub number-is : {room : List ℕ} {i r : ℕ} → Number room i r → r ≡ getD room i absent
+number-is {room} {i} n = elim (decLt i (length room)) [ yes h ↦ n .there h ∙ in-list room i 0 absent h | no h ↦ let l : length room ≤ i = omega arith in n .past l ∙ sym (List·getD-eq-default room absent l) ]
 
 -- how many children links hold
 pub many-two : (e n : ℕ) → (e ≡ 0 → ⊥) → (e ≡ 1 → ⊥) → many-of e n ≡ 2 * n
@@ -25,40 +33,39 @@ many-two zero n h k = absurd (h refl)
 many-two (suc zero) n h k = absurd (k refl)
 many-two (suc (suc e)) n h k = refl
 
-nodes-length : (n : ℕ) (ls : List ℕ) → length (linked-nodes n ls) ≡ n
-unfolding linked-nodes
-nodes-length zero ls = refl
-nodes-length (suc n) ls = ap suc (nodes-length n (drop link-width ls))
-
-entries-length : (n : ℕ) (ls : List ℕ) → length (linked-entries n ls) ≡ 2 * n
-unfolding linked-entries
-entries-length zero ls = refl
-entries-length (suc n) ls = let e = entries-length n (drop link-width ls) in omega (arith, e)
-
 held-length : (e n : ℕ) (ls : List ℕ) → length (held e n ls) ≡ many-of e n
 unfolding held many-of
-held-length zero n ls = refl
-held-length (suc zero) n ls = nodes-length n ls
-held-length (suc (suc k)) n ls = entries-length n ls
+held-length zero zero ls = refl
+held-length zero (suc n) ls = held-length zero n (drop link-width ls)
+held-length (suc zero) zero ls = refl
+held-length (suc zero) (suc n) ls = ap suc (held-length 1 n (drop link-width ls))
+held-length (suc (suc e)) zero ls = refl
+held-length (suc (suc e)) (suc n) ls = let l = held-length (suc (suc e)) n (drop link-width ls) in omega (arith, l)
+
+pub places-length : (ls : List ℕ) (b : Children) → length (children ls b) ≡ many b + 3
+places-length ls b = simp length-append (omega (arith, held-length (b .each) (b .count) (drop (link-width * b .from) ls)))
 
 -- the child that a link row holds: one each, or two
-node-at : (n i : ℕ) (ls : List ℕ) → i < n → getD (linked-nodes n ls) i absent ≡ getD ls (link-width * i) 0
-unfolding linked-nodes
+node-at : (n i : ℕ) (ls : List ℕ) → i < n → getD (held 1 n ls) i absent ≡ getD ls (link-width * i) absent
+unfolding held
 node-at zero i ls h = absurd (omega arith)
 node-at (suc n) zero ls h = refl
-node-at (suc n) (suc i) ls h = let e : link-width + link-width * i ≡ link-width * suc i = omega arith in node-at n i (drop link-width ls) (omega arith) ∙ getD-drop link-width ls (link-width * i) 0 ∙ ap (λ (k : ℕ). getD ls k 0) e
+node-at (suc n) (suc i) ls h = let e : link-width + link-width * i ≡ link-width * suc i = omega arith in node-at n i (drop link-width ls) (omega arith) ∙ getD-drop link-width ls (link-width * i) absent ∙ ap (λ (k : ℕ). getD ls k absent) e
 
-entry-at : (n k i : ℕ) (ls : List ℕ) → k < n → i < 2 → getD (linked-entries n ls) (2 * k + i) absent ≡ getD ls (link-width * k + i) 0
-unfolding linked-entries
-entry-at zero k i ls h j = absurd (omega arith)
-entry-at (suc n) zero zero ls h j = refl
-entry-at (suc n) zero (suc zero) ls h j = refl
-entry-at (suc n) zero (suc (suc i)) ls h j = absurd (omega arith)
-entry-at (suc n) (suc k) i ls h j =
+entry-at : (e n k i : ℕ) (ls : List ℕ) → (e ≡ 0 → ⊥) → (e ≡ 1 → ⊥) → k < n → i < 2 → getD (held e n ls) (2 * k + i) absent ≡ getD ls (link-width * k + i) absent
+unfolding held
+entry-at zero n k i ls y z h j = absurd (y refl)
+entry-at (suc zero) n k i ls y z h j = absurd (z refl)
+entry-at (suc (suc e)) zero k i ls y z h j = absurd (omega arith)
+entry-at (suc (suc e)) (suc n) zero zero ls y z h j = refl
+entry-at (suc (suc e)) (suc n) zero (suc zero) ls y z h j = refl
+entry-at (suc (suc e)) (suc n) zero (suc (suc i)) ls y z h j = absurd (omega arith)
+entry-at (suc (suc e)) (suc n) (suc k) i ls y z h j =
     let d : 2 * suc k + i ≡ suc (suc (2 * k + i)) = omega arith in
-    let e : link-width + (link-width * k + i) ≡ link-width * suc k + i = omega arith in
-    ap (λ (m : ℕ). getD (linked-entries (suc n) ls) m absent) d ∙ entry-at n k i (drop link-width ls) (omega arith) j ∙ getD-drop link-width ls (link-width * k + i) 0 ∙ ap (λ (m : ℕ). getD ls m 0) e
+    let f : link-width + (link-width * k + i) ≡ link-width * suc k + i = omega arith in
+    ap (λ (m : ℕ). getD (held (suc (suc e)) (suc n) ls) m absent) d ∙ entry-at (suc (suc e)) n k i (drop link-width ls) y z (omega arith) j ∙ getD-drop link-width ls (link-width * k + i) absent ∙ ap (λ (m : ℕ). getD ls m absent) f
 
+-- a place among those that the links hold
 module _ (ls : List ℕ) (b : Children) where
   abbrev rows : List ℕ
   rows = drop (link-width * b .from) ls
@@ -66,196 +73,115 @@ module _ (ls : List ℕ) (b : Children) where
   abbrev inner : List ℕ
   inner = held (b .each) (b .count) rows
 
-  -- a place among those that the links hold, and one after them
-  held-place : (p : ℕ) → p < many b → getD (children ls b) (suc p) absent ≡ getD inner p absent
-  held-place p h = List·getD-append inner (b .second ∷ b .third ∷ []) absent p (rw (held-length (b .each) (b .count) rows) h)
-
-  pub later-place : (n : ℕ) → getD (children ls b) (suc (many b + n)) absent ≡ getD (b .second ∷ b .third ∷ []) n absent
-  later-place n = rw (sym (held-length (b .each) (b .count) rows)) (getD-append-add inner (b .second ∷ b .third ∷ []) n absent)
-
-  pub one-each : b .each ≡ 1 → (p : ℕ) → p < many b → getD (children ls b) (suc p) absent ≡ getD ls (link-width * (b .from + p) + 0) 0
-  unfolding held many-of
-  one-each e p h =
-      let i : link-width * b .from + link-width * p ≡ link-width * (b .from + p) + 0 = omega arith in
-      let l : p < b .count = rw e at h in
-      held-place p h ∙ ap (λ (k : ℕ). getD (held k (b .count) rows) p absent) e ∙ node-at (b .count) p rows l ∙ getD-drop (link-width * b .from) ls (link-width * p) 0 ∙ ap (λ (k : ℕ). getD ls k 0) i
-
-  two-held : (e : ℕ) → (e ≡ 0 → ⊥) → (e ≡ 1 → ⊥) → held e (b .count) rows ≡ linked-entries (b .count) rows
-  unfolding held
-  two-held zero h k = absurd (h refl)
-  two-held (suc zero) h k = absurd (k refl)
-  two-held (suc (suc e)) h k = refl
-
-  pub two-each : (b .each ≡ 0 → ⊥) → (b .each ≡ 1 → ⊥) → (k i : ℕ) → i < 2 → 2 * k + i < many b → getD (children ls b) (suc (2 * k + i)) absent ≡ getD ls (link-width * (b .from + k) + i) 0
-  two-each y z k i j h =
-      let w : link-width * b .from + (link-width * k + i) ≡ link-width * (b .from + k) + i = omega arith in
-      let m = many-two (b .each) (b .count) y z in
-      held-place (2 * k + i) h ∙ ap (λ (x : List ℕ). getD x (2 * k + i) absent) (two-held (b .each) y z) ∙ entry-at (b .count) k i rows (omega (arith, m, h, j)) j ∙ getD-drop (link-width * b .from) ls (link-width * k + i) 0 ∙ ap (λ (n : ℕ). getD ls n 0) w
-
--- absent ones left out of two lists
-present-append : (xs ys : List ℕ) → present (xs ++ ys) ≡ present xs ++ present ys
-present-append [] ys = refl
-present-append (x ∷ xs) ys = pick (eqb x absent) (present-append xs ys)
-  where
-    pick : (t : Bool) {zs : List ℕ} → zs ≡ present xs ++ present ys → cond t zs (x ∷ zs) ≡ cond t (present xs) (x ∷ present xs) ++ present ys
-    pick true e = e
-    pick false e = ap (λ (l : List ℕ). x ∷ l) e
-
--- a list with nothing but absent ones after it
-pub trailing : (xs ys zs : List ℕ) → present ys ≡ present zs → present (xs ++ ys) ≡ present (xs ++ zs)
-trailing xs ys zs e = present-append xs ys ∙ ap (λ (l : List ℕ). present xs ++ l) e ∙ sym (present-append xs zs)
-
--- slots that name no row
-abbrev childless : List Slot → Bool
-childless [] = true
-childless (Slot.below n ∷ ss) = childless ss
-childless (Slot.child ∷ ss) = false
-childless (Slot.option ∷ ss) = false
-childless (Slot.symbol ∷ ss) = childless ss
-childless (Slot.name ∷ ss) = childless ss
-childless (Slot.nodes ∷ ss) = false
-childless (Slot.names ∷ ss) = childless ss
-childless (Slot.entries ∷ ss) = false
-
-none-named : (ss : List Slot) (ls xs : List ℕ) → T (childless ss) → naming ls ss xs ≡ []
-unfolding naming
-none-named [] ls xs t = refl
-none-named (Slot.below n ∷ ss) ls xs t = none-named ss ls (drop 1 xs) t
-none-named (Slot.child ∷ ss) ls xs t = absurd t
-none-named (Slot.option ∷ ss) ls xs t = absurd t
-none-named (Slot.symbol ∷ ss) ls xs t = none-named ss ls (drop 1 xs) t
-none-named (Slot.name ∷ ss) ls xs t = none-named ss ls (drop 3 xs) t
-none-named (Slot.nodes ∷ ss) ls xs t = absurd t
-none-named (Slot.names ∷ ss) ls xs t = none-named ss ls (drop 2 xs) t
-none-named (Slot.entries ∷ ss) ls xs t = absurd t
-
--- the kinds that name rows
-abbrev pub parents : List ℕ
-parents = 1 ∷ 2 ∷ 3 ∷ 4 ∷ 5 ∷ 6 ∷ 7 ∷ 8 ∷ 9 ∷ 15 ∷ 16 ∷ 17 ∷ 18 ∷ 19 ∷ 20 ∷ 21 ∷ 22 ∷ 23 ∷ []
-
-pub other-kind : (k : ℕ) (ls xs : List ℕ) → 0 < k → among parents k ≡ false → naming ls (layout k) xs ≡ []
-unfolding layout
-other-kind k ls xs h n = elim (decLt k 27) [ yes z ↦ none-named (layout k) ls xs (rw n at (within (λ j. among parents j || childless (layout j)) 1 26 k tt h (omega arith))) | no z ↦ rw (List·getD-eq-default layouts [] {n = k - 1} (omega arith)) (none-named [] ls xs tt) ]
+  held-place : (place p i : ℕ) → place ≡ suc p → p < many b → getD inner p absent ≡ getD rows i absent → getD (children ls b) place absent ≡ getD ls (link-width * b .from + i) absent
+  held-place place p i e h f = ap (λ (k : ℕ). getD (children ls b) k absent) e ∙ List·getD-append inner (b .second ∷ b .third ∷ []) absent p (rw (held-length (b .each) (b .count) rows) h) ∙ f ∙ getD-drop (link-width * b .from) ls i absent
 
 -- what `child` answers at each place
 module _ {ls : List ℕ} {b : Children} {place : ℕ} where
   pub at-first : place ≡ 0 → Child ls b place (b .first)
-  at-first e = record { one = λ h. rw e refl }
+  at-first e = record { one = rw e refl }
 
   pub at-one : {r : ℕ} → b .each ≡ 1 → 1 ≤ place → place ≤ many b → Number ls (link-width * (b .from + (place - 1)) + 0) r → Child ls b place r
   unfolding many-of
   at-one e l m n =
       let p : place ≡ suc (place - 1) = omega arith in
       let k : many b ≡ b .count = ap (λ (x : ℕ). many-of x (b .count)) e in
-      record { one = λ h. n .there (omega (arith, k)) ∙ sym (ap (λ (x : ℕ). getD (children ls b) x absent) p ∙ one-each ls b e (place - 1) (omega arith)) }
+      let i : link-width * (b .from + (place - 1)) + 0 ≡ link-width * b .from + link-width * (place - 1) = omega arith in
+      record { one = number-is n ∙ ap (λ (x : ℕ). getD ls x absent) i ∙ sym (held-place ls b place (place - 1) (link-width * (place - 1)) p (omega arith) (rw e (node-at (b .count) (place - 1) (rows ls b) (omega (arith, k))))) }
 
   pub at-two : {r : ℕ} → (b .each ≡ 1 → ⊥) → 1 ≤ place → place ≤ many b → Number ls (link-width * (b .from + (place - 1) / 2) + (place - 1) % 2) r → Child ls b place r
   unfolding many-of
   at-two e l m n =
       let z : b .each ≡ 0 → ⊥ = λ d. let k : many b ≡ 0 = ap (λ (x : ℕ). many-of x (b .count)) d in omega (arith, k) in
       let k = many-two (b .each) (b .count) z e in
-      let q : place ≡ suc (2 * ((place - 1) / 2) + (place - 1) % 2) = omega arith in
-      record { one = λ h. n .there (omega (arith, k)) ∙ sym (ap (λ (x : ℕ). getD (children ls b) x absent) q ∙ two-each ls b z e ((place - 1) / 2) ((place - 1) % 2) (omega arith) (omega arith)) }
+      let p : place ≡ suc (2 * ((place - 1) / 2) + (place - 1) % 2) = omega arith in
+      let i : link-width * (b .from + (place - 1) / 2) + (place - 1) % 2 ≡ link-width * b .from + (link-width * ((place - 1) / 2) + (place - 1) % 2) = omega arith in
+      record { one = number-is n ∙ ap (λ (x : ℕ). getD ls x absent) i ∙ sym (held-place ls b place _ _ p (omega arith) (entry-at (b .each) (b .count) ((place - 1) / 2) ((place - 1) % 2) (rows ls b) z e (omega (arith, k)) (omega arith))) }
 
   pub at-later : (i : ℕ) → place ≡ many b + 1 + i → Child ls b place (getD (b .second ∷ b .third ∷ []) i absent)
-  at-later i e = let p : place ≡ suc (many b + i) = omega arith in record { one = λ h. sym (ap (λ (x : ℕ). getD (children ls b) x absent) p ∙ later-place ls b i) }
+  at-later i e =
+      let p : place ≡ suc (length (inner ls b) + i) = omega (arith, held-length (b .each) (b .count) (rows ls b)) in
+      record { one = sym (ap (λ (x : ℕ). getD (children ls b) x absent) p ∙ getD-append-add (inner ls b) (b .second ∷ b .third ∷ []) i absent) }
 
   pub at-past : many b + 3 ≤ place → Child ls b place absent
-  at-past h = record { one = λ _. sym (List·getD-eq-default (children ls b) absent {n = place} (simp length-append (omega (arith, held-length (b .each) (b .count) (rows ls b), h)))) }
+  at-past h = record { one = sym (List·getD-eq-default (children ls b) absent {n = place} (omega (arith, places-length ls b, h))) }
 
--- a row's children are what it names: the kind's number k, and the numbers xs that follow kind and span
-abbrev after : List ℕ → ℕ → List ℕ
+-- what stands below a row, from the number k of its kind and the numbers that follow kind and span
+abbrev pub after : List ℕ → ℕ → List ℕ
 after ns row = drop (node-width * row + 3) ns
 
-abbrev Inside : List ℕ → ℕ → Type 0
+abbrev pub Inside : List ℕ → ℕ → Type 0
 Inside ns row = node-width * row + node-width ≤ length ns
 
--- number j of them
-pub field : {ns : List ℕ} {y : ℕ} (row j : ℕ) → Number ns (node-width * row + (3 + j)) y → j < 6 → Inside ns row → y ≡ getD (after ns row) j 0
-field {ns} row j n h room =
-    let e : node-width * row + (3 + j) ≡ node-width * row + 3 + j = omega arith in
-    n .there (omega arith) ∙ ap (λ (k : ℕ). getD ns k 0) e ∙ sym (getD-drop (node-width * row + 3) ns j 0)
+module _ {ns : List ℕ} (row : ℕ) (room : Inside ns row) where
+  -- number j of them
+  pub field : {y : ℕ} (j : ℕ) → Number ns (node-width * row + (3 + j)) y → 3 + j < node-width → y ≡ getD (after ns row) j 0
+  field j n h =
+      let e : node-width * row + (3 + j) ≡ node-width * row + 3 + j = omega arith in
+      n .there (omega arith) ∙ ap (λ (k : ℕ). getD ns k 0) e ∙ sym (getD-drop (node-width * row + 3) ns j 0)
 
--- children that are no list, and children of which some are
-module _ {ns : List ℕ} (row : ℕ) {k : ℕ} (n : Number ns (node-width * row + 0) k) where
-  named : {r : Children} → (Inside ns row → 0 < k → (ls : List ℕ) → present (children ls r) ≡ present (naming ls (layout k) (after ns row))) → Below ns row r
-  unfolding named-by
-  named f = record { names = λ room h ls. let z : node-width * row + 0 ≡ node-width * row = omega arith in let e = n .there (omega arith) ∙ ap (λ (i : ℕ). getD ns i 0) z in f room (rw e h) ls ∙ ap (λ (j : ℕ). present (naming ls (layout j) (after ns row))) e }
+  pub by-kind : {k : ℕ} {r : Children} → Number ns (node-width * row + 0) k → r ≡ placed (layout k) (after ns row) → Below ns row r
+  by-kind n e =
+      let z : node-width * row + 0 ≡ node-width * row = omega arith in
+      record { inside = λ h. e ∙ ap (λ (j : ℕ). placed (layout j) (after ns row)) (n .there (omega arith) ∙ ap (λ (i : ℕ). getD ns i 0) z); outside = λ h. absurd (omega arith) }
 
-  pub by-three : {r : Children} {a b c : ℕ} → r ≡ record { first = a; from = 0; count = 0; each = 0; second = b; third = c } → (Inside ns row → 0 < k → (ls : List ℕ) → present (a ∷ b ∷ c ∷ []) ≡ present (naming ls (layout k) (after ns row))) → Below ns row r
-  unfolding held
-  by-three e f = rw e (named f)
+pub no-room : {ns : List ℕ} {row : ℕ} {r : Children} → length ns < node-width * row + node-width → r ≡ nothing → Below ns row r
+no-room l e = record { inside = λ h. absurd (omega arith); outside = λ h. e }
 
-  pub by-list : {r : Children} {a from count each b : ℕ} → r ≡ record { first = a; from = from; count = count; each = each; second = b; third = absent } →
-      (Inside ns row → (ls : List ℕ) → present (a ∷ held each count (drop (link-width * from) ls) ++ b ∷ absent ∷ []) ≡ present (naming ls (layout k) (after ns row))) → Below ns row r
-  by-list e f = rw e (named (λ room h ls. f room ls))
+-- from the pieces of a kind
+module _ (xs : List ℕ) (k : ℕ) where
+  by-pieces : (ps : List Piece) → pieces (layout k) 0 ≡ ps → arranged xs ps ≡ placed (layout k) xs
+  by-pieces ps e = sym (placed-pieces xs (layout k) 0 ∙ ap (arranged xs) e)
 
--- the rows that a row names, by its kind
-module _ (ls xs : List ℕ) where
-  abbrev x : ℕ → ℕ
-  x i = getD xs i 0
+  pub no-piece : pieces (layout k) 0 ≡ [] → nothing ≡ placed (layout k) xs
+  unfolding arranged
+  no-piece e = by-pieces [] e
 
-  pub binary-names : present (x 1 ∷ x 2 ∷ absent ∷ []) ≡ present (naming ls (layout 1) xs)
-  unfolding layout naming
-  binary-names = simp getD-drop
+  pub one-row : (i : ℕ) → pieces (layout k) 0 ≡ single i ∷ [] → {a : ℕ} → a ≡ getD xs i 0 → three a absent absent ≡ placed (layout k) xs
+  unfolding arranged one-more
+  one-row i e f = rw f (by-pieces (single i ∷ []) e)
 
-  pub two-named : (k : ℕ) → layout k ≡ Slot.child ∷ Slot.child ∷ [] → present (x 0 ∷ x 1 ∷ absent ∷ []) ≡ present (naming ls (layout k) xs)
-  unfolding naming
-  two-named k e = rw e (simp getD-drop)
+  pub two-rows : (i j : ℕ) → pieces (layout k) 0 ≡ single i ∷ single j ∷ [] → {a b : ℕ} → a ≡ getD xs i 0 → b ≡ getD xs j 0 → three a b absent ≡ placed (layout k) xs
+  unfolding arranged one-more
+  two-rows i j e f g = rw (f, g) (by-pieces (single i ∷ single j ∷ []) e)
 
-  pub first-named : (k : ℕ) (ss : List Slot) → layout k ≡ Slot.child ∷ ss → T (childless ss) → present (x 0 ∷ absent ∷ absent ∷ []) ≡ present (naming ls (layout k) xs)
-  unfolding naming
-  first-named k ss e t = rw (e, none-named ss ls (drop 1 xs) t) refl
+  pub three-rows : (h i j : ℕ) → pieces (layout k) 0 ≡ single h ∷ single i ∷ single j ∷ [] → {a b c : ℕ} → a ≡ getD xs h 0 → b ≡ getD xs i 0 → c ≡ getD xs j 0 → three a b c ≡ placed (layout k) xs
+  unfolding arranged one-more
+  three-rows h i j e f g l = rw (f, g, l) (by-pieces (single h ∷ single i ∷ single j ∷ []) e)
 
-  pub unary-names : present (x 1 ∷ absent ∷ absent ∷ []) ≡ present (naming ls (layout 5) xs)
-  unfolding layout naming
-  unary-names = simp getD-drop
+  pub row-list : (i j : ℕ) → pieces (layout k) 0 ≡ single i ∷ list false j ∷ [] → {a b c : ℕ} → a ≡ getD xs i 0 → b ≡ getD xs j 0 → c ≡ getD xs (suc j) 0 → record { first = a; from = b; count = c; each = 1; second = absent; third = absent } ≡ placed (layout k) xs
+  unfolding arranged one-more listing
+  row-list i j e f g l = rw (f, g, l) (by-pieces (single i ∷ list false j ∷ []) e)
 
-  pub binding-names : (k : ℕ) → layout k ≡ Slot.name ∷ Slot.child ∷ [] → present (x 3 ∷ absent ∷ absent ∷ []) ≡ present (naming ls (layout k) xs)
-  unfolding naming
-  binding-names k e = rw e (simp getD-drop)
+  pub list-row : (i j : ℕ) → pieces (layout k) 0 ≡ list false i ∷ single j ∷ [] → {a b c : ℕ} → a ≡ getD xs i 0 → b ≡ getD xs (suc i) 0 → c ≡ getD xs j 0 → record { first = absent; from = a; count = b; each = 1; second = c; third = absent } ≡ placed (layout k) xs
+  unfolding arranged one-more listing
+  list-row i j e f g l = rw (f, g, l) (by-pieces (list false i ∷ single j ∷ []) e)
 
-  pub call-names : present (x 0 ∷ held 1 (x 2) (drop (link-width * x 1) ls) ++ absent ∷ absent ∷ []) ≡ present (naming ls (layout 15) xs)
-  unfolding layout naming held
-  call-names = simp getD-drop (trailing (x 0 ∷ linked-nodes (x 2) (drop (link-width * x 1) ls)) (absent ∷ absent ∷ []) [] refl)
+  pub entry-list : (i : ℕ) → pieces (layout k) 0 ≡ list true i ∷ [] → {a b : ℕ} → a ≡ getD xs i 0 → b ≡ getD xs (suc i) 0 → record { first = absent; from = a; count = b; each = 2; second = absent; third = absent } ≡ placed (layout k) xs
+  unfolding arranged listing
+  entry-list i e f g = rw (f, g) (by-pieces (list true i ∷ []) e)
 
-  pub map-names : present (absent ∷ held 2 (x 1) (drop (link-width * x 0) ls) ++ absent ∷ absent ∷ []) ≡ present (naming ls (layout 17) xs)
-  unfolding layout naming held
-  map-names = trailing (linked-entries (x 1) (drop (link-width * x 0) ls)) (absent ∷ absent ∷ []) [] refl
+-- the pieces of neighbouring kinds, and of those that have none
+pub two-three : {k : ℕ} → 2 ≤ k → k < 4 → pieces (layout k) 0 ≡ single 0 ∷ single 1 ∷ []
+unfolding layout pieces
+two-three {k} h l = elim (ℕ-discrete k 2) [ yes e ↦ rw e refl | no y ↦ let e : k ≡ 3 = omega arith in rw e refl ]
 
-  pub function-names : present (x 5 ∷ absent ∷ absent ∷ []) ≡ present (naming ls (layout 18) xs)
-  unfolding layout naming
-  function-names = simp getD-drop
+pub seven-nine : {k : ℕ} → 7 ≤ k → k < 10 → pieces (layout k) 0 ≡ single 3 ∷ []
+unfolding layout pieces
+seven-nine {k} h l = elim (ℕ-discrete k 7) [ yes e ↦ rw e refl | no y ↦ elim (ℕ-discrete k 8) [ yes e ↦ rw e refl | no z ↦ let e : k ≡ 9 = omega arith in rw e refl ] ]
 
-  pub lambda-names : present (x 2 ∷ absent ∷ absent ∷ []) ≡ present (naming ls (layout 19) xs)
-  unfolding layout naming
-  lambda-names = simp getD-drop
+-- the kinds from 10 on that hold rows
+abbrev parents : List ℕ
+parents = 15 ∷ 16 ∷ 17 ∷ 18 ∷ 19 ∷ 20 ∷ 21 ∷ 22 ∷ 23 ∷ []
 
-  pub block-names : present (absent ∷ held 1 (x 1) (drop (link-width * x 0) ls) ++ x 2 ∷ absent ∷ []) ≡ present (naming ls (layout 20) xs)
-  unfolding layout naming held
-  block-names = simp getD-drop (trailing (linked-nodes (x 1) (drop (link-width * x 0) ls)) (x 2 ∷ absent ∷ []) (x 2 ∷ []) refl)
+abbrev none : List Piece → Bool
+none [] = true
+none (p ∷ ps) = false
 
-  pub if-names : present (x 0 ∷ x 1 ∷ x 2 ∷ []) ≡ present (naming ls (layout 21) xs)
-  unfolding layout naming
-  if-names = simp getD-drop
-
--- neighbouring kinds of one layout
-pub two-layout : (k : ℕ) → 2 ≤ k → k < 4 → layout k ≡ Slot.child ∷ Slot.child ∷ []
-unfolding layout
-two-layout k h l = elim (ℕ-discrete k 2) [ yes e ↦ rw e refl | no e ↦ let d : k ≡ 3 = omega arith in rw d refl ]
-
-pub binding-layout : (k : ℕ) → 7 ≤ k → k < 10 → layout k ≡ Slot.name ∷ Slot.child ∷ []
-unfolding layout
-binding-layout k h l = elim (ℕ-discrete k 7) [ yes e ↦ rw e refl | no e ↦ elim (ℕ-discrete k 8) [ yes d ↦ rw d refl | no d ↦ let f : k ≡ 9 = omega arith in rw f refl ] ]
-
--- none of these, one by one
-abbrev None : ℕ → List ℕ → Type 0
-None k [] = Unit {0}
-None k (y ∷ ys) = (k ≡ y → ⊥) × None k ys
-
-not-among : (k : ℕ) (ys : List ℕ) → None k ys → among ys k ≡ false
-not-among k [] h = refl
-not-among k (y ∷ ys) h = rw (ne-eqb k y (h .0)) (not-among k ys (h .1))
-
-pub no-parent : (k : ℕ) → 10 ≤ k → None k (15 ∷ 16 ∷ 17 ∷ 18 ∷ 19 ∷ 20 ∷ 21 ∷ 22 ∷ 23 ∷ []) → among parents k ≡ false
-no-parent k l h = not-among k parents ((λ e. omega arith), ((λ e. omega arith), ((λ e. omega arith), ((λ e. omega arith), ((λ e. omega arith), ((λ e. omega arith), ((λ e. omega arith), ((λ e. omega arith), ((λ e. omega arith), h)))))))))
+pub others : {k : ℕ} → 10 ≤ k → None k parents → pieces (layout k) 0 ≡ []
+unfolding layout pieces
+others {k} l n = empty _ (elim (decLt k 27) [ yes z ↦ rw (not-among k parents n) at (within (λ j. among parents j || none (pieces (layout j) 0)) 10 17 k tt l (omega arith)) | no z ↦ rw (List·getD-eq-default layouts [] {n = k} (omega arith)) tt ])
+  where
+    empty : (ps : List Piece) → T (none ps) → ps ≡ []
+    empty [] t = refl
+    empty (p ∷ ps) t = absurd t

@@ -1,9 +1,16 @@
 // What stands below a row of a tree, in the order of the text. Every function answers for any numbers: what is not there is ABSENT, so that a walk needs no promise
 // about the rows.
-ghost use Prim.Native.Nat.{_+_, _*_, _≤_};
+ghost use Prim.Native.Nat.{_+_, _*_};
 ghost use mathlib.Core.Path.{_≡_};
+ghost use Rattle.grammar.specs.Handle.{absent};
 ghost use Rattle.grammar.specs.Room.{node-width, link-width};
-ghost use Rattle.children.specs.Below.{Number, many, Below, Child};
+ghost use Rattle.children.specs.Below.{Number, three, Below, Linked, Places, Child};
+
+// The numbers of a node row.
+const NODE_WIDTH: usize = 9;
+
+// The numbers of a link row.
+const LINK_WIDTH: usize = 3;
 
 // No row.
 pub const ABSENT: u32 = 4294967295;
@@ -13,7 +20,7 @@ pub const ABSENT: u32 = 4294967295;
 pub fn node(nodes: &[u32], row: u32, i: u32) -> u32
     ensures { λ r. ⌜ Number (now (nodes .entry)) (node-width * row + i) r ⌝ }
 {
-    let at = 9 * (row as usize) + (i as usize);
+    let at = NODE_WIDTH * (row as usize) + (i as usize);
     if at < nodes.len() {
         return nodes[at];
     }
@@ -28,7 +35,7 @@ pub fn link(links: &[u32], row: usize, i: u32) -> u32
     if row >= links.len() {
         return ABSENT;
     }
-    let at = 3 * row + (i as usize);
+    let at = LINK_WIDTH * row + (i as usize);
     if at < links.len() {
         return links[at];
     }
@@ -47,7 +54,7 @@ pub struct Children {
 
 // Children that are no list.
 fn fixed(first: u32, second: u32, third: u32) -> Children
-    ensures { λ r. ⌜ r ≡ record { first = first; from = 0; count = 0; each = 0; second = second; third = third } ⌝ }
+    ensures { λ r. ⌜ r ≡ three first second third ⌝ }
 {
     Children {
         first: first,
@@ -61,7 +68,7 @@ fn fixed(first: u32, second: u32, third: u32) -> Children
 
 // Children of which some are a list.
 fn listed(first: u32, from: u32, count: u32, each: u32, second: u32) -> Children
-    ensures { λ r. ⌜ r ≡ record { first = first; from = from; count = count; each = each; second = second; third = 4294967295 } ⌝ }
+    ensures { λ r. ⌜ r ≡ record { first = first; from = from; count = count; each = each; second = second; third = absent } ⌝ }
 {
     Children {
         first: first,
@@ -73,11 +80,14 @@ fn listed(first: u32, from: u32, count: u32, each: u32, second: u32) -> Children
     }
 }
 
-// What stands below a row, by its kind.
-// Ruled out: the arguments of a call before its callee; a map's keys without their values.
+// What stands below a row, by its kind. A row that does not stand wholly in the room has no children.
+// Ruled out: the arguments of a call before its callee; a list's numbers for a row that has no list.
 pub fn below(nodes: &[u32], row: u32) -> Children
     ensures { λ r. ⌜ Below (now (nodes .entry)) row r ⌝ }
 {
+    if nodes.len() < NODE_WIDTH * (row as usize) + NODE_WIDTH {
+        return fixed(ABSENT, ABSENT, ABSENT);
+    }
     let a = node(nodes, row, 3);
     let b = node(nodes, row, 4);
     let c = node(nodes, row, 5);
@@ -100,7 +110,7 @@ pub fn below(nodes: &[u32], row: u32) -> Children
 // How many children the links of a row hold.
 // Ruled out: one for each of a map's entries; some where there are no links.
 pub fn linked(b: Children) -> usize
-    ensures { λ r. ⌜ (r ≡ many b) × (r ≤ 8589934590) ⌝ }
+    ensures { λ r. ⌜ Linked b r ⌝ }
 {
     let count = b.count as usize;
     let each = b.each;
@@ -111,8 +121,9 @@ pub fn linked(b: Children) -> usize
     }
 }
 
-// The child at a place: the first child has place 0, those of the links follow from 1 on, then the other two.
-// Ruled out: a map's values before its keys; a block's tail before its statements.
+// The child at a place: the first child has place 0, those of the links follow from 1 on, then the other two. ABSENT for a link that is not in the room, and past the
+// last place.
+// Ruled out: a map's values before its keys; 0 for a link that is not in the room.
 pub fn child(links: &[u32], b: Children, place: usize) -> u32
     ensures { λ r. ⌜ Child (now (links .entry)) b place r ⌝ }
 {
@@ -140,7 +151,7 @@ pub fn child(links: &[u32], b: Children, place: usize) -> u32
 // How many places there are.
 // Ruled out: the links' alone; one less.
 pub fn places(b: Children) -> usize
-    ensures { λ r. ⌜ (r ≡ many b + 3) × (r ≤ 8589934593) ⌝ }
+    ensures { λ r. ⌜ Places b r ⌝ }
 {
     linked(b) + 3
 }

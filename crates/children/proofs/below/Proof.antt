@@ -2,66 +2,108 @@
 use Prim.Native.Nat.{ℕ, _≤_}
 use borrow.Author.Needs.{needs}
 use native.Mathlib.Omega.{arith}
-use mathlib.Core.List.{[], _∷_}
+use mathlib.Core.List.{List}
 use mathlib.Core.Logic.{inl, inr, ⊎-elim}
-use mathlib.Core.Path.{_≡_, refl, sym, ap}
-use Rattle.grammar.specs.Layout.{Slot, layout}
-use Rattle.children.specs.Below.{present}
-use Rattle.children.proofs.Laws.{field, by-three, by-list, binary-names, two-named, first-named, unary-names, binding-names, call-names, map-names, function-names, lambda-names, block-names, if-names, two-layout, binding-layout, other-kind, no-parent}
+use mathlib.Core.Path.{_≡_, refl, _∙_}
+use lib.ListN.{getD}
+use Rattle.grammar.specs.Layout.{layout}
+use Rattle.children.specs.Below.{placed, Below}
+use Rattle.children.specs.declared.Children.{Children}
+use Rattle.children.proofs.Laws.{after, Inside, field, by-kind, no-room, no-piece, one-row, two-rows, three-rows, row-list, list-row, entry-list, two-three, seven-nine, others}
+use Rattle.children.proofs.Pieces.{pieces}
 use Rattle.children.proofs.below.Statement.{statement}
 use Rattle.children.proofs.below.Tie as tie
+
+-- where the kind is known: the room, the row, its kind, and its numbers after kind and span
+abbrev ns : tie.After-node4 → List ℕ
+ns m = m .before .before .before .before .before .before .args .nodes .now
+
+abbrev row : tie.After-node4 → ℕ
+row m = m .before .before .before .before .before .before .args .row
+
+abbrev k : tie.After-node4 → ℕ
+k m = m .node4 .result
+
+abbrev xs : tie.After-node4 → List ℕ
+xs m = after (ns m) (row m)
+
+room : (m : tie.After-node4) → Inside (ns m) (row m)
+room m = m .before .before .before .before .if1 .left
+
+met : (m : tie.After-node4) {r : Children} → r ≡ placed (layout (k m)) (xs m) → Below (ns m) (row m) r
+met m e = by-kind (row m) (room m) (m .node4 .ensures) e
+
+-- the first three of them
+a : (m : tie.After-node4) → m .before .before .before .node .result ≡ getD (xs m) 0 0
+a m = field (row m) (room m) 0 (m .before .before .before .node .ensures) (omega arith)
+
+b : (m : tie.After-node4) → m .before .before .node2 .result ≡ getD (xs m) 1 0
+b m = field (row m) (room m) 1 (m .before .before .node2 .ensures) (omega arith)
+
+d : (m : tie.After-node4) → m .before .node3 .result ≡ getD (xs m) 2 0
+d m = field (row m) (room m) 2 (m .before .node3 .ensures) (omega arith)
 
 past-one : {k : ℕ} → 1 ≤ k → (k ≡ 1 → ⊥) → 2 ≤ k
 past-one h n = omega arith
 
 past-six : {k : ℕ} → 4 ≤ k → (k ≡ 4 → ⊥) → (k ≡ 5 → ⊥) → (k ≡ 6 → ⊥) → 7 ≤ k
-past-six h a b c = omega arith
+past-six h x y z = omega arith
 
 returns : tie.Need-returns
-returns c = by-three (c .before .before .before .before .before .before .before .args .row) (c .before .before .node4 .ensures) (c .fixed .ensures) (λ room h ls. rw (c .before .match .keys1, field (c .before .before .before .before .before .before .before .args .row) 1 (c .before .before .before .before .node2 .ensures) (omega arith) room, field (c .before .before .before .before .before .before .before .args .row) 2 (c .before .before .before .node3 .ensures) (omega arith) room) (binary-names ls _))
+returns c = no-room (c .before .if1 .taken) (c .fixed .ensures)
 
 returns-2 : tie.Need-returns-2
-unfolding layout
-returns-2 c = by-three (c .before .before .before .before .before .before .before .args .row) (c .before .before .node4 .ensures) (c .fixed2 .ensures) (λ room h ls. rw (field (c .before .before .before .before .before .before .before .args .row) 0 (c .before .before .before .before .before .node .ensures) (omega arith) room) (⊎-elim (λ e. rw e (first-named ls _ 4 [] refl tt)) (λ w. ⊎-elim (λ e. rw e (first-named ls _ 16 (Slot.name ∷ []) refl tt)) (λ e. rw e (first-named ls _ 23 [] refl tt)) w) (c .before .match .keys3)))
+unfolding layout pieces
+returns-2 c = let m = c .before .before in met m (c .fixed2 .ensures ∙ two-rows (xs m) (k m) 1 2 (rw (c .before .match .keys1) refl) (b m) (d m))
 
 returns-3 : tie.Need-returns-3
-returns-3 c = by-three (c .before .before .before .before .before .before .before .args .row) (c .before .before .node4 .ensures) (c .fixed3 .ensures) (λ room h ls. rw (c .before .match .keys4, field (c .before .before .before .before .before .before .before .args .row) 1 (c .before .before .before .before .node2 .ensures) (omega arith) room) (unary-names ls _))
+unfolding layout pieces
+returns-3 c = let m = c .before .before in met m (c .fixed3 .ensures ∙ one-row (xs m) (k m) 0 (⊎-elim (λ e. rw e refl) (λ w. ⊎-elim (λ e. rw e refl) (λ e. rw e refl) w) (c .before .match .keys3)) (a m))
 
 returns-4 : tie.Need-returns-4
-returns-4 c = by-list (c .before .before .before .before .before .before .before .args .row) (c .before .before .node4 .ensures) (c .listed .ensures) (λ room ls. rw (c .before .match .keys5, field (c .before .before .before .before .before .before .before .args .row) 0 (c .before .before .before .before .before .node .ensures) (omega arith) room, field (c .before .before .before .before .before .before .before .args .row) 1 (c .before .before .before .before .node2 .ensures) (omega arith) room, field (c .before .before .before .before .before .before .before .args .row) 2 (c .before .before .before .node3 .ensures) (omega arith) room) (call-names ls _))
+unfolding layout pieces
+returns-4 c = let m = c .before .before in met m (c .fixed4 .ensures ∙ one-row (xs m) (k m) 1 (rw (c .before .match .keys4) refl) (b m))
 
 returns-5 : tie.Need-returns-5
-returns-5 c = by-list (c .before .before .before .before .before .before .before .args .row) (c .before .before .node4 .ensures) (c .listed2 .ensures) (λ room ls. rw (c .before .match .keys6, field (c .before .before .before .before .before .before .before .args .row) 0 (c .before .before .before .before .before .node .ensures) (omega arith) room, field (c .before .before .before .before .before .before .before .args .row) 1 (c .before .before .before .before .node2 .ensures) (omega arith) room) (map-names ls _))
+unfolding layout pieces
+returns-5 c = let m = c .before .before in met m (c .listed .ensures ∙ row-list (xs m) (k m) 0 1 (rw (c .before .match .keys5) refl) (a m) (b m) (d m))
 
 returns-6 : tie.Need-returns-6
-returns-6 c = by-three (c .before .before .before .before .before .before .before .before .args .row) (c .before .before .before .node4 .ensures) (c .fixed4 .ensures) (λ room h ls. rw (c .before .before .match .keys7, field (c .before .before .before .before .before .before .before .before .args .row) 5 (c .before .node5 .ensures) (omega arith) room) (function-names ls _))
+unfolding layout pieces
+returns-6 c = let m = c .before .before in met m (c .listed2 .ensures ∙ entry-list (xs m) (k m) 0 (rw (c .before .match .keys6) refl) (a m) (b m))
 
 returns-7 : tie.Need-returns-7
-returns-7 c = by-three (c .before .before .before .before .before .before .before .args .row) (c .before .before .node4 .ensures) (c .fixed5 .ensures) (λ room h ls. rw (c .before .match .keys8, field (c .before .before .before .before .before .before .before .args .row) 2 (c .before .before .before .node3 .ensures) (omega arith) room) (lambda-names ls _))
+unfolding layout pieces
+returns-7 c = let m = c .before .before .before in met m (c .fixed5 .ensures ∙ one-row (xs m) (k m) 5 (rw (c .before .before .match .keys7) refl) (field (row m) (room m) 5 (c .before .node5 .ensures) (omega arith)))
 
 returns-8 : tie.Need-returns-8
-returns-8 c = by-list (c .before .before .before .before .before .before .before .args .row) (c .before .before .node4 .ensures) (c .listed3 .ensures) (λ room ls. rw (c .before .match .keys9, field (c .before .before .before .before .before .before .before .args .row) 0 (c .before .before .before .before .before .node .ensures) (omega arith) room, field (c .before .before .before .before .before .before .before .args .row) 1 (c .before .before .before .before .node2 .ensures) (omega arith) room, field (c .before .before .before .before .before .before .before .args .row) 2 (c .before .before .before .node3 .ensures) (omega arith) room) (block-names ls _))
+unfolding layout pieces
+returns-8 c = let m = c .before .before in met m (c .fixed6 .ensures ∙ one-row (xs m) (k m) 2 (rw (c .before .match .keys8) refl) (d m))
 
 returns-9 : tie.Need-returns-9
-returns-9 c = by-three (c .before .before .before .before .before .before .before .args .row) (c .before .before .node4 .ensures) (c .fixed6 .ensures) (λ room h ls. rw (c .before .match .keys10, field (c .before .before .before .before .before .before .before .args .row) 0 (c .before .before .before .before .before .node .ensures) (omega arith) room, field (c .before .before .before .before .before .before .before .args .row) 1 (c .before .before .before .before .node2 .ensures) (omega arith) room, field (c .before .before .before .before .before .before .before .args .row) 2 (c .before .before .before .node3 .ensures) (omega arith) room) (if-names ls _))
+unfolding layout pieces
+returns-9 c = let m = c .before .before in met m (c .listed3 .ensures ∙ list-row (xs m) (k m) 0 2 (rw (c .before .match .keys9) refl) (a m) (b m) (d m))
 
 returns-10 : tie.Need-returns-10
-returns-10 c =
-    let r = c .before .before .before .before .before .match .rest in
-    by-three (c .before .before .before .before .before .before .before .before .before .before .before .args .row) (c .before .before .before .before .before .before .node4 .ensures) (c .fixed7 .ensures) (λ room h ls. rw (field (c .before .before .before .before .before .before .before .before .before .before .before .args .row) 3 (c .before .node6 .ensures) (omega arith) room) (binding-names ls _ _ (binding-layout _ (past-six (c .before .before .before .if2 .left) (λ e. r .0 .0 .0 .0 .0 .0 .0 .1 (inl e)) (r .0 .0 .0 .0 .0 .0 .1) (λ e. r .0 .0 .0 .0 .0 .0 .0 .0 .1 (inl e))) (c .before .before .if3 .taken))))
+unfolding layout pieces
+returns-10 c = let m = c .before .before in met m (c .fixed7 .ensures ∙ three-rows (xs m) (k m) 0 1 2 (rw (c .before .match .keys10) refl) (a m) (b m) (d m))
 
 returns-11 : tie.Need-returns-11
 returns-11 c =
-    let r = c .before .before .match .rest in
-    by-three (c .before .before .before .before .before .before .before .before .args .row) (c .before .before .before .node4 .ensures) (c .fixed8 .ensures)
-    (λ room h ls. ap present (sym (other-kind _ ls _ h (⊎-elim (λ w. absurd (omega (arith, h, w .taken))) (λ w. no-parent _ (w .2 .left) (r .0 .0 .0 .0 .0 .1, ((λ e. r .0 .0 .0 .0 .0 .0 .0 .1 (inr (inl e))), (r .0 .0 .0 .0 .1, (r .0 .0 .0 .1, (r .0 .0 .1, (r .0 .1, (r .1, ((λ e. r .0 .0 .0 .0 .0 .0 .0 .0 .1 (inr e)), ((λ e. r .0 .0 .0 .0 .0 .0 .0 .1 (inr (inr e))), tt)))))))))) (c .before .if1 .came)))))
+    let m = c .before .before .before .before .before .before in
+    let r = c .before .before .before .before .before .match .rest in
+    met m (c .fixed8 .ensures ∙ one-row (xs m) (k m) 3 (seven-nine (past-six (c .before .before .before .if3 .left) (λ e. r .0 .0 .0 .0 .0 .0 .0 .1 (inl e)) (r .0 .0 .0 .0 .0 .0 .1) (λ e. r .0 .0 .0 .0 .0 .0 .0 .0 .1 (inl e))) (c .before .before .if4 .taken)) (field (row m) (room m) 3 (c .before .node6 .ensures) (omega arith)))
 
 returns-12 : tie.Need-returns-12
-unfolding layout
+unfolding layout pieces
 returns-12 c =
-    let k = c .before .before .node4 .result in
-    by-three (c .before .before .before .before .before .before .before .args .row) (c .before .before .node4 .ensures) (c .fixed9 .ensures)
-    (λ room h ls. rw (field (c .before .before .before .before .before .before .before .args .row) 0 (c .before .before .before .before .before .node .ensures) (omega arith) room, field (c .before .before .before .before .before .before .before .args .row) 1 (c .before .before .before .before .node2 .ensures) (omega arith) room) (⊎-elim (λ w. ⊎-elim (λ e. rw e (two-named ls _ 6 refl)) (λ e. rw e (two-named ls _ 22 refl)) (w .keys2)) (λ w. two-named ls _ k (two-layout k (past-one (w .1 .left) (w .0 .rest .0 .0 .0 .0 .0 .0 .0 .0 .0 .1)) (w .2 .taken))) (c .before .match .came)))
+    let m = c .before .before .before in
+    let r = c .before .before .match .rest in
+    met m (c .fixed9 .ensures ∙ no-piece (xs m) (k m) (⊎-elim (λ w. let e : k m ≡ 0 = omega (arith, w .taken) in rw e refl) (λ w. others (w .2 .left) (r .0 .0 .0 .0 .0 .1, ((λ e. r .0 .0 .0 .0 .0 .0 .0 .1 (inr (inl e))), (r .0 .0 .0 .0 .1, (r .0 .0 .0 .1, (r .0 .0 .1, (r .0 .1, (r .1, ((λ e. r .0 .0 .0 .0 .0 .0 .0 .0 .1 (inr e)), ((λ e. r .0 .0 .0 .0 .0 .0 .0 .1 (inr (inr e))), tt)))))))))) (c .before .if2 .came)))
+
+returns-13 : tie.Need-returns-13
+unfolding layout pieces
+returns-13 c = let m = c .before .before in met m (c .fixed10 .ensures ∙ two-rows (xs m) (k m) 0 1 (⊎-elim (λ w. ⊎-elim (λ e. rw e refl) (λ e. rw e refl) (w .keys2)) (λ w. two-three (past-one (w .1 .left) (w .0 .rest .0 .0 .0 .0 .0 .0 .0 .0 .0 .1)) (w .2 .taken)) (c .before .match .came)) (a m) (b m))
 
 pub below-spec : {M : Type 1} → statement M
-below-spec = tie.close (tie.spec (λ c κs. search needs) (λ c κs. search needs) (λ c κs. search needs) (λ c κs. search needs) (λ c κs. search needs) (λ c κs. search needs) (λ c κs. search needs) (λ c κs. search needs) (λ c κs. search needs) (λ c κs. search needs) (λ c κs. search needs) (λ c κs. search needs) (λ c κs. search needs) (λ c κs. search needs) (λ c κs. search needs) (λ c κs. search needs) (λ c κs. search needs) (λ c κs. search needs) returns returns-2 returns-3 returns-4 returns-5 returns-6 returns-7 returns-8 returns-9 returns-10 returns-11 returns-12)
+below-spec = tie.close (tie.spec (λ c. search needs) (λ c. search needs) (λ c κs. search needs) returns (λ c κs. search needs) (λ c κs. search needs) (λ c κs. search needs) (λ c κs. search needs) (λ c κs. search needs) (λ c κs. search needs) (λ c κs. search needs) (λ c κs. search needs) (λ c κs. search needs) (λ c κs. search needs) (λ c κs. search needs) (λ c κs. search needs) (λ c κs. search needs) (λ c κs. search needs) (λ c κs. search needs) (λ c κs. search needs) (λ c κs. search needs) (λ c κs. search needs) returns-2 returns-3 returns-4 returns-5 returns-6 returns-7 returns-8 returns-9 returns-10 returns-11 returns-12 returns-13)
