@@ -1,5 +1,5 @@
-// Node rows: a port of ast.rs. Each function here writes one row to the lent node room, at row `n`, and hands its handle back. They are public for the
-// crates above, which know that there is room (`Free`). A list (L) is its first link row and its count; a name (N) is its symbol and its place, `from` up to
+// Node rows: a port of ast.rs. Each function here writes one row to the lent node room, at row `n`, and hands its handle back. It asks that the room has that
+// row, and that its number is not the absent one (`Free`). A list (L) is its first link row and its count; a name (N) is its symbol and its place, `from` up to
 // `upto`; a row's span comes last.
 // Ruled out, for each: its numbers in another order; another kind's number; an unused number that is not 0.
 pub mod room;
@@ -17,7 +17,7 @@ pub struct Node {
 
 // One row more, of nine numbers.
 // Ruled out: a row that changes another one; a handle without its row's end.
-pub fn insert(
+fn insert(
     nodes: &mut [u32],
     n: usize,
     kind: u32,

@@ -1,4 +1,4 @@
-// How the rooms are written. The functions here are public for the crates above.
+// How the rooms are written.
 ghost use mathlib.Core.List.{_∷_, []};
 ghost use Prim.Native.Nat.{_+_, _*_, _≤_};
 ghost use lib.ListN.{length, take, drop};
@@ -27,7 +27,7 @@ fn copy(to: &mut [u32], at: usize, from: &[u32], first: usize, n: usize)
     }
 }
 
-// One row more on the scratch stack, above the `held` that wait there.
+// One row more on the scratch stack, above the `held` that wait there. It asks for room for it.
 // Ruled out: a row that overwrites one below it; the three numbers in another order.
 pub fn push(scratch: &mut [u32], held: usize, a: u32, b: u32, c: u32)
     requires { ⌜ scratch-width * (held + 1) ≤ length (now scratch) ⌝ }
@@ -36,7 +36,8 @@ pub fn push(scratch: &mut [u32], held: usize, a: u32, b: u32, c: u32)
     three(scratch, 3 * held, a, b, c);
 }
 
-// The `count` rows of the scratch stack from row `base` on become the link rows from `used` on, in their order.
+// The `count` rows of the scratch stack from row `base` on become the link rows from `used` on, in their order. It asks that they are there, and
+// for room for them.
 // Ruled out: the rows from one further up the stack; a link row below `used` that changes.
 pub fn link(links: &mut [u32], used: usize, scratch: &[u32], base: usize, count: usize)
     requires { ⌜ (link-width * (used + count) ≤ length (now links)) × (scratch-width * (base + count) ≤ length (now scratch)) ⌝ }

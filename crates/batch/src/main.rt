@@ -7,16 +7,21 @@ use listing::blank;
 ghost use Prim.Native.Nat.{_≤_};
 ghost use lib.ListN.{length};
 
-// Answers one case, and says whether there was one.
-fn turn(case: &mut [u8], out: &mut [u8]) -> bool
-    requires { ⌜ 262144 ≤ length (now out) ⌝ }
+// Writes the first n bytes of a room as a frame, and says whether it could.
+fn sent(room: &[u8], n: usize) -> bool
+    requires { ⌜ n ≤ length (now room) ⌝ }
 {
+    write(&room[..n])
+}
+
+// Answers one case, and says whether there was one.
+fn turn(case: &mut [u8], out: &mut [u8; 262144]) -> bool {
     let frame = read(case);
     let Frame::Bytes(n) = frame else {
         return false;
     };
     let k = answer(&case[..n], out);
-    write(&out[..k])
+    sent(out, k)
 }
 
 // A proved loop has to end, and nothing says that a stream does: so it counts its turns down, from a number that no run uses up.

@@ -10,18 +10,18 @@ use lib.Dec.{eqb, leb}
 use lib.ListN.{length, length-append}
 use Rattle.grammar.specs.Kind.{NumberLiteral, StringLiteral, Eof}
 use Rattle.grammar.specs.Pattern.{bytes}
-use Rattle.token.specs.Display.{display, Put}
-use Rattle.token.proofs.display.Names.{short}
-use Rattle.token.proofs.display.Writing.{room-after}
-use Rattle.diagnostics.specs.Message.{text-of, Written}
+use Rattle.spelling.specs.Display.{display, Put}
+use Rattle.spelling.proofs.display.Names.{short}
+use Rattle.spelling.proofs.display.Writing.{room-after}
+use Rattle.diagnostics.specs.Message.{text-of, Message-given}
 use Rattle.diagnostics.specs.declared.Message.{Message}
 
 -- a room that is too small
-pub too-small : {code expected found : ℕ} {room : List ℕ} → length room < 52 → Written code expected found room room (record { code = 13; length = 0 })
+pub too-small : {code expected found : ℕ} {room : List ℕ} → length room < 52 → Message-given code expected found room room (record { code = 13; length = 0 })
 too-small h = record { refused = λ _. refl; untouched = λ _. refl; answer = λ i. absurd (omega arith); room = λ i. absurd (omega arith) }
 
 -- a text written from the start of one that is not
-pub written : {code expected found n : ℕ} {before after : List ℕ} → 52 ≤ length before → Put (text-of code expected found) 0 before after n → Written code expected found before after (record { code = 0; length = n })
+pub written : {code expected found n : ℕ} {before after : List ℕ} → 52 ≤ length before → Put (text-of code expected found) 0 before after n → Message-given code expected found before after (record { code = 0; length = n })
 written {code} {expected} {found} {n} {before} {after} h p =
     let e : n ≡ length (text-of code expected found) = p .ends ∙ zero-add _ in
     record {
@@ -32,7 +32,7 @@ written {code} {expected} {found} {n} {before} {after} h p =
     }
 
 -- the contract settles the answer and every byte of the room
-pub one-message : {code expected found : ℕ} {before after other : List ℕ} {r s : Message} → Written code expected found before after r → Written code expected found before other s → (r ≡ s) × (after ≡ other)
+pub one-message : {code expected found : ℕ} {before after other : List ℕ} {r s : Message} → Message-given code expected found before after r → Message-given code expected found before other s → (r ≡ s) × (after ≡ other)
 one-message {before = before} p q =
     elim (decLt (length before) 52) [
       | yes h ↦ (p .refused h ∙ sym (q .refused h), p .untouched h ∙ sym (q .untouched h))
@@ -68,7 +68,7 @@ unfolding text-of display
 longest = refl
 
 -- what was written lies in the room
-pub inside : {code expected found : ℕ} {before after : List ℕ} {r : Message} → Written code expected found before after r → r .length ≤ length before
+pub inside : {code expected found : ℕ} {before after : List ℕ} {r : Message} → Message-given code expected found before after r → r .length ≤ length before
 inside {code} {expected} {found} {before} p =
     elim (decLt (length before) 52) [
       | yes h ↦ omega (arith, ap (λ (m : Message). m .length) (p .refused h))

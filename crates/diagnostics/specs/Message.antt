@@ -8,7 +8,7 @@ use lib.Dec.{eqb, leb}
 use lib.ListN.{length, drop}
 use Rattle.grammar.specs.Kind.{Eof}
 use Rattle.grammar.specs.Pattern.{bytes}
-use Rattle.token.specs.Display.{display}
+use Rattle.spelling.specs.Display.{display}
 use Rattle.diagnostics.specs.declared.Message.{Message}
 
 -- a text that names a kind; 'a kind over 44 that the text needs': none
@@ -26,7 +26,7 @@ text-of code expected found =
 
 -- 'Under 52 bytes of room: refusal 13 before anything else, length 0, nothing written.' Else the text stands first in the room, and 'Bytes past the text
 -- stay'; where there is no text, that is 'code 0, length 0, nothing written'.
-pub record Written (code expected found : ℕ) (before after : List ℕ) (r : Message) : Type 0 where
+pub record Message-given (code expected found : ℕ) (before after : List ℕ) (r : Message) : Type 0 where
   pub refused : length before < 52 → r ≡ record { code = 13; length = 0 }
   pub untouched : length before < 52 → after ≡ before
   pub answer : 52 ≤ length before → r ≡ record { code = 0; length = length (text-of code expected found) }

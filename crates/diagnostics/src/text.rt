@@ -1,17 +1,17 @@
 // The texts of refusals 8 to 12: those of parser.rs for 8, 9 and 12, with token.rs's names of the kinds; the others are added.
 use crate::Message;
-use token::display::put;
-use token::display::put_name;
+use spelling::display::put;
+use spelling::display::put_name;
 ghost use Prim.Native.Nat.{_≤_};
 ghost use lib.ListN.{length};
-ghost use Rattle.token.specs.Display.{Put};
-ghost use Rattle.diagnostics.specs.Message.{text-of, Written};
+ghost use Rattle.spelling.specs.Display.{Put};
+ghost use Rattle.diagnostics.specs.Message.{text-of, Message-given};
 
 // Writes the text of a refusal at the start of a room, which has to have 52 bytes whatever the text's length; no text for a code but 8 to 12, nor where a kind that
 // the text names is over 44.
 // Ruled out: a text in a room of 51 bytes, even where it would fit; the name of the expected kind in the text of 9; a byte past the text changed.
 pub fn message(code: u32, expected: u32, found: u32, room: &mut [u8]) -> Message
-    ensures { λ r. ⌜ Written code expected found (now (room .entry)) (now (room .exit)) r ⌝ }
+    ensures { λ r. ⌜ Message-given code expected found (now (room .entry)) (now (room .exit)) r ⌝ }
 {
     if room.len() < 52 {
         return Message {

@@ -71,8 +71,11 @@ module _ {text l : List ℕ} {s e count : ℕ} (p : Ready text s e count l) wher
   counts (Outcome.new none x y) = rw x (omega arith)
 
   -- two outcomes are equal
-  pub outcome-once : {m n : List ℕ} {r q : Interned} → Outcome text s e count l m r → Outcome text s e count l n q → (m ≡ n) × (r ≡ q)
+  outcome-once : {m n : List ℕ} {r q : Interned} → Outcome text s e count l m r → Outcome text s e count l n q → (m ≡ n) × (r ≡ q)
   outcome-once (Outcome.known h x y) (Outcome.known i z w) = let k = held-once (p .table) h i in (y ∙ sym w, cc)
   outcome-once (Outcome.known h x y) (Outcome.new i z w) = absurd (i _ h)
   outcome-once (Outcome.new h x y) (Outcome.known i z w) = absurd (h _ i)
   outcome-once (Outcome.new h x y) (Outcome.new i z w) = (y ∙ sym w, x ∙ sym z)
+
+  pub one-interned : {m n : List ℕ} {r q : Interned} → Interns text s e count l m r → Interns text s e count l n q → (m ≡ n) × (r ≡ q)
+  one-interned x y = outcome-once (x .outcome) (y .outcome)

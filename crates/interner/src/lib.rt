@@ -49,7 +49,8 @@ fn find(text: &[u8], symbols: &[u32], count: usize, start: usize, end: usize) ->
     count
 }
 
-// The symbol of the text from `start` up to `end`: the row that has its bytes, or a new last row. Public for the crates above, which know what it asks.
+// The symbol of the text from `start` up to `end`: the row that has its bytes, or a new last row. It asks that this is a part of the text, that the rows in use
+// are parts with different bytes, and for room for one row more (`Ready`).
 // Ruled out: a row whose text has the same length and other bytes; a second row for a text that has one.
 pub fn get_or_intern(
     text: &[u8],

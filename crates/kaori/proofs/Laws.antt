@@ -4,7 +4,7 @@ use native.Mathlib.Omega.{arith}
 use mathlib.Core.List.{List}
 use mathlib.Core.Path.{ap}
 use lib.ListN.{length, length-take, length-append}
-use Rattle.token.specs.Display.{Put}
+use Rattle.spelling.specs.Display.{Put}
 
 -- what was put at the start of a room lies in it
 pub inside : {part before after : List ℕ} {next : ℕ} → Put part 0 before after next → next ≤ length after

@@ -6,6 +6,7 @@ use children::child;
 use children::node;
 use children::places;
 ghost use Prim.Native.Nat.{_+_, _≤_, _<_};
+ghost use Rattle.kaori.specs.Noted.{Noted};
 
 // Offsets in the text.
 pub struct Part {
@@ -13,8 +14,10 @@ pub struct Part {
     pub end: u32,
 }
 
-// What row `row` covers, where it is known.
-pub fn part_of(covers: &[u32], row: u32) -> Part {
+// What row `row` covers, where it is known; the empty part at 0 where it is not.
+pub(crate) fn part_of(covers: &[u32], row: u32) -> Part
+    ensures { λ r. ⌜ Noted (now (covers .entry)) row r ⌝ }
+{
     let at = 2 * (row as usize);
     if at + 1 < covers.len() {
         return Part {
@@ -181,7 +184,7 @@ fn balanced(tokens: &[u32], count: u32, part: Part) -> Part {
 }
 
 // Notes what each of the first `rows` rows covers. `count` is how many tokens there are.
-pub fn cover(
+pub(crate) fn cover(
     tokens: &[u32],
     count: u32,
     nodes: &[u32],

@@ -1,6 +1,6 @@
 // The listing of the program `rows`, line by line.
 use crate::page::write;
-use token::display::put;
+use spelling::display::put;
 use wire::output::numbers;
 use wire::output::refused;
 use wire::output::row;
@@ -20,7 +20,7 @@ fn lines(lead: &[u8], width: usize, source: &[u32], n: usize)
 }
 
 // The listing of a script that is read.
-pub fn list_rows(nodes: &[u32], links: &[u32], symbols: &[u32], n: u32, l: u32, s: u32) {
+pub(crate) fn list_rows(nodes: &[u32], links: &[u32], symbols: &[u32], n: u32, l: u32, s: u32) {
     let counts = [n, l, s];
     let mut room = [0u8; 128];
     let ok = put(b"ok", &mut room, 0);
@@ -48,7 +48,14 @@ pub fn list_rows(nodes: &[u32], links: &[u32], symbols: &[u32], n: u32, l: u32, 
 }
 
 // The listing of a refusal.
-pub fn list_refusal(tokens: &[u32], code: u32, at: u32, start: u32, end: u32, expected: u32) {
+pub(crate) fn list_refusal(
+    tokens: &[u32],
+    code: u32,
+    at: u32,
+    start: u32,
+    end: u32,
+    expected: u32,
+) {
     let mut room = [0u8; 256];
     let k = refused(tokens, code, at, start, end, expected, &mut room);
     write(&room, k);

@@ -5,7 +5,7 @@ ghost use Prim.Native.Nat.{_≤_};
 ghost use lib.ListN.{length};
 
 // Adds a byte, and answers the place after it.
-pub fn put_byte(byte: u8, out: &mut [u8; 4096], at: usize) -> usize
+pub(crate) fn put_byte(byte: u8, out: &mut [u8; 4096], at: usize) -> usize
     requires { ⌜ at ≤ 4096 ⌝ }
     ensures { λ r. ⌜ r ≤ 4096 ⌝ }
 {
@@ -19,7 +19,7 @@ pub fn put_byte(byte: u8, out: &mut [u8; 4096], at: usize) -> usize
 }
 
 // Adds bytes.
-pub fn put(part: &[u8], out: &mut [u8; 4096], at: usize) -> usize
+pub(crate) fn put(part: &[u8], out: &mut [u8; 4096], at: usize) -> usize
     requires { ⌜ at ≤ 4096 ⌝ }
     ensures { λ r. ⌜ r ≤ 4096 ⌝ }
 {
@@ -33,7 +33,7 @@ pub fn put(part: &[u8], out: &mut [u8; 4096], at: usize) -> usize
 }
 
 // Adds blanks up to a column, and one where the column is passed already.
-pub fn pad(column: usize, out: &mut [u8; 4096], at: usize) -> usize
+pub(crate) fn pad(column: usize, out: &mut [u8; 4096], at: usize) -> usize
     requires { ⌜ at ≤ 4096 ⌝ }
     ensures { λ r. ⌜ r ≤ 4096 ⌝ }
 {
@@ -47,7 +47,7 @@ pub fn pad(column: usize, out: &mut [u8; 4096], at: usize) -> usize
 }
 
 // Adds the first n bytes of a room.
-pub fn put_first(room: &[u8], n: usize, out: &mut [u8; 4096], at: usize) -> usize
+pub(crate) fn put_first(room: &[u8], n: usize, out: &mut [u8; 4096], at: usize) -> usize
     requires { ⌜ (n ≤ length (now room)) × (at ≤ 4096) ⌝ }
     ensures { λ r. ⌜ r ≤ 4096 ⌝ }
 {
@@ -55,7 +55,7 @@ pub fn put_first(room: &[u8], n: usize, out: &mut [u8; 4096], at: usize) -> usiz
 }
 
 // Adds a number in decimal.
-pub fn put_number(n: u32, out: &mut [u8; 4096], at: usize) -> usize
+pub(crate) fn put_number(n: u32, out: &mut [u8; 4096], at: usize) -> usize
     requires { ⌜ at ≤ 4096 ⌝ }
     ensures { λ r. ⌜ r ≤ 4096 ⌝ }
 {
@@ -65,14 +65,14 @@ pub fn put_number(n: u32, out: &mut [u8; 4096], at: usize) -> usize
 }
 
 // Writes the first n bytes of a room.
-pub fn write(room: &[u8], n: usize)
+pub(crate) fn write(room: &[u8], n: usize)
     requires { ⌜ n ≤ length (now room) ⌝ }
 {
     io::write_all(STDOUT_FILENO, &room[..n]);
 }
 
 // Ends the line, and writes it.
-pub fn end_line(out: &mut [u8; 4096], at: usize)
+pub(crate) fn end_line(out: &mut [u8; 4096], at: usize)
     requires { ⌜ at ≤ 4096 ⌝ }
 {
     let all = put_byte(10, out, at);
@@ -80,7 +80,7 @@ pub fn end_line(out: &mut [u8; 4096], at: usize)
 }
 
 // A line of its own.
-pub fn put_line(part: &[u8], out: &mut [u8; 4096]) {
+pub(crate) fn put_line(part: &[u8], out: &mut [u8; 4096]) {
     let at = put(part, out, 0);
     end_line(out, at);
 }

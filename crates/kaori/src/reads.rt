@@ -315,7 +315,7 @@ fn before(
 }
 
 // Whether a statement of this kind stands without `;`: a function, a block, an `if` or a `while`.
-pub fn is_closed(kind: u32) -> bool {
+pub(crate) fn is_closed(kind: u32) -> bool {
     match kind {
         18 | 20..=22 => true,
         _ => false,
@@ -427,7 +427,7 @@ fn deeper(kind: u32, level: u32) -> u32
 }
 
 // A row as it is read. A child has a lower number than its parent, or it is left out: so the walk ends.
-pub fn say(
+pub(crate) fn say(
     text: &[u8],
     nodes: &[u32],
     links: &[u32],

@@ -120,7 +120,7 @@ fn show_line(text: &[u8], offset: usize, column: u32, out: &mut [u8; 4096]) {
 }
 
 // Says what is wrong with the file `path`.
-pub fn report(path: &[u8], text: &[u8], why: Why, out: &mut [u8; 4096]) {
+pub(crate) fn report(path: &[u8], text: &[u8], why: Why, out: &mut [u8; 4096]) {
     let offset = why.start as usize;
     let here = place(text, offset);
     let named = put(path, out, 0);

@@ -21,7 +21,7 @@ use children::node;
 use children::places;
 use diagnostics::line::place;
 use reader::read;
-use syntax::Answer;
+use syntax::Numbers;
 use wire::output::found;
 ghost use Prim.Native.Nat.{_≤_};
 
@@ -122,7 +122,7 @@ fn show_refused(
     path: &[u8],
     text: &[u8],
     list: &[u32],
-    a: Answer,
+    a: Numbers,
     out: &mut [u8; 4096],
 ) {
     if wish.report {
@@ -153,7 +153,7 @@ fn nine_each() -> [u32; 36864] {
 }
 
 // Reads a text, and shows what is asked for. The answer is the status: 0 for a good script, 1 for one that is refused.
-pub fn script(wish: Wish, path: &[u8], text: &[u8], out: &mut [u8; 4096]) -> u32
+pub(crate) fn script(wish: Wish, path: &[u8], text: &[u8], out: &mut [u8; 4096]) -> u32
     ensures { λ r. ⌜ r ≤ 1 ⌝ }
 {
     let mut list = three_each();

@@ -84,7 +84,7 @@ fn is_tail(nodes: &[u32], row: u32, b: Children, place: usize) -> bool {
 }
 
 // The lines of a row and of all that stands below it. A child has a lower number than its parent, or it is left out: so the walk ends.
-pub fn tree(
+pub(crate) fn tree(
     text: &[u8],
     nodes: &[u32],
     links: &[u32],

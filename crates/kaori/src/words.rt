@@ -5,65 +5,57 @@ use crate::page::put_byte;
 ghost use Prim.Native.Nat.{_≤_, _<_};
 ghost use lib.ListN.{length};
 
-// The name of a node's kind, as ast.rs has it.
-pub fn put_name(kind: u32, out: &mut [u8; 4096], at: usize) -> usize
+// The names of the kinds of nodes, as ast.rs has them: a cell of 14 bytes for each kind from 0 on, and the last for all others. One table, and not an arm with bytes
+// of its own for each kind, which takes a minute to check.
+const NAMES: [u8; 392] = *b"\
+    ?             Binary        LogicalAnd    LogicalOr     LogicalNot    Unary         Assign        \
+    Variable      Constant      Ref           Identifier    String        Number        Boolean       \
+    Nil           FunctionCall  PropertyAccessMap           Function      Lambda        Block         \
+    If            WhileLoop     Return        Break         Continue      Import        ?             ";
+
+// The signs of a Binary's operators, as ops.rs counts them: a cell of two bytes each, and the last for all others.
+const SIGNS: [u8; 24] = *b"+ - * / % ==!=> >=< <=? ";
+
+// The bytes of a table from one place up to another, or up to the first blank.
+fn put_cell(table: &[u8], from: usize, upto: usize, out: &mut [u8; 4096], at: usize) -> usize
+    requires { ⌜ (upto ≤ length (now table)) × (at ≤ 4096) ⌝ }
+    ensures { λ r. ⌜ r ≤ 4096 ⌝ }
+{
+    let mut now = at;
+    let mut i = from;
+    while i < upto {
+        let byte = table[i];
+        if byte == b' ' {
+            return now;
+        }
+        now = put_byte(byte, out, now);
+        i += 1;
+    }
+    now
+}
+
+// The name of a node's kind.
+pub(crate) fn put_name(kind: u32, out: &mut [u8; 4096], at: usize) -> usize
     requires { ⌜ at ≤ 4096 ⌝ }
     ensures { λ r. ⌜ r ≤ 4096 ⌝ }
 {
-    match kind {
-        1 => put(b"Binary", out, at),
-        2 => put(b"LogicalAnd", out, at),
-        3 => put(b"LogicalOr", out, at),
-        4 => put(b"LogicalNot", out, at),
-        5 => put(b"Unary", out, at),
-        6 => put(b"Assign", out, at),
-        7 => put(b"Variable", out, at),
-        8 => put(b"Constant", out, at),
-        9 => put(b"Ref", out, at),
-        10 => put(b"Identifier", out, at),
-        11 => put(b"String", out, at),
-        12 => put(b"Number", out, at),
-        13 => put(b"Boolean", out, at),
-        14 => put(b"Nil", out, at),
-        15 => put(b"FunctionCall", out, at),
-        16 => put(b"PropertyAccess", out, at),
-        17 => put(b"Map", out, at),
-        18 => put(b"Function", out, at),
-        19 => put(b"Lambda", out, at),
-        20 => put(b"Block", out, at),
-        21 => put(b"If", out, at),
-        22 => put(b"WhileLoop", out, at),
-        23 => put(b"Return", out, at),
-        24 => put(b"Break", out, at),
-        25 => put(b"Continue", out, at),
-        26 => put(b"Import", out, at),
-        _ => put(b"?", out, at),
-    }
+    let table = NAMES;
+    let from = 14 * least(kind as usize, 27);
+    put_cell(&table, from, from + 14, out, at)
 }
 
-// The sign of a Binary's operator, as ops.rs counts them.
+// The sign of a Binary's operator.
 fn put_binary(operator: u32, out: &mut [u8; 4096], at: usize) -> usize
     requires { ⌜ at ≤ 4096 ⌝ }
     ensures { λ r. ⌜ r ≤ 4096 ⌝ }
 {
-    match operator {
-        0 => put(b"+", out, at),
-        1 => put(b"-", out, at),
-        2 => put(b"*", out, at),
-        3 => put(b"/", out, at),
-        4 => put(b"%", out, at),
-        5 => put(b"==", out, at),
-        6 => put(b"!=", out, at),
-        7 => put(b">", out, at),
-        8 => put(b">=", out, at),
-        9 => put(b"<", out, at),
-        10 => put(b"<=", out, at),
-        _ => put(b"?", out, at),
-    }
+    let table = SIGNS;
+    let from = 2 * least(operator as usize, 11);
+    put_cell(&table, from, from + 2, out, at)
 }
 
 // The sign of a node of this kind, whose first number is `operator`; nothing where it has none.
-pub fn put_sign(kind: u32, operator: u32, out: &mut [u8; 4096], at: usize) -> usize
+pub(crate) fn put_sign(kind: u32, operator: u32, out: &mut [u8; 4096], at: usize) -> usize
     requires { ⌜ at ≤ 4096 ⌝ }
     ensures { λ r. ⌜ r ≤ 4096 ⌝ }
 {
@@ -94,7 +86,7 @@ fn least(a: usize, b: usize) -> usize
 }
 
 // The text from an offset up to another, whole.
-pub fn put_text(text: &[u8], start: u32, end: u32, out: &mut [u8; 4096], at: usize) -> usize
+pub(crate) fn put_text(text: &[u8], start: u32, end: u32, out: &mut [u8; 4096], at: usize) -> usize
     requires { ⌜ at ≤ 4096 ⌝ }
     ensures { λ r. ⌜ r ≤ 4096 ⌝ }
 {
@@ -137,7 +129,7 @@ fn past(text: &[u8], i: usize, upto: usize) -> usize
 }
 
 // The text from an offset up to another on one line: each run of blanks as one blank, and `..` for what is past `most` bytes.
-pub fn put_excerpt(
+pub(crate) fn put_excerpt(
     text: &[u8],
     start: u32,
     end: u32,
@@ -164,7 +156,7 @@ pub fn put_excerpt(
 }
 
 // The first line of the text from an offset up to another, in the same way.
-pub fn put_first_line(
+pub(crate) fn put_first_line(
     text: &[u8],
     start: u32,
     end: u32,
@@ -193,7 +185,7 @@ pub fn put_first_line(
 }
 
 // The indent of a level, two blanks each; deeper than 24 it grows no more.
-pub fn indent(margin: usize, level: u32, out: &mut [u8; 4096], at: usize) -> usize
+pub(crate) fn indent(margin: usize, level: u32, out: &mut [u8; 4096], at: usize) -> usize
     requires { ⌜ (at ≤ 4096) × (margin ≤ 64) ⌝ }
     ensures { λ r. ⌜ r ≤ 4096 ⌝ }
 {

@@ -1,28 +1,26 @@
 // What the program `rows` prints for its input, as one function.
+use spelling::display::put;
 use syntax::parse;
-use token::display::put;
 use wire::input::Script;
 use wire::input::fill;
 use wire::input::scan;
 use wire::output::listed;
 use wire::output::refused;
-ghost use Prim.Native.Nat.{_≤_};
-ghost use lib.ListN.{length};
-ghost use Rattle.wire.specs.Output.{Blank, Answered};
-ghost use Rattle.wire.specs.Scanned.{Measured};
+ghost use Rattle.wire.specs.Output.{Zeros, Output-given};
+ghost use Rattle.wire.specs.Scanned.{Sizes};
 
 // 262,144 zeros: a room that has space for any output.
 // Ruled out: a room of another length; one with a byte that is not 0.
 pub fn blank() -> [u8; 262144]
-    ensures { λ r. ⌜ Blank 262144 r ⌝ }
+    ensures { λ r. ⌜ Zeros 262144 r ⌝ }
 {
     [0; 262144]
 }
 
 // The output for an input that holds a text of this size and n tokens: those of `parse` with a limit of 64 and rooms of 512 rows.
-fn script(input: &[u8], size: usize, n: usize, out: &mut [u8]) -> usize
-    requires { ⌜ Measured (now input) size n × (262144 ≤ length (now out)) ⌝ }
-    ensures { λ r. ⌜ Answered (now (input .entry)) (now (out .entry)) (now (out .exit)) r ⌝ }
+fn script(input: &[u8], size: usize, n: usize, out: &mut [u8; 262144]) -> usize
+    requires { ⌜ Sizes (now input) size n ⌝ }
+    ensures { λ r. ⌜ Output-given (now (input .entry)) (now (out .entry)) (now (out .exit)) r ⌝ }
 {
     let from = 6 + size;
     let used = 3 * n;
@@ -55,11 +53,10 @@ fn script(input: &[u8], size: usize, n: usize, out: &mut [u8]) -> usize
     )
 }
 
-// The output for an input, at the start of `out`, and its length. `out` has to have 262,144 bytes, which no output fills; the rest of it stays.
+// The output for an input, at the start of `out`, and its length. No output fills the 262,144 bytes; the rest of them stays.
 // Ruled out: `bad input` for a list of no tokens, which is refusal 1; rows for a text or a list that the input does not hold.
-pub fn answer(input: &[u8], out: &mut [u8]) -> usize
-    requires { ⌜ 262144 ≤ length (now out) ⌝ }
-    ensures { λ r. ⌜ Answered (now (input .entry)) (now (out .entry)) (now (out .exit)) r ⌝ }
+pub fn answer(input: &[u8], out: &mut [u8; 262144]) -> usize
+    ensures { λ r. ⌜ Output-given (now (input .entry)) (now (out .entry)) (now (out .exit)) r ⌝ }
 {
     let form = scan(input);
     match form {

@@ -7,9 +7,15 @@ use listing::blank;
 ghost use Prim.Native.Nat.{_≤_};
 ghost use lib.ListN.{length};
 
+// Whether the first n bytes of a room are these.
+fn agrees(room: &[u8], n: usize, given: &[u8]) -> bool
+    requires { ⌜ n ≤ length (now room) ⌝ }
+{
+    same(&room[..n], given)
+}
+
 // Answers one case and compares: 1 if the answers agree, 0 if not, 2 if no case is left.
-fn turn(case: &mut [u8], given: &mut [u8], out: &mut [u8]) -> u64
-    requires { ⌜ 262144 ≤ length (now out) ⌝ }
+fn turn(case: &mut [u8], given: &mut [u8], out: &mut [u8; 262144]) -> u64
     ensures { λ r. ⌜ r ≤ 2 ⌝ }
 {
     let first = read(case);
@@ -21,7 +27,7 @@ fn turn(case: &mut [u8], given: &mut [u8], out: &mut [u8]) -> u64
         return 2;
     };
     let k = answer(&case[..n], out);
-    if same(&out[..k], &given[..m]) {
+    if agrees(out, k, &given[..m]) {
         return 1;
     }
     0

@@ -8,18 +8,20 @@ use mathlib.Core.List.{List, [], _∷_, _++_}
 use mathlib.Core.Path.{_≡_, refl, sym, ap, _∙_}
 use borrow.Author.Tests.{eq-eqb, ne-eqb}
 use lib.ListN.{length, replicate, length-append, length-take, length-replicate, getD-replicate, List·getD-eq-default}
+use lib.Seq.{ext-getD}
 use Rattle.grammar.specs.Answer.{Answer, Answers}
 use Rattle.grammar.specs.Pattern.{bytes}
 use Rattle.grammar.specs.Call.{Call}
 use Rattle.grammar.specs.Room.{Rooms, node-width, link-width, symbol-width}
 use Rattle.grammar.specs.Token.{kind}
 use Rattle.grammar.proofs.Answers.{one-answer}
-use Rattle.token.specs.Display.{Put}
-use Rattle.token.proofs.display.Writing.{one-room}
-use Rattle.wire.specs.Input.{Holds, Broken}
+use Rattle.spelling.specs.Display.{Put}
+use Rattle.spelling.proofs.display.Writing.{one-room}
+use Rattle.wire.specs.Input.{Input-holds, Broken}
+use Rattle.wire.specs.Lines.{Put-within}
 use Rattle.wire.specs.Number.{decimal, digits}
-use Rattle.wire.specs.Output.{call, Outputs, Blank, Answered}
-use Rattle.wire.specs.Printed.{fields, row, rows, listed, refused, printed}
+use Rattle.wire.specs.Output.{call, Outputs, Zeros, Output-given}
+use Rattle.wire.specs.Printed.{fields, line, row, rows, listed, refused, printed}
 use Rattle.wire.proofs.Scanning.{one-script}
 
 -- two outputs of one input are equal
@@ -33,27 +35,31 @@ one-output (Outputs.answered {text = text} {ts = ts} {a = a} {r = r} h x) (Outpu
     let (p, q) = one-answer x z in
     rw (same .lists, p, q)
 
--- and so are two rooms with the answer in them
-pub one-answered : {input before after other : List ℕ} {n m : ℕ} → Answered input before after n → Answered input before other m → (n ≡ m) × (after ≡ other)
-one-answered {before = before} {after = after} {other = other} {n = n} {m = m} x y =
-    let e : x .output ≡ y .output = one-output (x .right) (y .right) in
-    let p : Put (y .output) 0 before after n = rw e at (x .put) in
-    (p .ends ∙ sym (y .put .ends), one-room p (y .put))
+-- what is put into a room settles the next place and every byte of the room, also where a bound is said with it
+pub one-put : {part before after other : List ℕ} {at next end : ℕ} → Put part at before after next → Put part at before other end → (next ≡ end) × (after ≡ other)
+one-put p q = (p .ends ∙ sym (q .ends), one-room p q)
+
+pub one-within : {bound : ℕ} {part before after other : List ℕ} {at next end : ℕ} → Put-within bound part at before after next → Put-within bound part at before other end → (next ≡ end) × (after ≡ other)
+one-within p q = one-put (p .put) (q .put)
+
+-- so two rooms with an answer in them are equal
+pub one-answered : {input before after other : List ℕ} {n m : ℕ} → Output-given input before after n → Output-given input before other m → (n ≡ m) × (after ≡ other)
+one-answered x y = one-put (rw (one-output (x .right) (y .right)) at (x .put)) (y .put)
 
 -- the example: for `a;` the rows of its script
 pub example : listed 2 1 1 (10 ∷ 0 ∷ 1 ∷ 0 ∷ 0 ∷ 1 ∷ 0 ∷ 0 ∷ 0 ∷ 20 ∷ 0 ∷ 0 ∷ 0 ∷ 1 ∷ 4294967295 ∷ 0 ∷ 0 ∷ 0 ∷ []) (0 ∷ 0 ∷ 0 ∷ []) (0 ∷ 1 ∷ []) ≡ bytes "ok 2 1 1\n0 10 0 1 0 0 1 0 0 0\n1 20 0 0 0 1 4294967295 0 0 0\nlink 0 0 0 0\nsym 0 0 1\n"
-unfolding listed rows row fields decimal digits
+unfolding listed rows row line fields decimal digits
 example = refl
 
 -- the three ways to answer: a bad input, a success and a refusal
-pub bad-answered : {input before after : List ℕ} {n : ℕ} → Broken input → Put (bytes "bad input\n") 0 before after n → Answered input before after n
+pub bad-answered : {input before after : List ℕ} {n : ℕ} → Broken input → Put (bytes "bad input\n") 0 before after n → Output-given input before after n
 bad-answered b p = record { output = bytes "bad input\n"; right = Outputs.bad b; put = p }
 
-pub success-answered : {input text ts before after : List ℕ} {a : Answer} {r : Rooms} {n : ℕ} → Holds input text ts → Answers (call text ts) a r → a .code ≡ 0 → Put (listed (a .nodes) (a .links) (a .symbols) (r .nodes) (r .links) (r .symbols)) 0 before after n → Answered input before after n
+pub success-answered : {input text ts before after : List ℕ} {a : Answer} {r : Rooms} {n : ℕ} → Input-holds input text ts → Answers (call text ts) a r → a .code ≡ 0 → Put (listed (a .nodes) (a .links) (a .symbols) (r .nodes) (r .links) (r .symbols)) 0 before after n → Output-given input before after n
 unfolding printed
 success-answered {ts = ts} {a = a} {r = r} h x e p = record { output = printed ts a r; right = Outputs.answered h x; put = rw (eq-eqb (a .code) 0 e) p }
 
-pub refusal-answered : {input text ts before after : List ℕ} {a : Answer} {r : Rooms} {n : ℕ} → Holds input text ts → Answers (call text ts) a r → (a .code ≡ 0 → ⊥) → Put (refused (a .code) (a .at) (a .start) (a .end) (a .expected) (kind ts (a .at))) 0 before after n → Answered input before after n
+pub refusal-answered : {input text ts before after : List ℕ} {a : Answer} {r : Rooms} {n : ℕ} → Input-holds input text ts → Answers (call text ts) a r → (a .code ≡ 0 → ⊥) → Put (refused (a .code) (a .at) (a .start) (a .end) (a .expected) (kind ts (a .at))) 0 before after n → Output-given input before after n
 unfolding printed
 refusal-answered {ts = ts} {a = a} {r = r} h x e p = record { output = printed ts a r; right = Outputs.answered h x; put = rw (ne-eqb (a .code) 0 e) p }
 
@@ -71,12 +77,16 @@ counted (Answers.turned-away x) = record { nodes = omega arith; links = omega ar
 counted (Answers.accepted {w = w} d x) = record { nodes = whole-rows node-width (w .nodes) _; links = whole-rows link-width (w .links) _; symbols = whole-rows symbol-width (w .symbols) _ }
 counted (Answers.refused d x) = record { nodes = omega arith; links = omega arith; symbols = omega arith }
 
+-- so many zeros are one list
+pub one-blank : {n : ℕ} {r s : List ℕ} → Zeros n r → Zeros n s → r ≡ s
+one-blank x y = ext-getD 0 _ _ (sym (x .size) ∙ y .size) (λ i h. x .zeros i ∙ sym (y .zeros i))
+
 -- a list of zeros, as an array is made
-pub blank : (n : ℕ) → Blank n (replicate n 0)
+pub blank : (n : ℕ) → Zeros n (replicate n 0)
 blank n = record { size = sym (length-replicate n 0); zeros = λ i. elim (decLt i n) [ yes h ↦ getD-replicate n i 0 0 h | no h ↦ List·getD-eq-default (replicate n 0) 0 {n = i} (omega (arith, length-replicate {A = ℕ} n 0)) ] }
 
 -- an answer fits its room
-pub inside : {input before after : List ℕ} {n : ℕ} → Answered input before after n → n ≤ length after
+pub inside : {input before after : List ℕ} {n : ℕ} → Output-given input before after n → n ≤ length after
 inside {before = before} {after = after} {n = n} x = omega (arith, x .put .ends, ap length (x .put .written), length-take n after)
 
 -- no input of more than 13,830 bytes is good, so neither is a part of it that is as long

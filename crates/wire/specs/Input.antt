@@ -27,7 +27,7 @@ pub record Token-record (input ts : List ℕ) (at i : ℕ) : Type 0 where
   pub end-is : end ts i ≡ number input (at + 7)
 
 -- the input is the record of this text, and then those of these tokens, and no more
-pub record Holds (input text ts : List ℕ) : Type 0 where
+pub record Input-holds (input text ts : List ℕ) : Type 0 where
   pub marked : Marked input 0 0x53
   pub size : number input 2 ≡ length text
   pub text-is : lexeme input head-size (head-size + length text) ≡ text
@@ -39,4 +39,4 @@ pub record Holds (input text ts : List ℕ) : Type 0 where
 
 -- 'A broken record or more input'
 pub record Broken (input : List ℕ) : Type 0 where
-  pub holds-none : (text ts : List ℕ) → Holds input text ts → ⊥
+  pub holds-none : (text ts : List ℕ) → Input-holds input text ts → ⊥

@@ -3,10 +3,10 @@ use Prim.Native.Nat.{ℕ, _+_, _*_, _≤_, _<_}
 use mathlib.Core.List.{List}
 use lib.ListN.{length}
 use Rattle.grammar.specs.Room.{node-width, link-width, symbol-width}
-use Rattle.token.specs.Display.{Put}
+use Rattle.spelling.specs.Display.{Put}
 
 -- these bytes were written into a room from a place on, and no more than so many
-pub record Within (bound : ℕ) (part : List ℕ) (at : ℕ) (before after : List ℕ) (next : ℕ) : Type 0 where
+pub record Put-within (bound : ℕ) (part : List ℕ) (at : ℕ) (before after : List ℕ) (next : ℕ) : Type 0 where
   pub put : Put part at before after next
   pub most : next ≤ at + bound
 

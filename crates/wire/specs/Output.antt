@@ -7,8 +7,8 @@ use Rattle.grammar.specs.Answer.{Answer, Answers}
 use Rattle.grammar.specs.Call.{Call}
 use Rattle.grammar.specs.Pattern.{bytes}
 use Rattle.grammar.specs.Room.{Rooms, node-width, link-width, symbol-width, scratch-width}
-use Rattle.token.specs.Display.{Put}
-use Rattle.wire.specs.Input.{Holds, Broken}
+use Rattle.spelling.specs.Display.{Put}
+use Rattle.wire.specs.Input.{Input-holds, Broken}
 use Rattle.wire.specs.Printed.{printed}
 
 -- rooms of 512 rows, zero throughout
@@ -26,15 +26,15 @@ call text ts = record { text = text; tokens = ts; limit = 64; rooms = blank-room
 -- for an input this may be printed: one output and no other (`one-output`)
 pub data Outputs (input : List ℕ) : List ℕ → Type 0 where
   bad : Broken input → Outputs input (bytes "bad input\n")
-  answered : {text ts : List ℕ} {a : Answer} {r : Rooms} → Holds input text ts → Answers (call text ts) a r → Outputs input (printed ts a r)
+  answered : {text ts : List ℕ} {a : Answer} {r : Rooms} → Input-holds input text ts → Answers (call text ts) a r → Outputs input (printed ts a r)
 
 -- n zeros
-pub record Blank (n : ℕ) (r : List ℕ) : Type 0 where
+pub record Zeros (n : ℕ) (r : List ℕ) : Type 0 where
   pub size : n ≡ length r
   pub zeros : (i : ℕ) → getD r i 0 ≡ 0
 
 -- the output is written at the start of a room, the rest of the room stays, and n is the output's length
-pub record Answered (input before after : List ℕ) (n : ℕ) : Type 0 where
+pub record Output-given (input before after : List ℕ) (n : ℕ) : Type 0 where
   pub output : List ℕ
   pub right : Outputs input output
   pub put : Put output 0 before after n

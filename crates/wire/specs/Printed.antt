@@ -20,9 +20,13 @@ unfoldable pub fields : List ℕ → List ℕ
 fields [] = []
 fields (n ∷ ns) = (32 ∷ decimal n) ++ fields ns
 
+-- a line: its lead, and numbers
+unfoldable pub line : (lead values : List ℕ) → List ℕ
+line lead values = lead ++ (fields values ++ newline)
+
 -- the line of row i of a room: its lead, its number, and its numbers
 unfoldable pub row : (lead : List ℕ) (width : ℕ) (room : List ℕ) (i : ℕ) → List ℕ
-row lead width room i = lead ++ (decimal i ++ (fields (take width (drop (width * i) room)) ++ newline))
+row lead width room i = lead ++ line (decimal i) (take width (drop (width * i) room))
 
 -- the lines of its first n rows
 unfoldable pub rows : (lead : List ℕ) (width : ℕ) (room : List ℕ) (n : ℕ) → List ℕ
@@ -32,12 +36,11 @@ rows lead width room (suc n) = rows lead width room n ++ row lead width room n
 -- success
 unfoldable pub listed : (nodes links symbols : ℕ) → (node-room link-room symbol-room : List ℕ) → List ℕ
 listed n l s ns ls ss =
-    bytes "ok" ++ (fields (n ∷ l ∷ s ∷ []) ++ (newline ++ (rows [] node-width ns n ++ (rows (bytes "link ") link-width ls l ++ rows (bytes "sym ") symbol-width ss s))))
+    line (bytes "ok") (n ∷ l ∷ s ∷ []) ++ (rows [] node-width ns n ++ (rows (bytes "link ") link-width ls l ++ rows (bytes "sym ") symbol-width ss s))
 
 -- a refusal, where this kind of token was found
 unfoldable pub refused : (code at start end expected found : ℕ) → List ℕ
-refused code at start end expected found =
-    bytes "refused" ++ (fields (code ∷ at ∷ start ∷ end ∷ expected ∷ []) ++ (newline ++ (text-of code expected found ++ newline)))
+refused code at start end expected found = line (bytes "refused") (code ∷ at ∷ start ∷ end ∷ expected ∷ []) ++ (text-of code expected found ++ newline)
 
 -- code 0 is success; the kind that is found is that of the token at the refusal's place
 unfoldable pub printed : (ts : List ℕ) → Answer → Rooms → List ℕ

@@ -2,9 +2,9 @@
 ghost use mathlib.Core.Path.{_≡_};
 ghost use Prim.Native.Nat.{_+_, _*_, _≤_};
 ghost use lib.ListN.{length};
-ghost use Rattle.token.specs.Decides.{Decides};
+ghost use Rattle.spelling.specs.Decides.{Decides};
 ghost use Rattle.wire.specs.Number.{number};
-ghost use Rattle.wire.specs.Scanned.{Marks, Scanned, Filled};
+ghost use Rattle.wire.specs.Scanned.{Marks, Scanned, Tokens-filled};
 
 // What an input is: bad, or the records of a text of so many bytes and of so many tokens.
 pub enum Script {
@@ -19,7 +19,7 @@ fn joined(a: u8, b: u8, c: u8, d: u8) -> u32
     a as u32 + 256 * (b as u32) + 65536 * (c as u32) + 16777216 * (d as u32)
 }
 
-// The number of the four bytes from a place on.
+// The number of the four bytes from a place on. It asks that they are there.
 // Ruled out: the bytes in another order; those from the next place on.
 pub fn four(input: &[u8], at: usize) -> u32
     requires { ⌜ at + 4 ≤ length (now input) ⌝ }
@@ -83,11 +83,12 @@ pub fn scan(input: &[u8]) -> Script
     Script::Bad
 }
 
-// Writes the n tokens whose records stand from a place on into a list, three numbers each. The caller has seen their marks.
+// Writes the n tokens whose records stand from a place on into a list, three numbers each. It asks that the records are there with their marks, and that the list has
+// room for the tokens.
 // Ruled out: a token's end in the place of its start; a number of the list after the n tokens that changes.
 pub fn fill(input: &[u8], from: usize, n: usize, tokens: &mut [u32])
     requires { ⌜ Marks (now input) from n × (from + 11 * n ≤ length (now input)) × (3 * n ≤ length (now tokens)) ⌝ }
-    ensures { λ _. ⌜ Filled (now (input .entry)) from n (now (tokens .entry)) (now (tokens .exit)) ⌝ }
+    ensures { λ _. ⌜ Tokens-filled (now (input .entry)) from n (now (tokens .entry)) (now (tokens .exit)) ⌝ }
 {
     let mut i = 0;
     while i < n {

@@ -1,7 +1,8 @@
 -- `frames::read` meets its contract.
-use mathlib.Core.Path.{sym}
+use mathlib.Core.Path.{sym, _∙_}
 use borrow.Author.Needs.{needs}
 use lib.Seq.{length-take-le}
+use Rattle.frames.proofs.Framing.{stood}
 use Rattle.frames.proofs.read.Statement.{statement}
 use Rattle.frames.proofs.read.Tie as tie
 
@@ -45,7 +46,7 @@ same-length-2 : tie.Need-same-length-2
 same-length-2 c = search needs
 
 returns-4 : tie.Need-returns-4
-returns-4 c = search needs
+returns-4 c = record { says = stood (c .before .before .before .read-full2 .last .1 .0) (c .before .before .before .read-full2 .kept .1 .0 ∙ length-take-le (c .before .before .before .before .before .before .four .result) (c .before .before .before .before .before .before .before .before .before .before .before .before .before .args .room .now) (search needs)) }
 
 pub read-spec : {M : Type 1} → statement M
 read-spec =

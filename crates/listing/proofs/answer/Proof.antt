@@ -21,16 +21,10 @@ enum-known-form : tie.Need-enum-known-form
 enum-known-form c = search needs
 
 script-requires : tie.Need-script-requires
-script-requires c κs = (scanned-sized (c .before .before .form .given .1) (c .before .before .before .before .scan .ensures), search needs)
-
-same-length : tie.Need-same-length
-same-length c = search needs
+script-requires c κs = scanned-sized (c .before .before .form .given .1) (c .before .before .before .before .scan .ensures)
 
 returns : tie.Need-returns
-returns c = bad-answered (scanned-bad (c .before .before .before .before .before .enum-told .given .1) (c .before .before .before .before .before .before .before .scan .ensures)) (c .before .before .put .ensures)
-
-same-length-2 : tie.Need-same-length-2
-same-length-2 c = search needs
+returns c = bad-answered (scanned-bad (c .before .before .before .enum-told .given .1) (c .before .before .before .before .before .scan .ensures)) (c .put .ensures)
 
 returns-2 : tie.Need-returns-2
 returns-2 c = search needs
@@ -45,7 +39,5 @@ answer-spec =
     put-requires
     enum-known-form
     script-requires
-    same-length
     returns
-    same-length-2
     returns-2)

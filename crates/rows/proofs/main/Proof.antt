@@ -24,17 +24,14 @@ array-share-prefix-input c = search needs
 slice-aggregate-answer : tie.Need-slice-aggregate-answer
 slice-aggregate-answer c = search needs
 
-slice-aggregate-answer-2 : tie.Need-slice-aggregate-answer-2
-slice-aggregate-answer-2 c = search needs
-
 answer-requires : tie.Need-answer-requires
 answer-requires c κs = search needs
 
 array-share-prefix-out : tie.Need-array-share-prefix-out
-array-share-prefix-out c = inside (c .before .answer .ensures)
+array-share-prefix-out c = inside (c .answer .ensures)
 
 slice-aggregate-write-all : tie.Need-slice-aggregate-write-all
-slice-aggregate-write-all c = sym (length-take-le _ _ (inside (c .before .before .answer .ensures)))
+slice-aggregate-write-all c = sym (length-take-le _ _ (inside (c .before .answer .ensures)))
 
 write-all-requires : tie.Need-write-all-requires
 write-all-requires c κs = search needs
@@ -52,7 +49,6 @@ main-spec =
     read-full-requires
     array-share-prefix-input
     slice-aggregate-answer
-    slice-aggregate-answer-2
     answer-requires
     array-share-prefix-out
     slice-aggregate-write-all

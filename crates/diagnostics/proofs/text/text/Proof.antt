@@ -1,7 +1,7 @@
 -- `diagnostics::text::text` meets its contract: each arm writes the text that the definition has for its code.
 use borrow.Author.Needs.{needs}
 use borrow.Author.Tests.{ne-eqb}
-use Rattle.token.proofs.display.Writing.{nothing}
+use Rattle.spelling.proofs.display.Writing.{nothing}
 use Rattle.diagnostics.specs.Message.{text-of}
 use Rattle.diagnostics.proofs.text.text.Statement.{statement}
 use Rattle.diagnostics.proofs.text.text.Tie as tie

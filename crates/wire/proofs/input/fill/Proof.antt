@@ -1,19 +1,18 @@
-use borrow.Author.Needs.{needs}
 -- `wire::input::fill` meets its contract: the tokens up to i are written.
 use Prim.Native.Nat.{ℕ, _+_, _-_, _*_, _≤_}
+use borrow.Author.Needs.{needs}
 use native.Mathlib.Omega.{arith}
 use mathlib.Core.List.{List}
 use mathlib.Core.Path.{_≡_, refl}
-use lib.ListN.{length, length-set}
+use lib.ListN.{length-set}
 use Rattle.wire.proofs.Scanning.{filled-more}
-use Rattle.wire.specs.Scanned.{Filled}
+use Rattle.wire.specs.Scanned.{Tokens-filled}
 use Rattle.wire.proofs.input.fill.Statement.{statement}
 use Rattle.wire.proofs.input.fill.Tie as tie
 
 record Going (input : List ℕ) (from n : ℕ) (before after : List ℕ) (i : ℕ) : Type 0 where
   within : i ≤ n
-  size : length after ≡ length before
-  so-far : Filled input from i before after
+  so-far : Tokens-filled input from i before after
 
 abbrev Inv-loop : tie.InvT-loop
 Inv-loop input from n tokens₀ i₀ tokens i = Going input from n tokens₀ tokens i
@@ -96,7 +95,6 @@ loop-again c =
     let turn = c .before .before .before .before .loop in
     record {
       within = search needs;
-      size = simp length-set (turn .inv .size);
       so-far = filled-more (turn .inv .so-far) (omega arith) (start .pre .0 .marked (turn .i) (search needs)) refl (c .before .four .ensures) (c .four2 .ensures);
     }
 

@@ -3,7 +3,7 @@ use borrow.Author.Needs.{needs}
 use Prim.Native.Nat.{_-_, _≤_}
 use native.Mathlib.Omega.{arith}
 use mathlib.Core.Path.{_≡_}
-use Rattle.token.proofs.Deciding.{holds, fails}
+use Rattle.spelling.proofs.Deciding.{holds, fails}
 use Rattle.wire.proofs.Scanning.{marks-more}
 use Rattle.wire.specs.Scanned.{Marks}
 use Rattle.wire.proofs.input.marked.Statement.{statement}

@@ -3,7 +3,7 @@ use Prim.Native.Nat.{_+_, _-_, _/_}
 use native.Mathlib.Omega.{arith}
 use mathlib.Core.Path.{_≡_, sym, _∙_}
 use lib.ListN.{length}
-use Rattle.token.proofs.Deciding.{held, failed}
+use Rattle.spelling.proofs.Deciding.{held, failed}
 use Rattle.wire.proofs.Scanning.{bad, sized}
 use borrow.Author.Needs.{needs}
 use Rattle.wire.proofs.input.scan.Statement.{statement}

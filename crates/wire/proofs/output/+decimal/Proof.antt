@@ -2,7 +2,7 @@
 use native.Mathlib.Omega.{arith}
 use mathlib.Core.Path.{ap}
 use lib.ListN.{length}
-use Rattle.token.proofs.display.Writing.{joined}
+use Rattle.spelling.proofs.display.Writing.{joined}
 use Rattle.wire.proofs.Decimals.{decimal-one, decimal-more, longer}
 use borrow.Author.Needs.{needs}
 use Prim.Native.Nat.{ℕ, _<_}

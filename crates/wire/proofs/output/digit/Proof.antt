@@ -1,6 +1,6 @@
 -- `wire::output::digit` meets its contract.
 use borrow.Author.Needs.{needs}
-use Rattle.token.proofs.display.Writing.{nothing, one-more}
+use Rattle.spelling.proofs.display.Writing.{nothing, one-more}
 use Rattle.wire.proofs.output.digit.Statement.{statement}
 use Rattle.wire.proofs.output.digit.Tie as tie
 

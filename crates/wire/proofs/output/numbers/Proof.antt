@@ -7,7 +7,7 @@ use mathlib.Core.Path.{_≡_, refl, _∙_}
 use lib.ListN.{length, take, getD}
 use Rattle.wire.proofs.Decimals.{decimal-short}
 use Rattle.wire.proofs.Fields.{no-field, another, all-fields}
-use Rattle.wire.specs.Lines.{Within}
+use Rattle.wire.specs.Lines.{Put-within}
 use Rattle.wire.specs.Printed.{fields}
 use Rattle.wire.proofs.output.numbers.Statement.{statement}
 use Rattle.wire.proofs.output.numbers.Tie as tie
@@ -15,7 +15,7 @@ use Rattle.wire.proofs.output.numbers.Tie as tie
 record Blanks (values : List ℕ) (at : ℕ) (before after : List ℕ) (k i : ℕ) : Type 0 where
   within : i ≤ length values
   size : length after ≡ length before
-  so-far : Within (11 * i) (fields (take i values)) at before after k
+  so-far : Put-within (11 * i) (fields (take i values)) at before after k
 
 abbrev Inv-loop : tie.InvT-loop
 Inv-loop values room₀ at k₀ i₀ t7 room k i = Blanks values at room₀ room k i

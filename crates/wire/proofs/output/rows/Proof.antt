@@ -4,7 +4,7 @@ use native.Mathlib.Omega.{arith}
 use mathlib.Core.List.{List}
 use mathlib.Core.Path.{_≡_, refl, _∙_}
 use lib.ListN.{length}
-use Rattle.wire.specs.Lines.{Within, line-size}
+use Rattle.wire.specs.Lines.{Put-within, line-size}
 use Rattle.wire.specs.Printed.{rows}
 use Rattle.wire.proofs.Lines.{no-row, another-row, row-there}
 use borrow.Author.Needs.{needs}
@@ -14,7 +14,7 @@ use Rattle.wire.proofs.output.rows.Tie as tie
 record Going (lead : List ℕ) (width : ℕ) (source : List ℕ) (n at : ℕ) (before after : List ℕ) (k i : ℕ) : Type 0 where
   within : i ≤ n
   size : length after ≡ length before
-  so-far : Within (line-size * i) (rows lead width source i) at before after k
+  so-far : Put-within (line-size * i) (rows lead width source i) at before after k
 
 abbrev Inv-loop : tie.InvT-loop
 Inv-loop lead width source n room₀ at k₀ i₀ room k i = Going lead width source n at room₀ room k i
