@@ -5,8 +5,8 @@ use crate::page::put_byte;
 ghost use Prim.Native.Nat.{_≤_, _<_};
 ghost use lib.ListN.{length};
 
-// The names of the kinds of nodes, as ast.rs has them: a cell of 14 bytes for each kind from 0 on, and the last for all others. One table, and not an arm with bytes
-// of its own for each kind, which takes a minute to check.
+// The names of the kinds of nodes, as ast.rs has them: a cell of 14 bytes for each kind from 0 on, and the last for all others. One table is checked faster than an
+// arm with bytes of its own for each kind.
 const NAMES: [u8; 392] = *b"\
     ?             Binary        LogicalAnd    LogicalOr     LogicalNot    Unary         Assign        \
     Variable      Constant      Ref           Identifier    String        Number        Boolean       \
