@@ -50,8 +50,7 @@ text-fits code expected found =
     either (eqb code 8) _ _ (either (leb expected Eof) _ [] (either (leb found Eof) _ [] required none) none)
     (either (eqb code 9) _ _ (either (leb found Eof) _ [] operand none)
     (either (eqb code 10) _ _ (omega arith)
-    (either (eqb code 11) _ _ (omega arith)
-    (either (eqb code 12) _ [] (omega arith) none))))
+    (either (eqb code 11) _ [] (omega arith) none)))
   where
     none : length {A = ℕ} [] ≤ 52
     none = omega arith
@@ -61,6 +60,11 @@ text-fits code expected found =
 
     operand : length (bytes "expected a <operand> and found: " ++ display found) ≤ 52
     operand = simp length-append (omega (arith, short found))
+
+-- 'a message for 12 has length 0'
+pub none-for-12 : (expected found : ℕ) → text-of 12 expected found ≡ []
+unfolding text-of
+none-for-12 expected found = refl
 
 -- '52 is `expected` 40 `and found` 42'
 pub longest : length (text-of 8 NumberLiteral StringLiteral) ≡ 52

@@ -1,5 +1,5 @@
--- The text of a refusal. Document 01, Small services, Message: 'document 000's text with document 002's `Display` names, for codes 8, 9, 12; added: `for is
--- not supported` (10), `nested too deep` (11)'.
+-- The text of a refusal. Document 01, Small services, Message: 'document 000's text with document 002's `Display` names' for codes 8 and 9; 'added: `for is not
+-- supported` (10), `nested too deep` (11)'. Document 02, L5: '12 goes and its number is not used again; a message for 12 has length 0'.
 use Prim.Native.Nat.{ℕ, _≤_, _<_}
 use mathlib.Core.Bool.{cond}
 use mathlib.Core.List.{List, [], _++_}
@@ -21,8 +21,7 @@ text-of code expected found =
     cond (eqb code 8) (naming expected (naming found (bytes "expected " ++ (display expected ++ (bytes " and found " ++ display found)))))
     (cond (eqb code 9) (naming found (bytes "expected a <operand> and found: " ++ display found))
     (cond (eqb code 10) (bytes "for is not supported")
-    (cond (eqb code 11) (bytes "nested too deep")
-    (cond (eqb code 12) (bytes "failed to parse float") []))))
+    (cond (eqb code 11) (bytes "nested too deep") [])))
 
 -- 'Under 52 bytes of room: refusal 13 before anything else, length 0, nothing written.' Else the text stands first in the room, and 'Bytes past the text
 -- stay'; where there is no text, that is 'code 0, length 0, nothing written'.

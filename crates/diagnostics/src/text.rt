@@ -1,4 +1,4 @@
-// The texts of refusals 8 to 12: those of parser.rs for 8, 9 and 12, with token.rs's names of the kinds; the others are added.
+// The texts of refusals 8 to 11: those of parser.rs for 8 and 9, with token.rs's names of the kinds; the others are added.
 use crate::Message;
 use spelling::display::put;
 use spelling::display::put_name;
@@ -7,7 +7,7 @@ ghost use lib.ListN.{length};
 ghost use Rattle.spelling.specs.Display.{Put};
 ghost use Rattle.diagnostics.specs.Message.{text-of, Message-given};
 
-// Writes the text of a refusal at the start of a room, which has to have 52 bytes whatever the text's length; no text for a code but 8 to 12, nor where a kind that
+// Writes the text of a refusal at the start of a room, which has to have 52 bytes whatever the text's length; no text for a code but 8 to 11, nor where a kind that
 // the text names is over 44.
 // Ruled out: a text in a room of 51 bytes, even where it would fit; the name of the expected kind in the text of 9; a byte past the text changed.
 pub fn message(code: u32, expected: u32, found: u32, room: &mut [u8]) -> Message
@@ -36,7 +36,6 @@ fn text(code: u32, expected: u32, found: u32, room: &mut [u8]) -> usize
         9 => operand(found, room),
         10 => put(b"for is not supported", room, 0),
         11 => put(b"nested too deep", room, 0),
-        12 => put(b"failed to parse float", room, 0),
         _ => 0,
     }
 }

@@ -8,10 +8,11 @@ use native.Mathlib.Omega.{arith}
 use lib.Dec.{T}
 use lib.ListN.{length, getD}
 use Rattle.grammar.specs.Call.{Call}
+use Rattle.grammar.specs.Derivative.{matches}
 use Rattle.grammar.specs.Door.{Whole, Roomy, Sound, Closed, Admitted, First-without, Wrong, Turned-away}
 use Rattle.grammar.specs.Kind.{And, Nil, Identifier, Eof}
 use Rattle.grammar.specs.Lexeme.{spelling, pattern, Fits}
-use Rattle.grammar.specs.Pattern.{Pattern, Matches, matches}
+use Rattle.grammar.specs.Pattern.{Pattern, Matches}
 use Rattle.grammar.specs.Room.{node-width, link-width, symbol-width, scratch-width}
 use Rattle.grammar.specs.Rows.{same}
 use Rattle.grammar.specs.Token.{count, kind, start, end, lexeme}

@@ -5,7 +5,7 @@ use mathlib.Core.Path.{_≡_, refl}
 use native.Mathlib.Omega.{arith}
 use Rattle.grammar.specs.Handle.{absent}
 use Rattle.grammar.specs.Layout.{layout}
-use Rattle.grammar.specs.Naming.{linked-nodes, linked-entries, naming, named-by, named-below, Rising, One-tree}
+use Rattle.grammar.specs.Naming.{linked-nodes, linked-entries, naming, named-by, named-below, Rising}
 use Rattle.grammar.specs.Named.{Naming-right}
 
 -- what rises lies below, and from where it starts

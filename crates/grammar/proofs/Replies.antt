@@ -7,12 +7,12 @@ use native.Mathlib.Decide.{ℕ-discrete, decLe, decLt}
 use native.Mathlib.Omega.{arith}
 use Rattle.grammar.specs.Answer.{Answer, success, refuse, rooms-cleared, rooms-filled, Answers}
 use Rattle.grammar.specs.Call.{Call}
-use Rattle.grammar.specs.Float.{caseless, seen}
+use Rattle.grammar.specs.Derivative.{nullable, after, matches}
 use Rattle.grammar.specs.Handle.{block-tail, block-list}
 use Rattle.grammar.specs.Kaori.{above, rules, kaori}
 use Rattle.grammar.specs.Lexeme.{spelling}
 use Rattle.grammar.specs.Outcome.{Outcome, accepted, refusal, Comes}
-use Rattle.grammar.specs.Pattern.{nullable, after, matches, literal}
+use Rattle.grammar.specs.Pattern.{literal}
 use Rattle.grammar.specs.Refusal.{refused}
 use Rattle.grammar.specs.Replies.{Reply, All-answered, replies}
 use Rattle.grammar.specs.Room.{Rooms}
@@ -48,5 +48,5 @@ all-answered (r ∷ rs) e =
     (replied (r .call) (verdict (r .call)) (coming (r .call .text) (r .call .tokens) (r .call .limit)) (λ p. right (r .call .text) (r .call .tokens) (r .call .limit) (answer (r .call .text) (r .call .tokens) (r .call .limit)) {o = p}) (cc), all-answered rs (cc))
 
 pub replies-right : All-answered replies
-unfolding reply verdict look-through each ask find by-test also implies denied carried text-is matched fitting parted sounds closes in-bytes in-tokens in-ends decLe literal spelling coming answer outcome-of reader kaori rules above seen matches after nullable caseless ℕ-discrete decLt written walk make put fill write numbers links-of interned seek same rule block-list block-tail
+unfolding reply verdict look-through each ask find by-test also implies denied carried text-is matched fitting parted sounds closes in-bytes in-tokens in-ends decLe literal spelling coming answer outcome-of reader kaori rules above matches after nullable ℕ-discrete decLt written walk make put fill write numbers links-of interned seek same rule block-list block-tail
 replies-right = all-answered replies refl

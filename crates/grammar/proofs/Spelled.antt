@@ -1,13 +1,13 @@
 -- The table of lexemes is right, by computation: each fact is decided (Doors.antt).
-use Prim.Native.Nat.{ℕ}
-use mathlib.Core.Bool.{Bool, true, false, _&&_}
+use mathlib.Core.Bool.{Bool, true, false}
 use mathlib.Core.List.{List, [], _∷_}
 use native.Mathlib.Decide.{ℕ-discrete, decLe, decLt}
 use lib.Dec.{T}
+use Rattle.grammar.specs.Derivative.{nullable, after, matches}
 use Rattle.grammar.specs.Float as numbers
 use Rattle.grammar.specs.Float.{caseless}
 use Rattle.grammar.specs.Lexeme.{spelling}
-use Rattle.grammar.specs.Pattern.{bytes, nullable, after, matches, literal}
+use Rattle.grammar.specs.Pattern.{bytes, literal}
 use Rattle.grammar.specs.Rows.{same}
 use Rattle.grammar.specs.Spelled.{Spelled, fits, misfits, float, no-float, Holds, All-hold, lexemes}
 use Rattle.grammar.proofs.Doors.{by-test, carried, also, implies, denied, look-through, each, text-is, matched, fitting}

@@ -5,7 +5,6 @@ pub mod Operator
 pub mod Token
 pub mod Pattern
 pub mod Lexeme
-pub mod Float
 pub mod Phrase
 pub mod Kaori
 pub mod Refusal
@@ -19,6 +18,9 @@ pub mod Outcome
 pub mod Call
 pub mod Door
 pub mod Answer
+-- no answer depends on these: a grammar of the Rust library, a test of patterns, tables
+pub mod Float
+pub mod Derivative
 pub mod Spelled
 pub mod Samples
 pub mod Replies

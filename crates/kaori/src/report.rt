@@ -17,7 +17,7 @@ pub struct Why {
     pub found: u32,
 }
 
-// The message of codes 8 to 12.
+// The message of codes 8 to 11.
 fn put_message(why: Why, out: &mut [u8; 4096], at: usize) -> usize
     requires { ⌜ at ≤ 4096 ⌝ }
     ensures { λ r. ⌜ r ≤ 4096 ⌝ }

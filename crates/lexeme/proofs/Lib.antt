@@ -3,4 +3,3 @@ pub mod Texts
 pub mod Numbers
 pub mod Keywords
 pub mod Fitting
-pub mod Floats

@@ -4,7 +4,8 @@ use mathlib.Core.Bool.{true, false, _&&_, _||_, or-false}
 use mathlib.Core.List.{List, [], _∷_}
 use mathlib.Core.Path.{_≡_, refl, _∙_}
 use borrow.Author.Tests.{ne-eqb}
-use Rattle.grammar.specs.Pattern.{Pattern, byte, sequence, many, matches, nullable, bytes, among, digit, some, maybe}
+use Rattle.grammar.specs.Derivative.{matches, nullable}
+use Rattle.grammar.specs.Pattern.{Pattern, byte, sequence, many, bytes, among, digit, some, maybe}
 use Rattle.grammar.proofs.Matching.{Shy, either-says, regroup, maybe-then, byte-then, only-empty, shy-first, shy-maybe, shy-optional}
 use Rattle.lexeme.specs.Parts.{signed, power}
 use Rattle.grammar.proofs.Ranges.{apart}

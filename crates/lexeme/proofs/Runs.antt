@@ -7,8 +7,9 @@ use native.Mathlib.Omega.{arith}
 use borrow.Author.Tests.{lt-ltb, le-ltb}
 use lib.Dec.{ltb}
 use lib.ListN.{length, getD, drop}
+use Rattle.grammar.specs.Derivative.{matches, nullable}
 use Rattle.grammar.specs.Token.{lexeme}
-use Rattle.grammar.specs.Pattern.{Pattern, byte, sequence, many, matches, nullable, some}
+use Rattle.grammar.specs.Pattern.{Pattern, byte, sequence, many, some}
 use Rattle.grammar.proofs.Lexemes.{lexeme-empty, lexeme-first, lexeme-drop}
 use Rattle.grammar.proofs.Matching.{Shy, regroup, many-then, byte-then, no-byte}
 use Rattle.lexeme.specs.Run.{run, Ran}
@@ -49,9 +50,6 @@ module _ (test : ℕ → Bool) (q : Pattern) (shy : Shy test q) where
 module _ (test : ℕ → Bool) (q : Pattern) (shy : Shy test q) (text : List ℕ) (start end r : ℕ) (h : start ≤ end) (fits : end ≤ length text) (ran : Ran test text start end r) where
   left : drop (run test (lexeme text start end)) (lexeme text start end) ≡ lexeme text r end
   left = lexeme-drop text (run test (lexeme text start end)) start end (omega arith) fits ∙ ap (λ (i : ℕ). lexeme text i end) (sym (ran .counted))
-
-  pub many-read : matches (sequence (many (byte test)) q) (lexeme text start end) ≡ matches q (lexeme text r end)
-  many-read = run-then test q shy (lexeme text start end) ∙ ap (matches q) left
 
   pub some-read : (r ≡ start → ⊥) → matches (sequence (some (byte test)) q) (lexeme text start end) ≡ matches q (lexeme text r end)
   some-read apart = some-then test q shy (lexeme text start end) ∙ rw (lt-ltb 0 (run test (lexeme text start end)) (omega arith)) (ap (matches q) left)

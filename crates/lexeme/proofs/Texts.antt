@@ -5,8 +5,9 @@ use mathlib.Core.List.{List, [], _∷_}
 use mathlib.Core.Path.{_≡_, refl, _∙_}
 use lib.Dec.{eqb}
 use borrow.Author.Tests.{ne-eqb}
+use Rattle.grammar.specs.Derivative.{matches, nullable}
 use Rattle.grammar.specs.Lexeme.{letter, string, identifier}
-use Rattle.grammar.specs.Pattern.{Pattern, byte, sequence, either, many, matches, nullable, bytes, among}
+use Rattle.grammar.specs.Pattern.{Pattern, byte, sequence, either, many, bytes, among}
 use Rattle.grammar.proofs.Matching.{regroup, either-then, many-then, byte-then, byte-alone}
 use Rattle.lexeme.specs.Parts.{inside, letter-or-digit}
 

@@ -1,13 +1,13 @@
 // Which lexeme fits which kind: document 002's patterns for numbers, strings and identifiers, and the fixed spellings, whose table is lent.
-pub mod float;
 
 use spelling::spelled;
 ghost use mathlib.Core.List.{[], _∷_};
 ghost use mathlib.Core.Path.{_≡_};
 ghost use Prim.Native.Nat.{_≤_};
 ghost use lib.ListN.{length};
+ghost use Rattle.grammar.specs.Derivative.{matches};
 ghost use Rattle.grammar.specs.Lexeme.{letter, number, string, identifier, Fits};
-ghost use Rattle.grammar.specs.Pattern.{byte, matches, digit, some, maybe};
+ghost use Rattle.grammar.specs.Pattern.{byte, digit, some, maybe};
 ghost use Rattle.grammar.specs.Token.{lexeme};
 ghost use Rattle.spelling.specs.Decides.{Decides};
 ghost use Rattle.lexeme.specs.Parts.{signed, power, inside, letter-or-digit, Word, Which};
@@ -176,7 +176,7 @@ fn is_number(text: &[u8], start: usize, end: usize) -> bool
 }
 
 // Nothing, or [eE][+-]?[0-9]+.
-pub(crate) fn is_power(text: &[u8], start: usize, end: usize) -> bool
+fn is_power(text: &[u8], start: usize, end: usize) -> bool
     requires { ⌜ (start ≤ end) × (end ≤ length (now text)) ⌝ }
     ensures { λ r. ⌜ r ≡ matches (maybe power) (lexeme (now (text .entry)) start end) ⌝ }
 {

@@ -7,7 +7,8 @@ use native.Mathlib.Omega.{arith}
 use lib.Dec.{eqb}
 use lib.ListN.{length, getD}
 use borrow.Author.Tests.{eqb-true, eqb-false}
-use Rattle.grammar.specs.Pattern.{Pattern, byte, sequence, matches, bytes, among, digit, some, maybe}
+use Rattle.grammar.specs.Derivative.{matches}
+use Rattle.grammar.specs.Pattern.{Pattern, byte, sequence, bytes, among, digit, some, maybe}
 use Rattle.grammar.specs.Token.{lexeme}
 use Rattle.lexeme.specs.Parts.{signed, power}
 use Rattle.lexeme.specs.Run.{Ran}

@@ -9,9 +9,10 @@ use native.Mathlib.Omega.{arith}
 use lib.Dec.{T, eqb, leb, leb→le, eqb→eq}
 use lib.ListN.{length, drop}
 use borrow.Author.Tests.{eqb-true, eqb-false, eq-eqb, ne-eqb, leb-true, lt-leb}
+use Rattle.grammar.specs.Derivative.{matches, nullable, after}
 use Rattle.grammar.specs.Kind.{NumberLiteral, StringLiteral, Identifier, Eof}
 use Rattle.grammar.specs.Lexeme.{letter, number, string, identifier, spelling, Fits}
-use Rattle.grammar.specs.Pattern.{Pattern, Matches, byte, sequence, matches, nullable, after, bytes, among, from-to, digit}
+use Rattle.grammar.specs.Pattern.{Pattern, Matches, byte, sequence, bytes, among, from-to, digit}
 use Rattle.grammar.specs.Rows.{same}
 use Rattle.grammar.proofs.Patterns.{matches-sound}
 use Rattle.lexeme.specs.Parts.{Keyword, Word}

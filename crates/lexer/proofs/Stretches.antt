@@ -8,7 +8,8 @@ use native.Mathlib.Omega.{arith}
 use lib.Dec.{T, eqb}
 use lib.ListN.{length, getD, take, drop}
 use borrow.Author.Tests.{eqb-true, eqb-false}
-use Rattle.grammar.specs.Pattern.{Pattern, Matches, byte, sequence, many, matches, some, maybe}
+use Rattle.grammar.specs.Derivative.{matches}
+use Rattle.grammar.specs.Pattern.{Pattern, Matches, byte, sequence, many, some, maybe}
 use Rattle.grammar.specs.Token.{lexeme}
 use Rattle.grammar.proofs.Patterns.{matches-sound, matches-whole}
 use Rattle.lexeme.specs.Run.{run, Ran}

@@ -8,8 +8,9 @@ use native.Mathlib.Omega.{arith}
 use lib.Dec.{eqb}
 use lib.ListN.{length, getD}
 use borrow.Author.Tests.{ne-eqb}
+use Rattle.grammar.specs.Derivative.{matches}
 use Rattle.grammar.specs.Lexeme.{string}
-use Rattle.grammar.specs.Pattern.{matches, among, bytes, maybe}
+use Rattle.grammar.specs.Pattern.{among, bytes, maybe}
 use Rattle.grammar.specs.Token.{lexeme}
 use Rattle.lexeme.specs.Parts.{inside}
 use Rattle.lexeme.proofs.Texts.{inside-quote, inside-plain, inside-cut, inside-escape, inside-open}

@@ -5,11 +5,11 @@ use mathlib.Core.List.{List, [], _∷_}
 use mathlib.Core.Path.{_≡_, refl, sym, _∙_}
 use native.Mathlib.Decide.{ℕ-discrete}
 use Rattle.ast.specs.declared.Node.{Node}
-use Rattle.grammar.specs.Float.{seen}
 use Rattle.grammar.specs.Kaori.{Form, above, operand, operators, kaori}
 use Rattle.grammar.specs.Label.{Label}
 use Rattle.grammar.specs.Phrase.{token, node, choice, chain, Tree, whole, begun, Reads}
 use Rattle.grammar.specs.Refusal.{Refused, Refuses}
+use Rattle.grammar.specs.Token.{kind}
 use Rattle.token.specs.Level.{level}
 use Rattle.token.proofs.Operators.{operator-link, no-operator}
 use Rattle.reading.specs.Answers.{node-of}
@@ -41,19 +41,19 @@ module _ {k : ℕ → ℕ} where
 
 -- a tighter level that is not followed by an operator of it is the next
 module _ {text ts : List ℕ} {limit o : ℕ} {s s₁ : State} {m : Node} where
-  step : {l : ℕ} → l < level (seen text ts (s₁ .cursor .at)) → Reading text ts limit (begun (above l) (operators l)) o s (node-of m ∷ []) [] s₁ → Reading text ts limit (whole (above (suc l))) o s (node-of m ∷ []) [] s₁
+  step : {l : ℕ} → l < level (kind ts (s₁ .cursor .at)) → Reading text ts limit (begun (above l) (operators l)) o s (node-of m ∷ []) [] s₁ → Reading text ts limit (whole (above (suc l))) o s (node-of m ∷ []) [] s₁
   unfolding above
-  step {l} h r = ended (no-operator l (seen text ts (s₁ .cursor .at)) (λ e. omega arith)) r
+  step {l} h r = ended (no-operator l (kind ts (s₁ .cursor .at)) (λ e. omega arith)) r
 
-  climb : (d n : ℕ) {l : ℕ} → n - l ≡ d → l ≤ n → n ≤ level (seen text ts (s₁ .cursor .at)) → Reading text ts limit (begun (above l) (operators l)) o s (node-of m ∷ []) [] s₁ → Reading text ts limit (begun (above n) (operators n)) o s (node-of m ∷ []) [] s₁
+  climb : (d n : ℕ) {l : ℕ} → n - l ≡ d → l ≤ n → n ≤ level (kind ts (s₁ .cursor .at)) → Reading text ts limit (begun (above l) (operators l)) o s (node-of m ∷ []) [] s₁ → Reading text ts limit (begun (above n) (operators n)) o s (node-of m ∷ []) [] s₁
   climb zero n {l} e h z r = let y : l ≡ n = omega arith in rw y at r
   climb (suc d) zero e h z r = absurd (omega arith)
   climb (suc d) (suc n) e h z r = first (step (omega arith) (climb d n (omega arith) (omega arith) (omega arith) r))
 
-  begun-at : {l n : ℕ} → l ≤ n → n ≤ level (seen text ts (s₁ .cursor .at)) → Reading text ts limit (begun (above l) (operators l)) o s (node-of m ∷ []) [] s₁ → Reading text ts limit (begun (above n) (operators n)) o s (node-of m ∷ []) [] s₁
+  begun-at : {l n : ℕ} → l ≤ n → n ≤ level (kind ts (s₁ .cursor .at)) → Reading text ts limit (begun (above l) (operators l)) o s (node-of m ∷ []) [] s₁ → Reading text ts limit (begun (above n) (operators n)) o s (node-of m ∷ []) [] s₁
   begun-at {l} {n} h z r = climb (n - l) n refl h z r
 
-  whole-at : {l n : ℕ} → l < n → n ≤ level (seen text ts (s₁ .cursor .at)) → Reading text ts limit (begun (above l) (operators l)) o s (node-of m ∷ []) [] s₁ → Reading text ts limit (whole (above n)) o s (node-of m ∷ []) [] s₁
+  whole-at : {l n : ℕ} → l < n → n ≤ level (kind ts (s₁ .cursor .at)) → Reading text ts limit (begun (above l) (operators l)) o s (node-of m ∷ []) [] s₁ → Reading text ts limit (whole (above n)) o s (node-of m ∷ []) [] s₁
   whole-at {n = zero} h z r = absurd (omega arith)
   whole-at {n = suc n} h z r = step (omega arith) (begun-at (omega arith) (omega arith) r)
 
@@ -77,8 +77,8 @@ module _ {k : ℕ → ℕ} {limit o a : ℕ} {q : Refused} where
 module _ (text ts : List ℕ) (limit level-asked o : ℕ) where
   -- from s to s₁ stands what the next operator links to, and a whole level where none of its operators comes next
   pub record Standing (s s₁ : State) (m : Node) : Type 0 where
-    pub link : (l : ℕ) → l < level-asked → level (seen text ts (s₁ .cursor .at)) ≡ l → Reading text ts limit (begun (above l) (operators l)) o s (node-of m ∷ []) [] s₁
-    pub end : level-asked ≤ level (seen text ts (s₁ .cursor .at)) → Reading text ts limit (whole (above level-asked)) o s (node-of m ∷ []) [] s₁
+    pub link : (l : ℕ) → l < level-asked → level (kind ts (s₁ .cursor .at)) ≡ l → Reading text ts limit (begun (above l) (operators l)) o s (node-of m ∷ []) [] s₁
+    pub end : level-asked ≤ level (kind ts (s₁ .cursor .at)) → Reading text ts limit (whole (above level-asked)) o s (node-of m ∷ []) [] s₁
 
   -- whatever operand stands at s₀ with the node n, from wherever it began, this stands at s₁ with the node m
   pub record Climbing (s₀ : State) (n : Node) (s₁ : State) (m : Node) : Type 0 where
@@ -97,7 +97,7 @@ module _ {text ts : List ℕ} {limit o : ℕ} where
   climbing-none w = record { grown = λ s r. unlinked _ r; within = w; rooms = rooms-same; past = omega arith }
 
   -- an operator, and a right operand that leaves only looser ones
-  pub climbing-on : {n l : ℕ} {s₀ s₁ s₂ : State} {first-node m k : Node} → Climbing text ts limit n o s₀ first-node s₁ m → level (seen text ts (s₁ .cursor .at)) ≡ l → l < n → l ≤ level (seen text ts (s₂ .cursor .at)) →
+  pub climbing-on : {n l : ℕ} {s₀ s₁ s₂ : State} {first-node m k : Node} → Climbing text ts limit n o s₀ first-node s₁ m → level (kind ts (s₁ .cursor .at)) ≡ l → l < n → l ≤ level (kind ts (s₂ .cursor .at)) →
       Going text ts limit (above l) (operators l) (begun (above l) (operators l)) o s₁ m s₂ k → Climbing text ts limit n o s₀ first-node s₂ k
   climbing-on {n} {l} {s₂ = s₂} {k = k} a e h z b = record { grown = λ s r. linked s (b .grown s (a .grown s r .link l h e)); within = b .within; rooms = rooms-on (a .rooms) (b .rooms); past = omega (arith, a .past, b .past) }
     where

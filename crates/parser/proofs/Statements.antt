@@ -1,8 +1,7 @@
 -- Statements and blocks: a statement's form and what ends it, and a block's tail, which is no list item.
 use Prim.Native.Nat.{ℕ, _+_, _-_, _*_, _≤_, _<_}
-use native.Mathlib.Decide.{ℕ-discrete}
 use native.Mathlib.Omega.{arith}
-use mathlib.Core.Bool.{Bool, true, false, cond, not, _&&_, false≢true}
+use mathlib.Core.Bool.{Bool, true, false, cond, false≢true}
 use mathlib.Core.List.{List, [], _∷_, _++_, append-assoc, map}
 use mathlib.Core.Logic.{_⊎_, inl, inr, ⊎-elim}
 use mathlib.Core.Path.{_≡_, refl, sym, ap, _∙_}
@@ -12,18 +11,16 @@ use lib.Seq.{take-take, take-at, length-take-le}
 use borrow.Author.Tests.{eqb-true, eqb-false, ne-eqb}
 use Rattle.ast.specs.Written.{Written}
 use Rattle.ast.specs.declared.Node.{Node}
-use Rattle.grammar.specs.Float.{float, seen}
 use Rattle.grammar.specs.Handle.{Handle, absent, row, link, last, is-tail, block-tail, block-list}
 use Rattle.grammar.specs.Kaori.{Form, Table, statement, block-items, may-end, must-end, assignment, semicolon, rules, look, kaori}
-use Rattle.grammar.specs.Kind.{LeftBrace, RightBrace, Function, While, If, NumberLiteral, Semicolon, RejectedNumber}
+use Rattle.grammar.specs.Kind.{LeftBrace, RightBrace, Function, While, If, Semicolon}
 use Rattle.grammar.specs.Label.{Label}
-use Rattle.grammar.specs.Pattern.{matches}
 use Rattle.grammar.specs.Phrase.{empty, node, choice, once, whole, begun}
 use Rattle.grammar.specs.Refusal.{Refused, Refuses}
 use Rattle.grammar.specs.Rows.{links-of, make}
-use Rattle.grammar.specs.Token.{kind, start, end, lexeme}
+use Rattle.grammar.specs.Token.{kind, start, end}
 use Rattle.grammar.proofs.Room.{links-length}
-use Rattle.grammar.proofs.Tables.{Unlisted}
+use Rattle.grammar.proofs.Tables.{Unlisted, keyed, unkeyed}
 use Rattle.reading.specs.Answers.{next, node-of, tail-of, Answer-case, Answered, Listed, Fill-case, Fills, Stated, State-case, States}
 use Rattle.reading.specs.Parts.{forms, form-of, ending, Ends, Ended, Untailed}
 use Rattle.reading.specs.Reading.{refusal, Success, Refusing}
@@ -31,7 +28,7 @@ use Rattle.reading.specs.State.{State, state, held, Within, Ready}
 use Rattle.reading.specs.declared.Cursor.{Cursor}
 use Rattle.reading.specs.declared.Read.{Read}
 use Rattle.reading.specs.declared.Refusal.{Refusal}
-use Rattle.reading.proofs.Laws.{sees, sees-not, Made, unwritten, nothing, chosen, ended, alone, joined, taken, ready-next, ready-on}
+use Rattle.reading.proofs.Laws.{Made, unwritten, nothing, chosen, ended, alone, joined, taken, ready-next, ready-on}
 use Rattle.reading.proofs.Listings.{pushed, links-append, Statements, listing-none, none-items, listing-more, more-items}
 use Rattle.reading.proofs.Replies.{after-once}
 use Rattle.parser.proofs.Sorts.{tail-present, statement-link}
@@ -54,15 +51,6 @@ pub statement-form : (x : ℕ) → kaori statement x ≡ once (form-of x) (endin
 unfolding kaori rules form-of ending
 statement-form x = ended-look ending forms assignment x (unlisted-ending x)
 
--- a rejected number starts a statement as a number does
-pub statement-seen : (text ts : List ℕ) (a : ℕ) {x : ℕ} → x ≡ kind ts a → kaori statement (seen text ts a) ≡ once (form-of x) (ending x)
-unfolding seen kaori rules form-of ending
-statement-seen text ts a {x} e = elim (ℕ-discrete x NumberLiteral) [ yes z ↦ number (sym e ∙ z) z (eqb (kind ts a) NumberLiteral && not (matches float (lexeme text (start ts a) (end ts a)))) | no n ↦ rw (sees text ts a (sym e) n) (statement-form x) ]
-  where
-    number : kind ts a ≡ NumberLiteral → x ≡ NumberLiteral → (b : Bool) → kaori statement (cond b RejectedNumber (kind ts a)) ≡ once (form-of x) (ending x)
-    number k z true = rw z
-    number k z false = rw (k, z)
-
 -- what may end a statement
 ending-is : (x : ℕ) → (ending x ≡ may-end) ⊎ (ending x ≡ must-end)
 unfolding ending
@@ -75,28 +63,29 @@ ending-is x = go (eqb x LeftBrace) (eqb x If) (eqb x Function) (eqb x While)
     go false false false true = inl refl
     go false false false false = inr refl
 
-module _ (text ts : List ℕ) (a x : ℕ) where
-  taken-end : seen text ts a ≡ Semicolon → kaori (ending x) (seen text ts a) ≡ semicolon
+-- what the end's table has for the token after the form: y is its kind, x that of the statement's first
+module _ (y x : ℕ) where
+  taken-end : y ≡ Semicolon → kaori (ending x) y ≡ semicolon
   unfolding kaori rules
   taken-end e = ap (kaori (ending x)) e ∙ ⊎-elim (λ z. ap (λ t. kaori t Semicolon) z) (λ z. ap (λ t. kaori t Semicolon) z) (ending-is x)
 
-  no-end : (kind ts a ≡ Semicolon → ⊥) → (kind ts a ≡ RightBrace) ⊎ (ending x ≡ may-end) → kaori (ending x) (seen text ts a) ≡ empty
-  unfolding kaori rules
+  no-end : (y ≡ Semicolon → ⊥) → (y ≡ RightBrace) ⊎ (ending x ≡ may-end) → kaori (ending x) y ≡ empty
+  unfolding rules
   no-end n h = ⊎-elim may (λ z. ⊎-elim (brace z) may h) (ending-is x)
     where
-      may : ending x ≡ may-end → kaori (ending x) (seen text ts a) ≡ empty
-      may z = ap (λ t. kaori t (seen text ts a)) z ∙ rw (ne-eqb (seen text ts a) Semicolon (sees-not text ts a n (omega arith)))
+      may : ending x ≡ may-end → kaori (ending x) y ≡ empty
+      may z = ap (λ t. kaori t y) z ∙ unkeyed may-end y refl n
 
-      brace : ending x ≡ must-end → kind ts a ≡ RightBrace → kaori (ending x) (seen text ts a) ≡ empty
-      brace z e = ap (λ t. kaori t (seen text ts a)) z ∙ ap (kaori must-end) (sees text ts a e (λ y. omega arith))
+      brace : ending x ≡ must-end → y ≡ RightBrace → kaori (ending x) y ≡ empty
+      brace z e = ap (λ t. kaori t y) z ∙ keyed must-end y refl e
 
-  lacking-end : (kind ts a ≡ RightBrace → ⊥) → ending x ≡ must-end → kaori (ending x) (seen text ts a) ≡ semicolon
-  unfolding kaori rules
-  lacking-end n z = ap (λ t. kaori t (seen text ts a)) z ∙ rw (ne-eqb (seen text ts a) RightBrace (sees-not text ts a n (omega arith)))
+  lacking-end : (y ≡ RightBrace → ⊥) → ending x ≡ must-end → kaori (ending x) y ≡ semicolon
+  unfolding rules
+  lacking-end n z = ap (λ t. kaori t y) z ∙ unkeyed must-end y refl n
 
 -- a statement's form was read, and then its end; or it was refused
 module _ {text ts : List ℕ} {limit o : ℕ} {s : State} {ns ls ys ss : List ℕ} where
-  states-refused : {q : Refusal} → Refusing text ts limit (choice statement) o s (refusal q) → States text ts limit o s ns ls ys ss (Read.Refused q)
+  states-refused : {q : Refusal} → Refusing ts limit (choice statement) o s (refusal q) → States text ts limit o s ns ls ys ss (Read.Refused q)
   unfolding State-case
   states-refused h = record { says = h }
 
@@ -104,16 +93,15 @@ module _ {text ts : List ℕ} {limit o : ℕ} {s : State} {ns ls ys ss : List �
       (kind ts (c .at) ≡ Semicolon) × (m ≡ record { id = n .id; start = 0; end = absent }) × (d ≡ next c) → States text ts limit o s ns ls ys ss (Read.Node m d)
   unfolding State-case make
   ended-by {n} {c = c} r z (k, em, ed) =
-      let e = sees text ts (c .at) k (λ y. omega arith) in
       let made : Made text ts Label.Ended (c .at) (state ns ls ys ss (next c)) (node-of n ∷ []) [] (Handle.ended (n .id) ∷ []) (state ns ls ys ss (next c)) = unwritten refl in
-      let v = chosen (statement-seen text ts (s .cursor .at) refl) (joined (z .reading) (taken-end text ts (c .at) (kind ts (s .cursor .at)) e) (taken e (nothing (r .deep))) made) in
+      let v = chosen (statement-form (kind ts (s .cursor .at))) (joined (z .reading) (taken-end (kind ts (c .at)) (kind ts (s .cursor .at)) k) (taken k (nothing (r .deep))) made) in
       rw (em, ed) (record { says = record { handle = Handle.ended (n .id); row-is = refl; start-is = refl; tail-is = refl; success = record { reading = v; within = ready-next (ready-on r (z .within)) k (λ y. omega arith) .within; past = omega (arith, z .past) } } })
 
   alone-by : {n m : Node} {c d : Cursor} → Success text ts limit (whole (form-of (kind ts (s .cursor .at)))) o s (node-of n ∷ []) (state ns ls ys ss c) →
       (kind ts (c .at) ≡ Semicolon → ⊥) × ((kind ts (c .at) ≡ RightBrace) ⊎ (ending (kind ts (s .cursor .at)) ≡ may-end)) × (m ≡ record { id = n .id; start = 0; end = n .id }) × (d ≡ c) → States text ts limit o s ns ls ys ss (Read.Node m d)
   unfolding State-case
   alone-by {n} {c = c} z (k, b, em, ed) =
-      let v = chosen (statement-seen text ts (s .cursor .at) refl) (alone (no-end text ts (c .at) (kind ts (s .cursor .at)) k b) (z .reading)) in
+      let v = chosen (statement-form (kind ts (s .cursor .at))) (alone (no-end (kind ts (c .at)) (kind ts (s .cursor .at)) k b) (z .reading)) in
       rw (em, ed) (record { says = record { handle = node-of n; row-is = refl; start-is = refl; tail-is = refl; success = record { reading = v; within = z .within; past = z .past } } })
 
   pub statement-ends : {n : Node} {c : Cursor} {x : ℕ} (r : Read) → Ready text ts limit o s → Success text ts limit (whole (form-of (kind ts (s .cursor .at)))) o s (node-of n ∷ []) (state ns ls ys ss c) → x ≡ kind ts (s .cursor .at) → Ended ts n c x r → States text ts limit o s ns ls ys ss r
@@ -121,11 +109,11 @@ module _ {text ts : List ℕ} {limit o : ℕ} {s : State} {ns ls ys ss : List �
   statement-ends (Read.Node m d) i z e w = ⊎-elim (ended-by i z) (alone-by z) ((rw e at w) .says)
   statement-ends {c = c} (Read.Refused q) i z e w =
       let (k, b, y, v) = (rw e at w) .says in
-      rw v (states-refused (Refuses.in-choice (statement-seen text ts (s .cursor .at) refl) (after-once (z .reading) (lacking-end text ts (c .at) (kind ts (s .cursor .at)) b y) (Refuses.missing (sees-not text ts (c .at) k (omega arith))))))
+      rw v (states-refused (Refuses.in-choice (statement-form (kind ts (s .cursor .at))) (after-once (z .reading) (lacking-end (kind ts (c .at)) (kind ts (s .cursor .at)) b y) (Refuses.missing k))))
 
   pub statement-refused : {r : Read} {q : Refusal} → r ≡ Read.Refused q → Answered text ts limit node-of (whole (form-of (kind ts (s .cursor .at)))) o s ns ls ys ss r → States text ts limit o s ns ls ys ss r
   unfolding Answer-case
-  statement-refused {q = q} e a = rw e (states-refused (Refuses.in-choice (statement-seen text ts (s .cursor .at) refl) (Refuses.in-only ((rw e at a) .says))))
+  statement-refused {q = q} e a = rw e (states-refused (Refuses.in-choice (statement-form (kind ts (s .cursor .at))) (Refuses.in-only ((rw e at a) .says))))
 
 -- a block's tail: after one more item, and what is left of the items without it
 last-more : (hs : List Handle) (h : Handle) → last (hs ++ (h ∷ [])) ≡ h
@@ -172,7 +160,7 @@ module _ {text ts : List ℕ} {limit o : ℕ} {s : State} {ns ls ys ss : List �
       go [] e k = absurd (n e)
       go (h ∷ hs) e k = omega arith
 
-  pub block-ends : {r : Read} → Ready text ts limit o s → kaori block-items (seen text ts (c .at)) ≡ empty → Untailed tail c r → Fills text ts limit o s ns ls ys ss r
+  pub block-ends : {r : Read} → Ready text ts limit o s → kaori block-items (kind ts (c .at)) ≡ empty → Untailed tail c r → Fills text ts limit o s ns ls ys ss r
   unfolding Fill-case block-tail
   block-ends {r} i e u = go (is-tail (last (l .items))) refl
     where
@@ -210,7 +198,7 @@ module _ {text ts : List ℕ} {limit o : ℕ} {s : State} where
   pub statements-none : o ≤ limit → Within text ts s → Statements text ts limit o s s absent
   statements-none h w = record { listing = listing-none h w; last = sym (ap (λ k. row (block-tail k)) (none-items block-items h w) ∙ tail-none) }
 
-  pub statements-more : {s₁ : State} {tail : ℕ} {n : Node} {ns ls ys ss ss′ : List ℕ} {c : Cursor} → Statements text ts limit o s s₁ tail → kaori block-items (seen text ts (s₁ .cursor .at)) ≡ node Label.Item (choice statement) → Stated text ts limit o s₁ n (state ns ls ys ss c) →
+  pub statements-more : {s₁ : State} {tail : ℕ} {n : Node} {ns ls ys ss ss′ : List ℕ} {c : Cursor} → Statements text ts limit o s s₁ tail → kaori block-items (kind ts (s₁ .cursor .at)) ≡ node Label.Item (choice statement) → Stated text ts limit o s₁ n (state ns ls ys ss c) →
       Written (3 * c .held) (3 * (c .held + 1)) (n .id ∷ 0 ∷ 0 ∷ []) ss ss′ → Statements text ts limit o s (state ns ls ys ss′ (pushed c)) (n .end)
   statements-more {n = n} x e z w =
       let l = x .listing in

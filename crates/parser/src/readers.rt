@@ -5,7 +5,6 @@ use reading::Cursor;
 use reading::Read;
 use reading::Refusal;
 use reading::leaves::identifier;
-use reading::leaves::number;
 use reading::leaves::property_access;
 use reading::leaves::single;
 use reading::leaves::string;
@@ -915,7 +914,7 @@ fn prefix(
             depth,
             cur,
         ),
-        40 => number(
+        40 => single(
             text,
             tokens,
             nodes,
@@ -925,6 +924,7 @@ fn prefix(
             limit,
             depth,
             cur,
+            40,
         ),
         42 => string(
             text,

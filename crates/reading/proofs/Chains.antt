@@ -4,14 +4,12 @@ use native.Mathlib.Omega.{arith}
 use mathlib.Core.List.{List, [], _∷_}
 use mathlib.Core.Path.{_≡_}
 use Rattle.ast.specs.declared.Node.{Node}
-use Rattle.grammar.specs.Float.{seen}
 use Rattle.grammar.specs.Handle.{Handle}
 use Rattle.grammar.specs.Kaori.{Form, Table, kaori}
-use Rattle.grammar.specs.Kind.{RejectedNumber}
 use Rattle.grammar.specs.Label.{Label}
 use Rattle.grammar.specs.Phrase.{empty, node, chain, Aim, whole, begun}
 use Rattle.grammar.specs.Refusal.{Refused, refused}
-use Rattle.grammar.specs.Token.{count}
+use Rattle.grammar.specs.Token.{kind, count}
 use Rattle.interner.specs.Table.{Table as Symbols}
 use Rattle.reading.specs.Answers.{node-of, Took, Consumed, Answer-case, Answered, List-case, Lists}
 use Rattle.reading.specs.Chains.{Going, Gone, Further, Onward}
@@ -21,22 +19,22 @@ use Rattle.reading.specs.declared.Cursor.{Cursor}
 use Rattle.reading.specs.declared.Read.{Read}
 use Rattle.reading.specs.declared.Refusal.{Refusal}
 use Rattle.reading.proofs.Bound.{bound, link-within, paid-link, paid-inside}
-use Rattle.reading.proofs.Laws.{sees-not, rooms-on, Made, linked, ended}
+use Rattle.reading.proofs.Laws.{rooms-on, Made, linked, ended}
 
 module _ {text ts : List ℕ} {limit : ℕ} {p : Form} {t : Table} {o : ℕ} {s₀ : State} {n : Node} where
   -- one link after others
   pub going-on : {g : Aim Table Label} {s₁ s₂ : State} {m k : Node} → Going text ts limit p t (begun p t) o s₀ n s₁ m → Going text ts limit p t g o s₁ m s₂ k → Going text ts limit p t g o s₀ n s₂ k
   going-on a b = record { grown = λ s z. b .grown s (a .grown s z); within = b .within; rooms = rooms-on (a .rooms) (b .rooms); past = omega (arith, a .past, b .past) }
 
-  pub going-end : {s₁ : State} {m : Node} → kaori t (seen text ts (s₁ .cursor .at)) ≡ empty → Going text ts limit p t (begun p t) o s₀ n s₁ m → Going text ts limit p t (whole (chain p t)) o s₀ n s₁ m
+  pub going-end : {s₁ : State} {m : Node} → kaori t (kind ts (s₁ .cursor .at)) ≡ empty → Going text ts limit p t (begun p t) o s₀ n s₁ m → Going text ts limit p t (whole (chain p t)) o s₀ n s₁ m
   going-end e a = record { grown = λ s z. ended e (a .grown s z); within = a .within; rooms = a .rooms; past = a .past }
 
   -- a link for which a row is written
-  pub going-link : {f : Label} {q : Form} {ys : List Handle} {s₁ s₂ : State} {m : Node} → Within text ts s₀ → kaori t (seen text ts (s₀ .cursor .at)) ≡ node f q →
+  pub going-link : {f : Label} {q : Form} {ys : List Handle} {s₁ s₂ : State} {m : Node} → Within text ts s₀ → kaori t (kind ts (s₀ .cursor .at)) ≡ node f q →
       Reading text ts limit (whole q) o s₀ ys [] s₁ → Made text ts f (s₀ .cursor .at) s₁ (node-of n ∷ []) ys (node-of m ∷ []) s₂ → s₁ .cursor .at < count ts → Symbols text (written s₂ .symbols) →
       Going text ts limit p t (begun p t) o s₀ n s₂ m
   going-link {f} {q} {s₂ = s₂} w g r i h y =
-      let pay = paid-link t (seen text ts (s₀ .cursor .at)) g in
+      let pay = paid-link t (kind ts (s₀ .cursor .at)) g in
       record { grown = λ s b. linked b g r i; within = link-within w pay h y r i; rooms = rooms-on (r .rooms) (i .rooms); past = omega (arith, i .at, bound w (paid-inside pay) h r .past) }
 
   module _ {g : Aim Table Label} {a : ℕ} {ns ls ys ss : List ℕ} where
@@ -49,19 +47,19 @@ module _ {text ts : List ℕ} {limit : ℕ} {p : Form} {t : Table} {o : ℕ} {s�
     goes h z = record { says = record { going = z; far = h } }
 
     -- a required token is missing
-    pub stops-lacking : {c : Cursor} {x : ℕ} {r : Read} {q : Refusal} → r ≡ Read.Refused q → Consumed ts c x r → x < RejectedNumber →
-        ((s : State) → Reading text ts limit (begun p t) o s (node-of n ∷ []) [] s₀ → (seen text ts (c .at) ≡ x → ⊥) → Refusing text ts limit (chain p t) o s (refused 8 (c .at) x)) → Onward text ts limit p t g o s₀ n a ns ls ys ss r
+    pub stops-lacking : {c : Cursor} {x : ℕ} {r : Read} {q : Refusal} → r ≡ Read.Refused q → Consumed ts c x r →
+        ((s : State) → Reading text ts limit (begun p t) o s (node-of n ∷ []) [] s₀ → (kind ts (c .at) ≡ x → ⊥) → Refusing ts limit (chain p t) o s (refused 8 (c .at) x)) → Onward text ts limit p t g o s₀ n a ns ls ys ss r
     unfolding Further Took
-    stops-lacking {c} {x} e z b up = let y = (rw e at z) .says in rw (e, y .1) (record { says = λ s d. up s d (sees-not text ts (c .at) (y .0) b) })
+    stops-lacking e z up = let y = (rw e at z) .says in rw (e, y .1) (record { says = λ s d. up s d (y .0) })
 
     -- a refusal of a part, of a list, and of a later link
     pub stopped : {h : Node → Handle} {r : Read} {q : Refusal} {g′ : Aim Table Label} {o′ : ℕ} {s′ : State} → r ≡ Read.Refused q → Answered text ts limit h g′ o′ s′ ns ls ys ss r →
-        ((s : State) (x : Refused) → Reading text ts limit (begun p t) o s (node-of n ∷ []) [] s₀ → Refusing text ts limit (form g′) o′ s′ x → Refusing text ts limit (chain p t) o s x) → Onward text ts limit p t g o s₀ n a ns ls ys ss r
+        ((s : State) (x : Refused) → Reading text ts limit (begun p t) o s (node-of n ∷ []) [] s₀ → Refusing ts limit (form g′) o′ s′ x → Refusing ts limit (chain p t) o s x) → Onward text ts limit p t g o s₀ n a ns ls ys ss r
     unfolding Further Answer-case
     stopped {q = q} e z up = rw e (record { says = λ s b. up s (refusal q) b ((rw e at z) .says) })
 
     pub stopped-list : {r : Read} {q : Refusal} {g′ : Aim Table Label} {o′ : ℕ} {s′ : State} → r ≡ Read.Refused q → Lists text ts limit g′ o′ s′ ns ls ys ss r →
-        ((s : State) (x : Refused) → Reading text ts limit (begun p t) o s (node-of n ∷ []) [] s₀ → Refusing text ts limit (form g′) o′ s′ x → Refusing text ts limit (chain p t) o s x) → Onward text ts limit p t g o s₀ n a ns ls ys ss r
+        ((s : State) (x : Refused) → Reading text ts limit (begun p t) o s (node-of n ∷ []) [] s₀ → Refusing ts limit (form g′) o′ s′ x → Refusing ts limit (chain p t) o s x) → Onward text ts limit p t g o s₀ n a ns ls ys ss r
     unfolding Further List-case
     stopped-list {q = q} e z up = rw e (record { says = λ s b. up s (refusal q) b ((rw e at z) .says) })
 

@@ -9,7 +9,7 @@ use Rattle.ast.specs.declared.Node.{Node}
 use Rattle.grammar.specs.Door.{Lent}
 use Rattle.grammar.specs.Handle.{Handle, absent, row, block-list, block-tail}
 use Rattle.grammar.specs.Kaori.{Form, Table, block-items}
-use Rattle.grammar.specs.Kind.{NumberLiteral, Eof}
+use Rattle.grammar.specs.Kind.{Eof}
 use Rattle.grammar.specs.Label.{Node as Form-of, Label, number-of}
 use Rattle.grammar.specs.Phrase.{empty, token, part, chain, Aim, whole}
 use Rattle.grammar.specs.Rows.{links-of, numbers, write, fill, put, make}
@@ -23,7 +23,7 @@ use Rattle.reading.specs.State.{State, state, written, held, Within, Rea
 use Rattle.reading.specs.declared.Cursor.{Cursor}
 use Rattle.reading.specs.declared.Read.{Read}
 use Rattle.reading.proofs.Bound.{Paid}
-use Rattle.reading.proofs.Laws.{sees, closed, Made}
+use Rattle.reading.proofs.Laws.{closed, Made}
 use Rattle.reading.proofs.Entering.{link-number, grown, entered, row-made, list-made}
 use Rattle.reading.proofs.Listings.{hold-number, held-above, size-held}
 use Rattle.reading.proofs.Replies.{Taken, answer}
@@ -57,8 +57,8 @@ Within-at {text} {ts} {s} w c = Within text ts (state (s .nodes) (s .links) (s .
 module _ {ts : List ℕ} {c d : Cursor} {x : ℕ} {n : Node} (k : Taken ts c x n d) where
   module _ {text : List ℕ} {limit o : ℕ} where
     -- a list, and the token that closes it
-    pub token-closes : {s : State} {ns ls ys ss : List ℕ} {base : ℕ} {p : Form} {hs : List Handle} → (x ≡ NumberLiteral → ⊥) → o ≤ limit → Reading text ts limit (whole p) o s hs [] (holding base (state ns ls ys ss c)) → Reading text ts limit (whole (part p (token x empty))) o s hs [] (holding base (state ns ls ys ss d))
-    token-closes z h r = rw (k .after) (closed r h (sees text ts (c .at) (k .kind-is) z))
+    pub token-closes : {s : State} {ns ls ys ss : List ℕ} {base : ℕ} {p : Form} {hs : List Handle} → o ≤ limit → Reading text ts limit (whole p) o s hs [] (holding base (state ns ls ys ss c)) → Reading text ts limit (whole (part p (token x empty))) o s hs [] (holding base (state ns ls ys ss d))
+    token-closes h r = rw (k .after) (closed r h (k .kind-is))
 
   pub token-within : {text ns ls ys ss : List ℕ} → (x ≡ Eof → ⊥) → Lent text ts → Within text ts (state ns ls ys ss c) → Within text ts (state ns ls ys ss d)
   token-within z l w = let h : Ready _ ts 0 0 _ = record { lent = l; deep = omega arith; within = w } in ready-led h k z .within

@@ -1,39 +1,20 @@
 -- How readings of parts make a reading of the whole, and answers of parts an answer: a law for each production.
 use Prim.Native.Nat.{ℕ, _+_, _≤_, _<_}
 use native.Mathlib.Omega.{arith}
-use mathlib.Core.Bool.{Bool, true, false, cond, not, _&&_}
 use mathlib.Core.List.{List, [], _++_, append-nil}
 use mathlib.Core.Path.{_≡_, refl, sym, _∙_}
-use lib.Dec.{eqb}
-use borrow.Author.Tests.{ne-eqb}
 use Rattle.grammar.specs.Door.{Lent}
-use Rattle.grammar.specs.Float.{float, seen}
 use Rattle.grammar.specs.Handle.{Handle}
 use Rattle.grammar.specs.Kaori.{Form, Table, kaori}
-use Rattle.grammar.specs.Kind.{NumberLiteral, RejectedNumber, Eof}
+use Rattle.grammar.specs.Kind.{Eof}
 use Rattle.grammar.specs.Label.{Label}
-use Rattle.grammar.specs.Pattern.{matches}
 use Rattle.grammar.specs.Phrase.{empty, token, part, nested, node, choice, chain, once, made, more, none, deeper, Aim, whole, begun, Reads, depth}
 use Rattle.grammar.specs.Rows.{walk, make}
-use Rattle.grammar.specs.Token.{kind, start, end, lexeme, count}
+use Rattle.grammar.specs.Token.{kind, count}
 use Rattle.reading.specs.Answers.{next}
 use Rattle.reading.specs.Reading.{Reading}
 use Rattle.reading.specs.State.{State, state, written, held, Roomy, Within, Ready, Rooms}
 use Rattle.reading.specs.declared.Cursor.{Cursor}
-
--- what the grammar sees of a token is its kind, but of a rejected number
-module _ (text ts : List ℕ) (a : ℕ) {x : ℕ} where
-  pub sees : kind ts a ≡ x → (x ≡ NumberLiteral → ⊥) → seen text ts a ≡ x
-  unfolding seen
-  sees e n = rw (ne-eqb (kind ts a) NumberLiteral (λ z. n (sym e ∙ z))) e
-
-  pub sees-not : (kind ts a ≡ x → ⊥) → x < RejectedNumber → seen text ts a ≡ x → ⊥
-  unfolding seen
-  sees-not n h e = pick (eqb (kind ts a) NumberLiteral && not (matches float (lexeme text (start ts a) (end ts a)))) e
-    where
-      pick : (b : Bool) → cond b RejectedNumber (kind ts a) ≡ x → ⊥
-      pick true z = omega arith
-      pick false z = n z
 
 -- rooms
 pub rooms-same : {s : State} → Rooms s s
@@ -84,19 +65,19 @@ module _ {text ts : List ℕ} {limit o : ℕ} {s : State} where
     opened r = record { tree = deeper (r .tree); reads = Reads.opened (r .reads); fits = omega arith; rows = r .rows; holds = r .holds; same = r .same; rooms = r .rooms }
 
     -- the same tree, as another aim
-    read-as : {g g′ : Aim Table Label} (r : Reading text ts limit g o s xs ys s′) → Reads kaori (seen text ts) g′ (s .cursor .at) (s′ .cursor .at) (r .tree) → Reading text ts limit g′ o s xs ys s′
+    read-as : {g g′ : Aim Table Label} (r : Reading text ts limit g o s xs ys s′) → Reads kaori (kind ts) g′ (s .cursor .at) (s′ .cursor .at) (r .tree) → Reading text ts limit g′ o s xs ys s′
     read-as r t = record { tree = r .tree; reads = t; fits = r .fits; rows = r .rows; holds = r .holds; same = r .same; rooms = r .rooms }
 
-    pub chosen : {n : Table} {p : Form} → kaori n (seen text ts (s .cursor .at)) ≡ p → Reading text ts limit (whole p) o s xs ys s′ → Reading text ts limit (whole (choice n)) o s xs ys s′
+    pub chosen : {n : Table} {p : Form} → kaori n (kind ts (s .cursor .at)) ≡ p → Reading text ts limit (whole p) o s xs ys s′ → Reading text ts limit (whole (choice n)) o s xs ys s′
     chosen e r = read-as r (Reads.chosen e (r .reads))
 
     pub first : {n : Table} {p : Form} → Reading text ts limit (whole p) o s xs ys s′ → Reading text ts limit (begun p n) o s xs ys s′
     first r = read-as r (Reads.first (r .reads))
 
-    pub ended : {n : Table} {p : Form} → kaori n (seen text ts (s′ .cursor .at)) ≡ empty → Reading text ts limit (begun p n) o s xs ys s′ → Reading text ts limit (whole (chain p n)) o s xs ys s′
+    pub ended : {n : Table} {p : Form} → kaori n (kind ts (s′ .cursor .at)) ≡ empty → Reading text ts limit (begun p n) o s xs ys s′ → Reading text ts limit (whole (chain p n)) o s xs ys s′
     ended e r = read-as r (Reads.ended (r .reads) e)
 
-    pub alone : {n : Table} {p : Form} → kaori n (seen text ts (s′ .cursor .at)) ≡ empty → Reading text ts limit (whole p) o s xs ys s′ → Reading text ts limit (whole (once p n)) o s xs ys s′
+    pub alone : {n : Table} {p : Form} → kaori n (kind ts (s′ .cursor .at)) ≡ empty → Reading text ts limit (whole p) o s xs ys s′ → Reading text ts limit (whole (once p n)) o s xs ys s′
     alone e r = read-as r (Reads.alone (r .reads) e)
 
     -- a node of what is read
@@ -106,20 +87,20 @@ module _ {text ts : List ℕ} {limit o : ℕ} {s : State} where
 
   -- a link after what stands, and one link at most
   module _ {t : Table} {f : Label} {p q : Form} {xs ys hs : List Handle} {s₀ s₁ s₂ : State} where
-    pub linked : Reading text ts limit (begun p t) o s xs [] s₀ → kaori t (seen text ts (s₀ .cursor .at)) ≡ node f q → Reading text ts limit (whole q) o s₀ ys [] s₁ → Made text ts f (s₀ .cursor .at) s₁ xs ys hs s₂ → Reading text ts limit (begun p t) o s hs [] s₂
+    pub linked : Reading text ts limit (begun p t) o s xs [] s₀ → kaori t (kind ts (s₀ .cursor .at)) ≡ node f q → Reading text ts limit (whole q) o s₀ ys [] s₁ → Made text ts f (s₀ .cursor .at) s₁ xs ys hs s₂ → Reading text ts limit (begun p t) o s hs [] s₂
     unfolding walk depth
     linked b g r m = record { tree = made f (s₀ .cursor .at) (s₁ .cursor .at) (more (b .tree) (r .tree)); reads = rw (m .at) (Reads.link (b .reads) g (r .reads)); fits = omega arith; rows = rw (b .rows, r .rows, append-nil xs, append-nil ys) (m .makes); holds = m .holds ∙ r .holds ∙ b .holds; same = m .same ∙ r .same ∙ b .same; rooms = rooms-on (rooms-on (b .rooms) (r .rooms)) (m .rooms) }
 
-    pub joined : Reading text ts limit (whole p) o s xs [] s₀ → kaori t (seen text ts (s₀ .cursor .at)) ≡ node f q → Reading text ts limit (whole q) o s₀ ys [] s₁ → Made text ts f (s₀ .cursor .at) s₁ xs ys hs s₂ → Reading text ts limit (whole (once p t)) o s hs [] s₂
+    pub joined : Reading text ts limit (whole p) o s xs [] s₀ → kaori t (kind ts (s₀ .cursor .at)) ≡ node f q → Reading text ts limit (whole q) o s₀ ys [] s₁ → Made text ts f (s₀ .cursor .at) s₁ xs ys hs s₂ → Reading text ts limit (whole (once p t)) o s hs [] s₂
     unfolding walk depth
     joined b g r m = record { tree = made f (s₀ .cursor .at) (s₁ .cursor .at) (more (b .tree) (r .tree)); reads = rw (m .at) (Reads.joined (b .reads) g (r .reads)); fits = omega arith; rows = rw (b .rows, r .rows, append-nil xs, append-nil ys) (m .makes); holds = m .holds ∙ r .holds ∙ b .holds; same = m .same ∙ r .same ∙ b .same; rooms = rooms-on (rooms-on (b .rooms) (r .rooms)) (m .rooms) }
 
 -- a token: the state after it, then the rest
-pub taken : {text ts ns ls ys ss : List ℕ} {limit o x : ℕ} {c : Cursor} {p : Form} {hs gs : List Handle} {s′ : State} → seen text ts (c .at) ≡ x → Reading text ts limit (whole p) o (state ns ls ys ss (next c)) hs gs s′ → Reading text ts limit (whole (token x p)) o (state ns ls ys ss c) hs gs s′
+pub taken : {text ts ns ls ys ss : List ℕ} {limit o x : ℕ} {c : Cursor} {p : Form} {hs gs : List Handle} {s′ : State} → kind ts (c .at) ≡ x → Reading text ts limit (whole p) o (state ns ls ys ss (next c)) hs gs s′ → Reading text ts limit (whole (token x p)) o (state ns ls ys ss c) hs gs s′
 taken k r = record { tree = r .tree; reads = Reads.taken k (r .reads); fits = r .fits; rows = r .rows; holds = r .holds; same = r .same; rooms = record { nodes = r .rooms .nodes; links = r .rooms .links; symbols = r .rooms .symbols; scratch = r .rooms .scratch } }
 
 -- what was read, and a token after it
-pub closed : {text ts ns ls ys ss : List ℕ} {limit o x : ℕ} {p : Form} {s : State} {hs : List Handle} {c : Cursor} → Reading text ts limit (whole p) o s hs [] (state ns ls ys ss c) → o ≤ limit → seen text ts (c .at) ≡ x → Reading text ts limit (whole (part p (token x empty))) o s hs [] (state ns ls ys ss (next c))
+pub closed : {text ts ns ls ys ss : List ℕ} {limit o x : ℕ} {p : Form} {s : State} {hs : List Handle} {c : Cursor} → Reading text ts limit (whole p) o s hs [] (state ns ls ys ss c) → o ≤ limit → kind ts (c .at) ≡ x → Reading text ts limit (whole (part p (token x empty))) o s hs [] (state ns ls ys ss (next c))
 closed z h k = both z (taken k (nothing h))
 
 -- past a token that is not Eof there is another

@@ -1,23 +1,20 @@
--- Leaves: a node of one token, also of one whose text has a symbol; a name with a row; a dot with its name; and a number that is read or rejected.
+-- Leaves: a node of one token, also of one whose text has a symbol; a name with a row; and a dot with its name.
 use Prim.Native.Nat.{ℕ, _+_, _-_, _*_, _≤_, _<_}
-use native.Mathlib.Decide.{ℕ-discrete}
 use native.Mathlib.Omega.{arith}
-use mathlib.Core.Bool.{true, false}
 use mathlib.Core.List.{List, [], _∷_}
 use mathlib.Core.Logic.{⊎-elim}
-use mathlib.Core.Path.{_≡_, refl, sym, ap, _∙_}
+use mathlib.Core.Path.{_≡_, refl, ap, _∙_}
 use lib.ListN.{length, getD, take, drop, length-append, length-take}
 use Rattle.ast.specs.Inserted.{Free, Inserted}
 use Rattle.ast.specs.declared.Node.{Node}
 use Rattle.grammar.specs.Door.{Lent}
-use Rattle.grammar.specs.Float.{float, seen}
 use Rattle.grammar.specs.Handle.{Handle, link, head, from, upto}
-use Rattle.grammar.specs.Kaori.{Form, Table, leaf, name, operand, calls, rules, kaori}
-use Rattle.grammar.specs.Kind.{Dot, True, False, NumberLiteral, Semicolon, StringLiteral, Identifier, Eof, RejectedNumber}
+use Rattle.grammar.specs.Kaori.{Form, Table, leaf, name, calls, rules, kaori}
+use Rattle.grammar.specs.Kind.{Dot, True, False, Semicolon, StringLiteral, Identifier, Eof}
 use Rattle.grammar.specs.Label.{Label, Node as Form-of, number-of}
 use Rattle.grammar.specs.Lexeme.{string}
-use Rattle.grammar.specs.Pattern.{Matches, matches}
-use Rattle.grammar.specs.Phrase.{node, choice, Tree, made, none, Aim, whole, begun, Reads}
+use Rattle.grammar.specs.Pattern.{Matches}
+use Rattle.grammar.specs.Phrase.{node, Tree, made, none, Aim, whole, begun, Reads}
 use Rattle.grammar.specs.Refusal.{Refused, Refuses}
 use Rattle.grammar.specs.Rows.{seek, interned, make, put, fill, numbers, write, walk}
 use Rattle.grammar.specs.Rule.{rule}
@@ -37,14 +34,13 @@ use Rattle.reading.specs.declared.Read.{Read}
 use Rattle.reading.specs.declared.Refusal.{Refusal}
 use Rattle.reading.proofs.Chains.{going-link, goes, stopped}
 use Rattle.reading.proofs.Entering.{grown, entered-alone, row-number, row-made}
-use Rattle.reading.proofs.Laws.{sees, Made, nothing, taken, labelled, more-tokens}
+use Rattle.reading.proofs.Laws.{Made, nothing, taken, labelled, more-tokens}
 use Rattle.reading.proofs.Names.{free-symbol, symbols-to}
-use Rattle.reading.proofs.Picks.{picked}
-use Rattle.reading.proofs.Replies.{Taken, refuse, answer, further}
+use Rattle.reading.proofs.Replies.{Taken, answer, further}
 use Rattle.reading.proofs.Taking.{free}
 
 -- a token was read as a node
-pub leaf-read : {text ts ns ls ys ss ns′ ls′ ys′ ss′ : List ℕ} {limit o x : ℕ} {f : Form-of} {c d : Cursor} {n : Node} → Ready text ts limit o (state ns ls ys ss c) → seen text ts (c .at) ≡ x → c .at + 1 < count ts → Symbols text (take (2 * d .symbols) ys′) →
+pub leaf-read : {text ts ns ls ys ss ns′ ls′ ys′ ss′ : List ℕ} {limit o x : ℕ} {f : Form-of} {c d : Cursor} {n : Node} → Ready text ts limit o (state ns ls ys ss c) → kind ts (c .at) ≡ x → c .at + 1 < count ts → Symbols text (take (2 * d .symbols) ys′) →
     Made text ts (Label.Row f) (c .at) (state ns ls ys ss (next c)) [] [] (node-of n ∷ []) (state ns′ ls′ ys′ ss′ d) → Answered text ts limit node-of (whole (leaf f x)) o (state ns ls ys ss c) ns′ ls′ ys′ ss′ (Read.Node n d)
 unfolding paid spare
 leaf-read r e h t m = answer r (record { pays = tt }) (rw (m .at) h) t (labelled (taken e (nothing (r .deep))) m)
@@ -57,14 +53,13 @@ single-row text ts ns ls ys ss a c s k = ⊎-elim (λ e. rw e) (⊎-elim (λ e. 
 pub single-below : {x : ℕ} → Single x → x < Semicolon
 single-below s = ⊎-elim (λ e. omega arith) (⊎-elim (λ e. omega arith) (⊎-elim (λ e. omega arith) (⊎-elim (λ e. omega arith) (⊎-elim (λ e. omega arith) (λ e. omega arith))))) (s .known)
 
-pub single-read : {text ts ns ls ys ss ns′ : List ℕ} {limit o x : ℕ} {c d : Cursor} {place n : Node} → Ready text ts limit o (state ns ls ys ss c) → Single x → Taken ts c x place d → (x ≡ NumberLiteral → seen text ts (c .at) ≡ NumberLiteral) →
+pub single-read : {text ts ns ls ys ss ns′ : List ℕ} {limit o x : ℕ} {c d : Cursor} {place n : Node} → Ready text ts limit o (state ns ls ys ss c) → Single x → Taken ts c x place d →
     Inserted (d .nodes) (number-of (single-node x)) (place .start) (place .end) (single-fields x) ns ns′ n → Answered text ts limit node-of (whole (leaf (single-node x) x)) o (state ns ls ys ss c) ns′ ls ys ss (Read.Node n (grown d))
-single-read {text} {ts} {ns} {ls} {ys} {ss} {ns′} {x = x} {c = c} {place = place} {n = n} r s t f i =
+single-read {text} {ts} {ns} {ls} {ys} {ss} {ns′} {x = x} {c = c} {place = place} {n = n} r s t i =
     let b = single-below s in
     let j : Inserted (c .nodes) (number-of (single-node x)) (start ts (c .at)) (end ts (c .at)) (single-fields x) ns ns′ n = rw (t .after, t .node-is) at i in
     let room : 9 * c .nodes ≤ length ns = omega (arith, r .within .rows, r .within .at, r .within .roomy .nodes) in
-    let e : seen text ts (c .at) ≡ x = elim (ℕ-discrete x NumberLiteral) [ yes z ↦ f z ∙ sym z | no z ↦ sees text ts (c .at) (t .kind-is) z ] in
-    rw (t .after) (leaf-read r e (more-tokens (r .lent) (r .within .at) (t .kind-is) (λ z. omega arith)) (r .within .table) (row-made j room (single-row text ts ns ls ys ss (c .at) (next c) s (t .kind-is))))
+    rw (t .after) (leaf-read r (t .kind-is) (more-tokens (r .lent) (r .within .at) (t .kind-is) (λ z. omega arith)) (r .within .table) (row-made j room (single-row text ts ns ls ys ss (c .at) (next c) s (t .kind-is))))
 
 -- where a token was just taken there is room for a row
 pub next-row : {text ts ns ls ys ss : List ℕ} {limit o x : ℕ} {c d : Cursor} {n : Node} → Ready text ts limit o (state ns ls ys ss c) → Taken ts c x n d → Free (d .nodes) ns
@@ -106,7 +101,7 @@ string-read {text} {ts} {ns} {ls} {ys} {ss} {ns′} {ys′} {c = c} {n = n} {fou
     let f = free-symbol r (inside-quotes (r .lent) (r .within .at) k) in
     let room : 9 * c .nodes ≤ length ns = omega (arith, r .within .rows, r .within .at, r .within .roomy .nodes) in
     let m : Made text ts (Label.Row Form-of.String) (c .at) (state ns ls ys ss (next c)) [] [] (node-of n ∷ []) (state ns′ ls ys′ ss (symbols-to (found .count) (grown (next c)))) = record { makes = rw (j .row .rows, j .handle, row-number (c .nodes) ns room, symbol-is f (u .outcome), rows-are f (u .outcome)); at = refl; holds = refl; same = refl; rooms = record { nodes = j .row .size; links = refl; symbols = size-kept f (u .outcome); scratch = refl } } in
-    rw (t .after) (leaf-read r (sees text ts (c .at) k (λ z. omega arith)) (more-tokens (r .lent) (r .within .at) k (λ z. omega arith)) (u .table) m)
+    rw (t .after) (leaf-read r k (more-tokens (r .lent) (r .within .at) k (λ z. omega arith)) (u .table) m)
 
 -- what was read as a name is one token: what it made
 read-name : {k : ℕ → ℕ} {a b : ℕ} {t : Tree Label} → Reads kaori k (whole name) a b t → (k a ≡ Identifier) × (b ≡ a + 1) × (t ≡ made Label.Name a b none)
@@ -152,30 +147,12 @@ module _ {text ts ns₀ ls₀ ys₀ ss₀ ns ls ys ss : List ℕ} {limit o : ℕ
       let y : Success text ts limit (whole name) o (state ns₀ ls₀ ys₀ ss₀ (next c)) (name-of word ∷ []) (state ns ls ys ss e) = rw (t .after) at z in
       let j : Inserted (e .nodes) (number-of Form-of.PropertyAccess) (start ts (c .at)) (word .end) (object .id ∷ word .id ∷ word .start ∷ word .end ∷ []) ns ns′ n = rw (t .node-is) at i in
       let room : 9 * e .nodes ≤ length ns = omega (arith, z .within .rows, z .within .at, z .within .roomy .nodes) in
-      let k = sees text ts (c .at) (t .kind-is) (λ x. omega arith) in
+      let k = t .kind-is in
       goes (y .past) (going-link (r .within) (ap (kaori calls) k) (taken k (y .reading)) (row-made j room refl) (z .within .at) (z .within .table))
 
   pub property-refused : {g : Aim Table Label} {a : ℕ} {q : Read} {x : Refusal} → q ≡ Read.Refused x → Answered text ts limit name-of (whole name) o (state ns₀ ls₀ ys₀ ss₀ d) ns ls ys ss q → Onward text ts limit p calls g o (state ns₀ ls₀ ys₀ ss₀ c) object a ns ls ys ss q
   unfolding kaori rules
   property-refused {q = q} e z =
       let y : Answered text ts limit name-of (whole name) o (state ns₀ ls₀ ys₀ ss₀ (next c)) ns ls ys ss q = rw (t .after) at z in
-      let k = sees text ts (c .at) (t .kind-is) (λ x. omega arith) in
+      let k = t .kind-is in
       stopped e y (λ s x b h. further b (ap (kaori calls) k) (Refuses.past-token k h))
-
--- a number that Rust's f64 reading takes, and one that it rejects
-module _ (text ts : List ℕ) (a : ℕ) (k : kind ts a ≡ NumberLiteral) where
-  pub number-seen : matches float (lexeme text (start ts a) (end ts a)) ≡ true → seen text ts a ≡ NumberLiteral
-  unfolding seen
-  number-seen m = rw (m, k)
-
-  pub rejected-seen : matches float (lexeme text (start ts a) (end ts a)) ≡ false → seen text ts a ≡ RejectedNumber
-  unfolding seen
-  rejected-seen m = rw (m, k)
-
-pub number-read : {text ts : List ℕ} {limit o : ℕ} {h : Node → Handle} {s : State} {ns ls ys ss : List ℕ} (r : Read) → seen text ts (s .cursor .at) ≡ NumberLiteral → Answered text ts limit h (whole (leaf Form-of.Number NumberLiteral)) o s ns ls ys ss r → Answered text ts limit h (whole (choice operand)) o s ns ls ys ss r
-unfolding kaori rules
-number-read r e a = picked r (ap (kaori operand) e) a
-
-pub number-rejected : {text ts : List ℕ} {limit o : ℕ} {h : Node → Handle} {s : State} {ns ls ys ss : List ℕ} → seen text ts (s .cursor .at) ≡ RejectedNumber → Answered text ts limit h (whole (choice operand)) o s ns ls ys ss (Read.Refused (record { code = 12; at = s .cursor .at; expected = 255 }))
-unfolding kaori rules
-number-rejected e = refuse (Refuses.in-choice (ap (kaori operand) e) Refuses.stopped)

@@ -9,14 +9,13 @@ use Rattle.ast.proofs.Rooms.{below, stretch}
 use Rattle.ast.specs.Written.{Written}
 use Rattle.ast.specs.declared.Node.{Node}
 use Rattle.grammar.specs.Door.{Lent}
-use Rattle.grammar.specs.Float.{seen}
 use Rattle.grammar.specs.Handle.{Handle, absent, row, link, block-tail}
 use Rattle.grammar.specs.Kaori.{Form, Table, kaori, block-items}
 use Rattle.grammar.specs.Label.{Label}
 use Rattle.grammar.specs.Phrase.{empty, token, part, node, choice, chain, Aim, whole, begun}
 use Rattle.grammar.specs.Refusal.{Refused}
 use Rattle.grammar.specs.Rows.{links-of, make}
-use Rattle.grammar.specs.Token.{count}
+use Rattle.grammar.specs.Token.{kind, count}
 use Rattle.reading.specs.Answers.{next, blank, holding, Answer-case, Answered, Listed, List-case, Lists}
 use Rattle.reading.specs.Reading.{form, refusal, Reading, Success, Refusing}
 use Rattle.reading.specs.State.{State, state, held, Within, Ready, Rooms}
@@ -79,16 +78,16 @@ module _ {text ts : List ℕ} {limit o : ℕ} where
     relisted : {g g′ : Aim Table Label} (l : Listed text ts limit g o s s₁) → Reading text ts limit g′ o s (l .items) [] (lowered s s₁) → Listed text ts limit g′ o s s₁
     relisted l r = record { items = l .items; reading = r; count = l .count; rows = l .rows; within = l .within; past = l .past }
 
-    pub listed-chosen : {n : Table} {p : Form} → kaori n (seen text ts (s .cursor .at)) ≡ p → Listed text ts limit (whole p) o s s₁ → Listed text ts limit (whole (choice n)) o s s₁
+    pub listed-chosen : {n : Table} {p : Form} → kaori n (kind ts (s .cursor .at)) ≡ p → Listed text ts limit (whole p) o s s₁ → Listed text ts limit (whole (choice n)) o s s₁
     listed-chosen e l = relisted l (chosen e (l .reading))
 
     pub listed-first : {n : Table} {p : Form} → Listed text ts limit (whole p) o s s₁ → Listed text ts limit (begun p n) o s s₁
     listed-first l = relisted l (first (l .reading))
 
-    pub listed-ended : {n : Table} {p : Form} → kaori n (seen text ts (s₁ .cursor .at)) ≡ empty → Listed text ts limit (begun p n) o s s₁ → Listed text ts limit (whole (chain p n)) o s s₁
+    pub listed-ended : {n : Table} {p : Form} → kaori n (kind ts (s₁ .cursor .at)) ≡ empty → Listed text ts limit (begun p n) o s s₁ → Listed text ts limit (whole (chain p n)) o s s₁
     listed-ended e l = relisted l (ended e (l .reading))
 
-  pub listed-taken : {ns ls ys ss : List ℕ} {x : ℕ} {c : Cursor} {p : Form} {s₁ : State} → seen text ts (c .at) ≡ x → Listed text ts limit (whole p) o (state ns ls ys ss (next c)) s₁ → Listed text ts limit (whole (token x p)) o (state ns ls ys ss c) s₁
+  pub listed-taken : {ns ls ys ss : List ℕ} {x : ℕ} {c : Cursor} {p : Form} {s₁ : State} → kind ts (c .at) ≡ x → Listed text ts limit (whole p) o (state ns ls ys ss (next c)) s₁ → Listed text ts limit (whole (token x p)) o (state ns ls ys ss c) s₁
   listed-taken k l = record { items = l .items; reading = taken k (l .reading); count = l .count; rows = l .rows; within = l .within; past = omega (arith, l .past) }
 
   -- where a cursor is said otherwise, as after a token
@@ -96,7 +95,7 @@ module _ {text ts : List ℕ} {limit o : ℕ} where
   listed-from e l = rw e at l
 
   -- a link of a list: its items come after those that are held
-  pub listing-join : {t : Table} {p q : Form} {s s₁ s₂ : State} → Listed text ts limit (begun p t) o s s₁ → kaori t (seen text ts (s₁ .cursor .at)) ≡ node Label.Item q → Listed text ts limit (whole q) o s₁ s₂ → Listed text ts limit (begun p t) o s s₂
+  pub listing-join : {t : Table} {p q : Form} {s s₁ s₂ : State} → Listed text ts limit (begun p t) o s s₁ → kaori t (kind ts (s₁ .cursor .at)) ≡ node Label.Item q → Listed text ts limit (whole q) o s₁ s₂ → Listed text ts limit (begun p t) o s s₂
   unfolding make
   listing-join {s = s} {s₁ = s₁} {s₂ = s₂} l e z =
       let base = s .cursor .held in
@@ -120,17 +119,17 @@ module _ {text ts : List ℕ} {limit o : ℕ} {t : Table} {s : State} where
 
   module _ {s₁ : State} (l : Listing text ts limit t o s s₁) where
     -- an item, and its row
-    pub listing-more : {q : Form} {h : Handle} {ns ls ys ss ss′ row : List ℕ} {c : Cursor} → kaori t (seen text ts (s₁ .cursor .at)) ≡ node Label.Item q → Success text ts limit (whole q) o s₁ (h ∷ []) (state ns ls ys ss c) →
+    pub listing-more : {q : Form} {h : Handle} {ns ls ys ss ss′ row : List ℕ} {c : Cursor} → kaori t (kind ts (s₁ .cursor .at)) ≡ node Label.Item q → Success text ts limit (whole q) o s₁ (h ∷ []) (state ns ls ys ss c) →
         Written (3 * c .held) (3 * (c .held + 1)) row ss ss′ → row ≡ link h → Listing text ts limit t o s (state ns ls ys ss′ (pushed c))
-    listing-more e z w f = listing-join l e (listed-one (l .within) (paid-inside (paid-link t (seen text ts (s₁ .cursor .at)) e)) z w f)
+    listing-more e z w f = listing-join l e (listed-one (l .within) (paid-inside (paid-link t (kind ts (s₁ .cursor .at)) e)) z w f)
 
-    pub more-items : {q : Form} {h : Handle} {ns ls ys ss ss′ row : List ℕ} {c : Cursor} (e : kaori t (seen text ts (s₁ .cursor .at)) ≡ node Label.Item q) (z : Success text ts limit (whole q) o s₁ (h ∷ []) (state ns ls ys ss c))
+    pub more-items : {q : Form} {h : Handle} {ns ls ys ss ss′ row : List ℕ} {c : Cursor} (e : kaori t (kind ts (s₁ .cursor .at)) ≡ node Label.Item q) (z : Success text ts limit (whole q) o s₁ (h ∷ []) (state ns ls ys ss c))
         (w : Written (3 * c .held) (3 * (c .held + 1)) row ss ss′) (f : row ≡ link h) → listing-more e z w f .items ≡ l .items ++ (h ∷ [])
     unfolding listing-more listing-join listed-one
     more-items e z w f = refl
 
     -- the list is whole
-    pub listing-end : kaori t (seen text ts (s₁ .cursor .at)) ≡ empty → Listed text ts limit (whole (chain empty t)) o s s₁
+    pub listing-end : kaori t (kind ts (s₁ .cursor .at)) ≡ empty → Listed text ts limit (whole (chain empty t)) o s s₁
     listing-end e = listed-ended e l
 
 pub none-items : {text ts : List ℕ} {limit o : ℕ} {s : State} (t : Table) (h : o ≤ limit) (w : Within text ts s) → listing-none {t = t} h w .items ≡ []
@@ -147,7 +146,7 @@ module _ {text ts : List ℕ} {limit o : ℕ} {p : Form} {t : Table} {s₀ : Sta
   pub longer-none : Within text ts s₀ → Longer text ts limit p t o s₀ s₀
   longer-none w = record { grown = λ s l. l; within = w; rooms = rooms-same }
 
-  pub longer-on : {q : Form} {s₁ s₂ : State} → Longer text ts limit p t o s₀ s₁ → kaori t (seen text ts (s₁ .cursor .at)) ≡ node Label.Item q → Listed text ts limit (whole q) o s₁ s₂ → Longer text ts limit p t o s₀ s₂
+  pub longer-on : {q : Form} {s₁ s₂ : State} → Longer text ts limit p t o s₀ s₁ → kaori t (kind ts (s₁ .cursor .at)) ≡ node Label.Item q → Listed text ts limit (whole q) o s₁ s₂ → Longer text ts limit p t o s₀ s₂
   longer-on a e z = record { grown = λ s l. listing-join (a .grown s l) e z; within = z .within; rooms = rooms-on (a .rooms) (listed-rooms z) }
 
 -- answers that are lists
@@ -163,37 +162,37 @@ module _ {text ts : List ℕ} {limit : ℕ} {g : Aim Table Label} {o : ℕ} {s :
   module _ {g′ : Aim Table Label} {o′ : ℕ} {s′ : State} where
     -- a refusal of an item, and of a list
     pub lists-passed : {h : Node → Handle} {r : Read} {q : Refusal} → r ≡ Read.Refused q → Answered text ts limit h g′ o′ s′ ns ls ys ss r →
-        ((x : Refused) → Refusing text ts limit (form g′) o′ s′ x → Refusing text ts limit (form g) o s x) → Lists text ts limit g o s ns ls ys ss r
+        ((x : Refused) → Refusing ts limit (form g′) o′ s′ x → Refusing ts limit (form g) o s x) → Lists text ts limit g o s ns ls ys ss r
     unfolding Answer-case List-case
     lists-passed {q = q} e a up = rw e (record { says = up (refusal q) ((rw e at a) .says) })
 
     pub lists-passed-list : {r : Read} {q : Refusal} → r ≡ Read.Refused q → Lists text ts limit g′ o′ s′ ns ls ys ss r →
-        ((x : Refused) → Refusing text ts limit (form g′) o′ s′ x → Refusing text ts limit (form g) o s x) → Lists text ts limit g o s ns ls ys ss r
+        ((x : Refused) → Refusing ts limit (form g′) o′ s′ x → Refusing ts limit (form g) o s x) → Lists text ts limit g o s ns ls ys ss r
     unfolding List-case
     lists-passed-list {q = q} e a up = rw e (record { says = up (refusal q) ((rw e at a) .says) })
 
     -- an answer of a part that is an answer of the whole
     pub lists-mapped : (r : Read) → Lists text ts limit g′ o′ s′ ns ls ys ss r → ((s₁ : State) → Listed text ts limit g′ o′ s′ s₁ → Listed text ts limit g o s s₁) →
-        ((x : Refused) → Refusing text ts limit (form g′) o′ s′ x → Refusing text ts limit (form g) o s x) → Lists text ts limit g o s ns ls ys ss r
+        ((x : Refused) → Refusing ts limit (form g′) o′ s′ x → Refusing ts limit (form g) o s x) → Lists text ts limit g o s ns ls ys ss r
     unfolding List-case
     lists-mapped (Read.Node n c) a f up = record { says = (a .says .0, f (state ns ls ys ss c) (a .says .1)) }
     lists-mapped (Read.Refused q) a f up = record { says = up (refusal q) (a .says) }
 
 -- a choice that is nothing here
-pub lists-nothing : {text ts ns ls ys ss : List ℕ} {limit o : ℕ} {t : Table} {c : Cursor} → Ready text ts limit o (state ns ls ys ss c) → kaori t (seen text ts (c .at)) ≡ empty → Lists text ts limit (whole (choice t)) o (state ns ls ys ss c) ns ls ys ss (Read.Node blank c)
+pub lists-nothing : {text ts ns ls ys ss : List ℕ} {limit o : ℕ} {t : Table} {c : Cursor} → Ready text ts limit o (state ns ls ys ss c) → kaori t (kind ts (c .at)) ≡ empty → Lists text ts limit (whole (choice t)) o (state ns ls ys ss c) ns ls ys ss (Read.Node blank c)
 lists-nothing r e = lists (listed-chosen e (listed-none (r .within) (nothing (r .deep))))
 
 -- a turn of a loop over a list, where its table has an item: the item is refused, or it is read and held
 abbrev pub Item-of : {text ts : List ℕ} {limit o : ℕ} {t : Table} {s s₁ : State} → Listing text ts limit t o s s₁ → Form → Type 0
-Item-of {text} {ts} {t = t} {s₁ = s₁} l q = kaori t (seen text ts (s₁ .cursor .at)) ≡ node Label.Item q
+Item-of {text} {ts} {t = t} {s₁ = s₁} l q = kaori t (kind ts (s₁ .cursor .at)) ≡ node Label.Item q
 
-module _ {text ts : List ℕ} {limit o : ℕ} {t : Table} {s s₁ : State} {q : Form} (l : Listing text ts limit t o s s₁) (e : kaori t (seen text ts (s₁ .cursor .at)) ≡ node Label.Item q) where
+module _ {text ts : List ℕ} {limit o : ℕ} {t : Table} {s s₁ : State} {q : Form} (l : Listing text ts limit t o s s₁) (e : kaori t (kind ts (s₁ .cursor .at)) ≡ node Label.Item q) where
   pub item-refused : {h : Node → Handle} {ns ls ys ss : List ℕ} {r : Read} {x : Refusal} → r ≡ Read.Refused x → Answered text ts limit h (whole q) o s₁ ns ls ys ss r → Lists text ts limit (whole (chain empty t)) o s ns ls ys ss r
   item-refused i a = lists-passed i a (λ x h. further (l .reading) e h)
 
   -- fewer tokens are left
   pub item-less : {h : Handle} {s₂ : State} → Success text ts limit (whole q) o s₁ (h ∷ []) s₂ → count ts - s₂ .cursor .at < count ts - s₁ .cursor .at
-  item-less z = omega (arith, z .within .at, strictly (l .within) (paid-inside (paid-link t (seen text ts (s₁ .cursor .at)) e)) (z .within .at) (z .reading))
+  item-less z = omega (arith, z .within .at, strictly (l .within) (paid-inside (paid-link t (kind ts (s₁ .cursor .at)) e)) (z .within .at) (z .reading))
 
 -- there is room to hold one more, and its number fits
 module _ {text ts ns ls ys ss : List ℕ} {c : Cursor} (w : Within text ts (state ns ls ys ss c)) where

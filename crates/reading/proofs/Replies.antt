@@ -6,10 +6,8 @@ use mathlib.Core.List.{List, [], _∷_}
 use mathlib.Core.Path.{_≡_}
 use lib.ListN.{take}
 use Rattle.ast.specs.declared.Node.{Node}
-use Rattle.grammar.specs.Float.{seen}
 use Rattle.grammar.specs.Handle.{Handle}
 use Rattle.grammar.specs.Kaori.{Form, Table, kaori, block-items}
-use Rattle.grammar.specs.Kind.{RejectedNumber}
 use Rattle.grammar.specs.Label.{Label}
 use Rattle.grammar.specs.Phrase.{empty, part, nested, node, chain, once, Aim, whole, begun}
 use Rattle.grammar.specs.Refusal.{Refused, refused, Refuses}
@@ -22,7 +20,6 @@ use Rattle.reading.specs.declared.Cursor.{Cursor}
 use Rattle.reading.specs.declared.Read.{Read}
 use Rattle.reading.specs.declared.Refusal.{Refusal}
 use Rattle.reading.proofs.Bound.{Paid, bound, arrived}
-use Rattle.reading.proofs.Laws.{sees-not}
 
 -- a token was taken
 pub record Taken (ts : List ℕ) (c : Cursor) (x : ℕ) (n : Node) (d : Cursor) : Type 0 where
@@ -45,7 +42,7 @@ module _ {text ts : List ℕ} {limit : ℕ} where
     abbrev pub Told : {r : Read} → Answered text ts limit h g o s ns ls ys ss r → Node → Cursor → Type 0
     Told a n c = Success text ts limit g o s (h n ∷ []) (state ns ls ys ss c)
 
-    pub refuse : {q : Refusal} → Refusing text ts limit (form g) o s (refusal q) → Answered text ts limit h g o s ns ls ys ss (Read.Refused q)
+    pub refuse : {q : Refusal} → Refusing ts limit (form g) o s (refusal q) → Answered text ts limit h g o s ns ls ys ss (Read.Refused q)
     unfolding Answer-case
     refuse z = record { says = z }
 
@@ -58,33 +55,33 @@ module _ {text ts : List ℕ} {limit : ℕ} where
     answer w p a t r = answered (record { reading = r; within = arrived (w .within) p a t r; past = bound (w .within) p a r .past })
 
     -- a required token is missing
-    pub lacks : {c : Cursor} {x : ℕ} {r : Read} {q : Refusal} → r ≡ Read.Refused q → Consumed ts c x r → x < RejectedNumber →
-        ((seen text ts (c .at) ≡ x → ⊥) → Refusing text ts limit (form g) o s (refused 8 (c .at) x)) → Answered text ts limit h g o s ns ls ys ss r
+    pub lacks : {c : Cursor} {x : ℕ} {r : Read} {q : Refusal} → r ≡ Read.Refused q → Consumed ts c x r →
+        ((kind ts (c .at) ≡ x → ⊥) → Refusing ts limit (form g) o s (refused 8 (c .at) x)) → Answered text ts limit h g o s ns ls ys ss r
     unfolding Answer-case Took
-    lacks {c} {x} {q = q} e z b up = let y = (rw e at z) .says in rw (e, y .1) (record { says = up (sees-not text ts (c .at) (y .0) b) })
+    lacks {q = q} e z up = let y = (rw e at z) .says in rw (e, y .1) (record { says = up (y .0) })
 
     module _ {h′ : Node → Handle} {g′ : Aim Table Label} {o′ : ℕ} {s′ : State} where
       -- a refusal of a part
       pub passed : {r : Read} {q : Refusal} → r ≡ Read.Refused q → Answered text ts limit h′ g′ o′ s′ ns ls ys ss r →
-          ((x : Refused) → Refusing text ts limit (form g′) o′ s′ x → Refusing text ts limit (form g) o s x) → Answered text ts limit h g o s ns ls ys ss r
+          ((x : Refused) → Refusing ts limit (form g′) o′ s′ x → Refusing ts limit (form g) o s x) → Answered text ts limit h g o s ns ls ys ss r
       unfolding Answer-case
       passed {q = q} e a up = rw e (record { says = up (refusal q) ((rw e at a) .says) })
 
     -- of a list
     pub passed-list : {g′ : Aim Table Label} {o′ : ℕ} {s′ : State} {r : Read} {q : Refusal} → r ≡ Read.Refused q → Lists text ts limit g′ o′ s′ ns ls ys ss r →
-        ((x : Refused) → Refusing text ts limit (form g′) o′ s′ x → Refusing text ts limit (form g) o s x) → Answered text ts limit h g o s ns ls ys ss r
+        ((x : Refused) → Refusing ts limit (form g′) o′ s′ x → Refusing ts limit (form g) o s x) → Answered text ts limit h g o s ns ls ys ss r
     unfolding Answer-case List-case
     passed-list {q = q} e a up = rw e (record { says = up (refusal q) ((rw e at a) .says) })
 
     pub passed-fill : {o′ : ℕ} {s′ : State} {r : Read} {q : Refusal} → r ≡ Read.Refused q → Fills text ts limit o′ s′ ns ls ys ss r →
-        ((x : Refused) → Refusing text ts limit (chain empty block-items) o′ s′ x → Refusing text ts limit (form g) o s x) → Answered text ts limit h g o s ns ls ys ss r
+        ((x : Refused) → Refusing ts limit (chain empty block-items) o′ s′ x → Refusing ts limit (form g) o s x) → Answered text ts limit h g o s ns ls ys ss r
     unfolding Answer-case Fill-case
     passed-fill {q = q} e a up = rw e (record { says = up (refusal q) ((rw e at a) .says) })
 
     -- an answer of a part that is an answer of the whole, from the same place
     pub mapped : {g′ : Aim Table Label} {o′ : ℕ} {s′ : State} (r : Read) → s .cursor .at ≤ s′ .cursor .at → Answered text ts limit h g′ o′ s′ ns ls ys ss r →
         ((n : Node) (c : Cursor) → Reading text ts limit g′ o′ s′ (h n ∷ []) [] (state ns ls ys ss c) → Reading text ts limit g o s (h n ∷ []) [] (state ns ls ys ss c)) →
-        ((x : Refused) → Refusing text ts limit (form g′) o′ s′ x → Refusing text ts limit (form g) o s x) → Answered text ts limit h g o s ns ls ys ss r
+        ((x : Refused) → Refusing ts limit (form g′) o′ s′ x → Refusing ts limit (form g) o s x) → Answered text ts limit h g o s ns ls ys ss r
     unfolding Answer-case
     mapped (Read.Node n c) i a f up = record { says = record { reading = f n c (a .says .reading); within = a .says .within; past = omega (arith, a .says .past) } }
     mapped (Read.Refused q) i a f up = record { says = up (refusal q) (a .says) }
@@ -106,11 +103,11 @@ pub inside : {k : ℕ → ℕ} {limit o a : ℕ} {p : Form} {q : Refused} → o 
 inside h r = Refuses.inside h (rw add-one at r)
 
 module _ {text ts : List ℕ} {limit o : ℕ} {q : Refused} {xs ys : List Handle} {s s′ : State} where
-  pub after : {p r : Form} → Reading text ts limit (whole p) o s xs ys s′ → Refusing text ts limit r o s′ q → Refusing text ts limit (part p r) o s q
+  pub after : {p r : Form} → Reading text ts limit (whole p) o s xs ys s′ → Refusing ts limit r o s′ q → Refusing ts limit (part p r) o s q
   after r h = Refuses.in-second (r .reads) (r .fits) h
 
-  pub further : {t : Table} {f : Label} {p r : Form} → Reading text ts limit (begun p t) o s xs ys s′ → kaori t (seen text ts (s′ .cursor .at)) ≡ node f r → Refusing text ts limit r o s′ q → Refusing text ts limit (chain p t) o s q
+  pub further : {t : Table} {f : Label} {p r : Form} → Reading text ts limit (begun p t) o s xs ys s′ → kaori t (kind ts (s′ .cursor .at)) ≡ node f r → Refusing ts limit r o s′ q → Refusing ts limit (chain p t) o s q
   further b e h = Refuses.in-link (b .reads) (b .fits) e h
 
-  pub after-once : {t : Table} {f : Label} {p r : Form} → Reading text ts limit (whole p) o s xs ys s′ → kaori t (seen text ts (s′ .cursor .at)) ≡ node f r → Refusing text ts limit r o s′ q → Refusing text ts limit (once p t) o s q
+  pub after-once : {t : Table} {f : Label} {p r : Form} → Reading text ts limit (whole p) o s xs ys s′ → kaori t (kind ts (s′ .cursor .at)) ≡ node f r → Refusing ts limit r o s′ q → Refusing ts limit (once p t) o s q
   after-once b e h = Refuses.in-joined (b .reads) (b .fits) e h

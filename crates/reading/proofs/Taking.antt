@@ -7,7 +7,6 @@ use mathlib.Core.Path.{_≡_, ap}
 use Rattle.ast.specs.Inserted.{Free, Inserted}
 use Rattle.ast.specs.declared.Node.{Node}
 use Rattle.grammar.specs.Door.{Lent}
-use Rattle.grammar.specs.Float.{seen}
 use Rattle.grammar.specs.Handle.{Handle}
 use Rattle.grammar.specs.Kaori.{Form, kaori}
 use Rattle.grammar.specs.Kind.{NumberLiteral, Eof}
@@ -15,7 +14,7 @@ use Rattle.grammar.specs.Label.{Label}
 use Rattle.grammar.specs.Phrase.{token, node, whole}
 use Rattle.grammar.specs.Refusal.{Refused, Refuses}
 use Rattle.grammar.specs.Rows.{make}
-use Rattle.grammar.specs.Token.{start, end}
+use Rattle.grammar.specs.Token.{kind, start, end}
 use Rattle.reading.specs.Answers.{node-of, Consumed, Answered}
 use Rattle.reading.specs.Parts.{Binder, Sign}
 use Rattle.reading.specs.Reading.{Reading}
@@ -24,7 +23,7 @@ use Rattle.reading.specs.declared.Cursor.{Cursor}
 use Rattle.reading.specs.declared.Read.{Read}
 use Rattle.reading.proofs.Bound.{Paid}
 use Rattle.reading.proofs.Entering.{grown, entered-alone, row-made}
-use Rattle.reading.proofs.Laws.{sees, taken, labelled, ready-next}
+use Rattle.reading.proofs.Laws.{taken, labelled, ready-next}
 use Rattle.reading.proofs.Replies.{Taken, answer}
 
 -- what was learnt of a token, named by the answer that it is read from
@@ -44,14 +43,14 @@ module _ {ts : List ℕ} {c d : Cursor} {x : ℕ} {n : Node} (k : Taken ts c x n
 
 -- the token, and what is read, asked or refused after it
 module _ {text ts : List ℕ} {limit o x : ℕ} {c d : Cursor} {n : Node} where
-  pub led : {p : Form} {ns ls ys ss : List ℕ} {hs gs : List Handle} {s′ : State} → Taken ts c x n d → (x ≡ NumberLiteral → ⊥) → Reading text ts limit (whole p) o (state ns ls ys ss d) hs gs s′ → Reading text ts limit (whole (token x p)) o (state ns ls ys ss c) hs gs s′
-  led k m r = taken (sees text ts (c .at) (k .kind-is) m) (rw (k .after) at r)
+  pub led : {p : Form} {ns ls ys ss : List ℕ} {hs gs : List Handle} {s′ : State} → Taken ts c x n d → Reading text ts limit (whole p) o (state ns ls ys ss d) hs gs s′ → Reading text ts limit (whole (token x p)) o (state ns ls ys ss c) hs gs s′
+  led k r = taken (k .kind-is) (rw (k .after) at r)
 
   pub ready-led : {ns ls ys ss : List ℕ} → Ready text ts limit o (state ns ls ys ss c) → Taken ts c x n d → (x ≡ Eof → ⊥) → Ready text ts limit o (state ns ls ys ss d)
   ready-led r k m = rw (k .after) (ready-next r (k .kind-is) m)
 
-pub led-refused : (text : List ℕ) {ts : List ℕ} {limit o x : ℕ} {c d : Cursor} {n : Node} {p : Form} {q : Refused} → Taken ts c x n d → (x ≡ NumberLiteral → ⊥) → Refuses kaori (seen text ts) limit p o (d .at) q → Refuses kaori (seen text ts) limit (token x p) o (c .at) q
-led-refused text {ts} {c = c} k m h = Refuses.past-token (sees text ts (c .at) (k .kind-is) m) (rw (past-at k) at h)
+pub led-refused : {ts : List ℕ} {limit o x : ℕ} {c d : Cursor} {n : Node} {p : Form} {q : Refused} → Taken ts c x n d → Refuses kaori (kind ts) limit p o (d .at) q → Refuses kaori (kind ts) limit (token x p) o (c .at) q
+led-refused k h = Refuses.past-token (k .kind-is) (rw (past-at k) at h)
 
 -- there is room for one node row more
 pub free : {text ts ns ls ys ss : List ℕ} {c : Cursor} → Lent text ts → Within text ts (state ns ls ys ss c) → Free (c .nodes) ns

@@ -54,7 +54,7 @@ pub record Consumed (ts : List ℕ) (c : Cursor) (x : ℕ) (r : Read) : Type 0 w
 module _ (text ts : List ℕ) (limit : ℕ) where
   unfoldable pub Answer-case : (Node → Handle) → Aim Table Label → ℕ → State → (nodes links symbols scratch : List ℕ) → Read → Type 0
   Answer-case h g o s ns ls ys ss (Read.Node n c) = Success text ts limit g o s (h n ∷ []) (state ns ls ys ss c)
-  Answer-case h g o s ns ls ys ss (Read.Refused q) = Refusing text ts limit (form g) o s (refusal q)
+  Answer-case h g o s ns ls ys ss (Read.Refused q) = Refusing ts limit (form g) o s (refusal q)
 
   -- from s, with o openings taken, the aim is answered by r, and the rooms are these then
   pub record Answered (h : Node → Handle) (g : Aim Table Label) (o : ℕ) (s : State) (ns ls ys ss : List ℕ) (r : Read) : Type 0 where
@@ -71,7 +71,7 @@ module _ (text ts : List ℕ) (limit : ℕ) where
 
   unfoldable pub List-case : Aim Table Label → ℕ → State → (nodes links symbols scratch : List ℕ) → Read → Type 0
   List-case g o s ns ls ys ss (Read.Node n c) = (n ≡ blank) × Listed g o s (state ns ls ys ss c)
-  List-case g o s ns ls ys ss (Read.Refused q) = Refusing text ts limit (form g) o s (refusal q)
+  List-case g o s ns ls ys ss (Read.Refused q) = Refusing ts limit (form g) o s (refusal q)
 
   pub record Lists (g : Aim Table Label) (o : ℕ) (s : State) (ns ls ys ss : List ℕ) (r : Read) : Type 0 where
     pub says : List-case g o s ns ls ys ss r
@@ -90,7 +90,7 @@ module _ (text ts : List ℕ) (limit : ℕ) where
 
   unfoldable pub Fill-case : ℕ → State → (nodes links symbols scratch : List ℕ) → Read → Type 0
   Fill-case o s ns ls ys ss (Read.Node n c) = Filled o s n (state ns ls ys ss c)
-  Fill-case o s ns ls ys ss (Read.Refused q) = Refusing text ts limit (chain empty block-items) o s (refusal q)
+  Fill-case o s ns ls ys ss (Read.Refused q) = Refusing ts limit (chain empty block-items) o s (refusal q)
 
   pub record Fills (o : ℕ) (s : State) (ns ls ys ss : List ℕ) (r : Read) : Type 0 where
     pub says : Fill-case o s ns ls ys ss r
@@ -105,7 +105,7 @@ module _ (text ts : List ℕ) (limit : ℕ) where
 
   unfoldable pub State-case : ℕ → State → (nodes links symbols scratch : List ℕ) → Read → Type 0
   State-case o s ns ls ys ss (Read.Node n c) = Stated o s n (state ns ls ys ss c)
-  State-case o s ns ls ys ss (Read.Refused q) = Refusing text ts limit (choice statement) o s (refusal q)
+  State-case o s ns ls ys ss (Read.Refused q) = Refusing ts limit (choice statement) o s (refusal q)
 
   pub record States (o : ℕ) (s : State) (ns ls ys ss : List ℕ) (r : Read) : Type 0 where
     pub says : State-case o s ns ls ys ss r

@@ -25,7 +25,7 @@ module _ (text ts : List ℕ) (limit : ℕ) where
 
   unfoldable pub Further : Form → Table → Aim Table Label → ℕ → State → Node → ℕ → (nodes links symbols scratch : List ℕ) → Read → Type 0
   Further p t g o s₀ n a ns ls ys ss (Read.Node m c) = Gone p t g o s₀ n a (state ns ls ys ss c) m
-  Further p t g o s₀ n a ns ls ys ss (Read.Refused q) = (s : State) → Reading text ts limit (begun p t) o s (node-of n ∷ []) [] s₀ → Refusing text ts limit (chain p t) o s (refusal q)
+  Further p t g o s₀ n a ns ls ys ss (Read.Refused q) = (s : State) → Reading text ts limit (begun p t) o s (node-of n ∷ []) [] s₀ → Refusing ts limit (chain p t) o s (refusal q)
 
   -- the chain at s₀ goes on as r answers, and the rooms are these then
   pub record Onward (p : Form) (t : Table) (g : Aim Table Label) (o : ℕ) (s₀ : State) (n : Node) (a : ℕ) (ns ls ys ss : List ℕ) (r : Read) : Type 0 where

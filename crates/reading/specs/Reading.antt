@@ -2,13 +2,13 @@
 use Prim.Native.Nat.{ℕ, _+_, _≤_}
 use mathlib.Core.List.{List, []}
 use mathlib.Core.Path.{_≡_}
-use Rattle.grammar.specs.Float.{seen}
 use Rattle.grammar.specs.Handle.{Handle}
 use Rattle.grammar.specs.Kaori.{Form, Table, kaori}
 use Rattle.grammar.specs.Label.{Label}
 use Rattle.grammar.specs.Phrase.{chain, Tree, Aim, whole, begun, Reads, depth}
 use Rattle.grammar.specs.Refusal.{Refused, refused, Refuses}
 use Rattle.grammar.specs.Rows.{walk}
+use Rattle.grammar.specs.Token.{kind}
 use Rattle.reading.specs.State.{State, written, held, Within, Rooms}
 use Rattle.reading.specs.declared.Refusal.{Refusal}
 
@@ -20,11 +20,15 @@ form (begun p n) = chain p n
 abbrev pub refusal : Refusal → Refused
 refusal q = refused (q .code) (q .at) (q .expected)
 
+-- the phrase is refused from s on, with o openings taken before
+abbrev pub Refusing : (ts : List ℕ) (limit : ℕ) → Form → ℕ → State → Refused → Type 0
+Refusing ts limit p o s q = Refuses kaori (kind ts) limit p o (s .cursor .at) q
+
 module _ (text ts : List ℕ) (limit : ℕ) where
   -- from s to s′, with o openings taken before: the first part made xs, and the rest ys
   pub record Reading (g : Aim Table Label) (o : ℕ) (s : State) (xs ys : List Handle) (s′ : State) : Type 0 where
     pub tree : Tree Label
-    pub reads : Reads kaori (seen text ts) g (s .cursor .at) (s′ .cursor .at) tree
+    pub reads : Reads kaori (kind ts) g (s .cursor .at) (s′ .cursor .at) tree
     pub fits : o + depth tree ≤ limit
     pub rows : walk text ts tree (written s) ≡ record { rows = written s′; first = xs; rest = ys }
     pub holds : s′ .cursor .held ≡ s .cursor .held
@@ -36,6 +40,3 @@ module _ (text ts : List ℕ) (limit : ℕ) where
     pub reading : Reading g o s hs [] s′
     pub within : Within text ts s′
     pub past : s .cursor .at ≤ s′ .cursor .at
-
-  abbrev pub Refusing : Form → ℕ → State → Refused → Type 0
-  Refusing p o s q = Refuses kaori (seen text ts) limit p o (s .cursor .at) q

@@ -1,22 +1,17 @@
 // Nodes of one token, and a dot with its name.
 use crate::Cursor;
 use crate::Read;
-use crate::Refusal;
 use crate::lists::consume;
 use crate::lists::name;
 use ast::Node;
 use interner::get_or_intern;
-use lexeme::float::is_float;
-use token::list::end_at;
-use token::list::start_at;
 ghost use mathlib.Core.Path.{_≡_};
 ghost use Prim.Native.Nat.{_+_};
 ghost use Rattle.ast.specs.Inserted.{Free, Inserted};
-ghost use Rattle.grammar.specs.Float.{seen};
 ghost use Rattle.grammar.specs.Kaori as form;
-ghost use Rattle.grammar.specs.Kind.{Dot, NumberLiteral, StringLiteral, Identifier};
+ghost use Rattle.grammar.specs.Kind.{Dot, StringLiteral, Identifier};
 ghost use Rattle.grammar.specs.Label.{Node as Label, number-of};
-ghost use Rattle.grammar.specs.Phrase.{choice, whole, begun};
+ghost use Rattle.grammar.specs.Phrase.{whole, begun};
 ghost use Rattle.grammar.specs.Token.{kind};
 ghost use Rattle.reading.specs.Answers.{node-of, Answered};
 ghost use Rattle.reading.specs.Chains.{Onward};
@@ -38,7 +33,7 @@ fn row(nodes: &mut [u32], n: usize, kind: u32, start: u32, end: u32) -> Node
     }
 }
 
-// `break`, `continue`, `true`, `false`, `nil`, and a number that is read. It asks `Ready`, one of these kinds, and for a number that the grammar sees it as one.
+// `break`, `continue`, `true`, `false`, `nil` and numbers. It asks `Ready`, and one of these kinds.
 // Ruled out: `true` with the value 0; a span that is not the token's.
 pub fn single(
     text: &[u8],
@@ -53,7 +48,6 @@ pub fn single(
     kind: u32,
 ) -> Read
     requires { ⌜ Single kind ⌝ }
-    requires { ⌜ (kind ≡ NumberLiteral → seen (now text) (now tokens) (cur .at) ≡ NumberLiteral) ⌝ }
     requires { ⌜ Ready (now text) (now tokens) limit depth (state (now nodes) (now links) (now symbols) (now scratch) cur) ⌝ }
     ensures { λ r. ⌜ Answered (now (text .entry)) (now (tokens .entry)) limit node-of (whole (form.leaf (single-node kind) kind)) depth (state (now (nodes .entry)) (now (links .entry)) (now (symbols .entry)) (now (scratch .entry)) cur) (now (nodes .exit)) (now (links .exit)) (now (symbols .exit)) (now (scratch .exit)) r ⌝ }
 {
@@ -66,47 +60,6 @@ pub fn single(
     let mut past = next;
     past.nodes = n + 1;
     Read::Node(node, past)
-}
-
-// A number: its text has to be one that Rust's f64 reading takes. It asks `Ready`, and a number's token.
-// Ruled out: a row for a text that is rejected; 9 in the place of 12.
-pub fn number(
-    text: &[u8],
-    tokens: &[u32],
-    nodes: &mut [u32],
-    links: &mut [u32],
-    symbols: &mut [u32],
-    scratch: &mut [u32],
-    limit: u32,
-    depth: u32,
-    cur: Cursor,
-) -> Read
-    requires { ⌜ kind (now tokens) (cur .at) ≡ NumberLiteral ⌝ }
-    requires { ⌜ Ready (now text) (now tokens) limit depth (state (now nodes) (now links) (now symbols) (now scratch) cur) ⌝ }
-    ensures { λ r. ⌜ Answered (now (text .entry)) (now (tokens .entry)) limit node-of (whole (choice form.operand)) depth (state (now (nodes .entry)) (now (links .entry)) (now (symbols .entry)) (now (scratch .entry)) cur) (now (nodes .exit)) (now (links .exit)) (now (symbols .exit)) (now (scratch .exit)) r ⌝ }
-{
-    let at = cur.at;
-    let start = start_at(tokens, at);
-    let end = end_at(tokens, at);
-    if !is_float(text, start as usize, end as usize) {
-        return Read::Refused(Refusal {
-            code: 12,
-            at: at,
-            expected: 255,
-        });
-    }
-    single(
-        text,
-        tokens,
-        nodes,
-        links,
-        symbols,
-        scratch,
-        limit,
-        depth,
-        cur,
-        40,
-    )
 }
 
 // A string: its symbol is that of its inside. It asks `Ready`.

@@ -4,7 +4,8 @@ use mathlib.Core.Bool.{Bool, true, false}
 use mathlib.Core.List.{List}
 use mathlib.Core.Path.{_≡_, refl}
 use lib.Dec.{T}
-use Rattle.grammar.specs.Pattern.{Pattern, Matches, matches}
+use Rattle.grammar.specs.Derivative.{matches}
+use Rattle.grammar.specs.Pattern.{Pattern, Matches}
 use Rattle.grammar.proofs.Patterns.{matches-sound, matches-whole}
 use Rattle.spelling.specs.Decides.{Truth, Decides}
 

@@ -7,12 +7,11 @@ use mathlib.Core.Logic.{_⊎_, inl, inr}
 use mathlib.Core.Path.{_≡_, ap}
 use Rattle.grammar.specs.Answer.{Answer}
 use Rattle.grammar.specs.Door.{Admitted}
-use Rattle.grammar.specs.Float.{seen}
 use Rattle.grammar.specs.Kaori.{Script}
 use Rattle.grammar.specs.Label.{Label}
 use Rattle.grammar.specs.Phrase.{Tree, depth}
 use Rattle.grammar.specs.Room.{Rooms}
-use Rattle.grammar.specs.Token.{count}
+use Rattle.grammar.specs.Token.{kind, count}
 use Rattle.grammar.proofs.Answers.{admitted-not-wrong, one-answer}
 use Rattle.grammar.proofs.Demands.{Read-as, Refused-at, Sorts, sorts}
 use Rattle.grammar.proofs.Outcomes.{script-not-refused}
@@ -38,7 +37,7 @@ module _ {text ts : List ℕ} {limit : ℕ} {before after : Rooms} {r : Numbers}
       by (Sorts.turned x) = absurd (omega (arith, x .codes .0))
 
   -- and what the door lets in and has a reading no deeper than the limit succeeds
-  pub reading-succeeds : Admitted (call text ts limit before) → {t : Tree Label} → Script (seen text ts) (count ts - 1) t → depth t ≤ limit → r .code ≡ 0
+  pub reading-succeeds : Admitted (call text ts limit before) → {t : Tree Label} → Script (kind ts) (count ts - 1) t → depth t ≤ limit → r .code ≡ 0
   reading-succeeds d x h = by (sorts (p .answers))
     where
       by : Sorts (call text ts limit before) (numbers r) after → r .code ≡ 0

@@ -16,9 +16,8 @@ use Rattle.door.specs.declared.Refusal.{Refusal as Turned}
 use Rattle.door.proofs.Codes.{opened, shut}
 use Rattle.grammar.specs.Answer.{success, rooms-cleared, rooms-filled, Answers}
 use Rattle.grammar.specs.Door.{Lent}
-use Rattle.grammar.specs.Float.{seen}
 use Rattle.grammar.specs.Handle.{absent}
-use Rattle.grammar.specs.Kaori.{script, script-items, Script}
+use Rattle.grammar.specs.Kaori.{script-items, Script}
 use Rattle.grammar.specs.Kind.{Eof}
 use Rattle.grammar.specs.Label.{Label}
 use Rattle.grammar.specs.Outcome.{Comes}
@@ -38,7 +37,6 @@ use Rattle.reading.specs.declared.Cursor.{Cursor}
 use Rattle.reading.specs.declared.Read.{Read}
 use Rattle.reading.specs.declared.Refusal.{Refusal}
 use Rattle.reading.proofs.Gathering.{first-link}
-use Rattle.reading.proofs.Laws.{sees-not}
 use Rattle.syntax.specs.Parsed.{numbers, rooms, Parsed, Let-in, refused-numbers, Cut, with-root, Root-fits, Rooted}
 use Rattle.syntax.specs.declared.Numbers.{Numbers}
 
@@ -94,7 +92,7 @@ module _ {text ts : List ℕ} {limit : ℕ} {before : Rooms} (d : Let-in text ts
       }
 
   -- a refusal among the statements is the script's, at a token
-  module _ {q : Refusal} (x : Refusing text ts limit (chain empty script-items) 0 (state (before .nodes) (before .links) (before .symbols) (before .scratch) start) (refusal q)) where
+  module _ {q : Refusal} (x : Refusing ts limit (chain empty script-items) 0 (state (before .nodes) (before .links) (before .symbols) (before .scratch) start) (refusal q)) where
     pub refused-at : q .at < count ts
     refused-at = omega (arith, refused-place (d .admitted) (Refuses.in-node x) .place, lent .whole .some)
 
@@ -106,7 +104,7 @@ module _ {text ts : List ℕ} {limit : ℕ} {before : Rooms} (d : Let-in text ts
     tree : Tree Label
     tree = made Label.Script 0 (c .at) (l .reading .tree)
 
-    reads-script : Script (seen text ts) (c .at) tree
+    reads-script : Script (kind ts) (c .at) tree
     unfolding tree
     reads-script = Reads.labelled (l .reading .reads)
 
@@ -125,7 +123,7 @@ module _ {text ts : List ℕ} {limit : ℕ} {before : Rooms} (d : Let-in text ts
     -- the Eof that ends it is the last token
     ends-last : c .at ≡ count ts - 1
     ends-last =
-        let e : kind ts (c .at) ≡ Eof = elim (ℕ-discrete (kind ts (c .at)) Eof) [ yes h ↦ h | no n ↦ absurd (sees-not text ts (c .at) n (omega arith) (ends-at-eof reads-script)) ] in
+        let e : kind ts (c .at) ≡ Eof = elim (ℕ-discrete (kind ts (c .at)) Eof) [ yes h ↦ h | no n ↦ absurd (n (ends-at-eof reads-script)) ] in
         omega (arith, lent .closed (c .at) (l .within .at) .only e)
 
     tree-fits : depth tree ≤ limit
@@ -136,14 +134,14 @@ module _ {text ts : List ℕ} {limit : ℕ} {before : Rooms} (d : Let-in text ts
     accepted-answer {after} {r} a =
         let m = l .reading .rooms in
         let alike : Alike before (rooms ns ls ys ss) = record { nodes = m .nodes; links = m .links; symbols = m .symbols; scratch = m .scratch } in
-        let x = subst (λ n. Script (seen text ts) n tree) ends-last reads-script in
+        let x = subst (λ n. Script (kind ts) n tree) ends-last reads-script in
         let n : numbers r ≡ success (written text ts tree) = a .numbers-are ∙ ap success (sym script-rows) in
         let o : after ≡ rooms-filled (written text ts tree) before = a .rooms-are ∙ ap (λ w. rooms-filled w (rooms ns ls ys ss)) (sym script-rows) ∙ filled-alike (written text ts tree) alike in
         record { answers = rw (n, o) (Answers.accepted (d .admitted) (Comes.read x tree-fits)) }
 
 -- what the statements' answer says, by its case
 module _ {text ts : List ℕ} {limit : ℕ} {s : State} {ns ls ys ss : List ℕ} {r : Read} (a : Lists text ts limit (whole (chain empty script-items)) 0 s ns ls ys ss r) where
-  pub refused-told : {q : Refusal} → r ≡ Read.Refused q → Refusing text ts limit (chain empty script-items) 0 s (refusal q)
+  pub refused-told : {q : Refusal} → r ≡ Read.Refused q → Refusing ts limit (chain empty script-items) 0 s (refusal q)
   unfolding List-case
   refused-told e = (rw e at a) .says
 

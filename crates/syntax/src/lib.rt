@@ -210,7 +210,7 @@ pub fn parse_checked(
     script(text, tokens, limit, nodes, links, symbols, scratch)
 }
 
-// Reads a script. Refusals 1 to 7 leave the rooms as they are, and 8 to 12 leave zeros throughout; success leaves the script's rows and then zeros, and
+// Reads a script. Refusals 1 to 7 leave the rooms as they are, and 8 to 11 leave zeros throughout; success leaves the script's rows and then zeros, and
 // zeros throughout in `scratch`. Any text, list, limit and rooms have an answer.
 // Ruled out: a row count that is not the tree's; a room that is not zero after a refusal in reading.
 pub fn parse(

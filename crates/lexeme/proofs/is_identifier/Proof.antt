@@ -4,9 +4,10 @@ use mathlib.Core.Path.{sym, _∙_, _≡_}
 use native.Mathlib.Omega.{arith}
 use borrow.Author.Tests.{not-true, not-false}
 use borrow.Author.Needs.{needs}
+use Rattle.grammar.specs.Derivative.{matches}
 use Rattle.grammar.specs.Lexeme.{letter, identifier}
 use Rattle.grammar.specs.Token.{lexeme}
-use Rattle.grammar.specs.Pattern.{matches, many, byte}
+use Rattle.grammar.specs.Pattern.{many, byte}
 use Rattle.grammar.proofs.Lexemes.{at-first, at-end}
 use Rattle.grammar.proofs.Matching.{no-byte, many-on, many-none}
 use Rattle.lexeme.specs.Parts.{letter-or-digit}

@@ -8,8 +8,8 @@ use lib.Dec.{eqb}
 use lib.ListN.{getD}
 use borrow.Author.Tests.{ne-eqb}
 use borrow.Author.Needs.{needs}
+use Rattle.grammar.specs.Derivative.{matches}
 use Rattle.grammar.specs.Token.{lexeme}
-use Rattle.grammar.specs.Pattern.{matches}
 use Rattle.grammar.proofs.Lexemes.{lexeme-first, lexeme-none, at-first, at-end, lexeme-whole}
 use Rattle.lexeme.specs.Parts.{inside}
 use Rattle.lexeme.proofs.Texts.{inside-quote, inside-plain, inside-cut, inside-escape, inside-open}

@@ -5,8 +5,9 @@ use mathlib.Core.Path.{_≡_, sym, _∙_}
 use native.Mathlib.Omega.{arith}
 use lib.ListN.{getD}
 use borrow.Author.Needs.{needs}
+use Rattle.grammar.specs.Derivative.{matches}
 use Rattle.grammar.specs.Lexeme.{number}
-use Rattle.grammar.specs.Pattern.{matches, digit, maybe}
+use Rattle.grammar.specs.Pattern.{digit, maybe}
 use Rattle.grammar.specs.Token.{lexeme}
 use Rattle.grammar.proofs.Lexemes.{at-first, at-end}
 use Rattle.lexeme.specs.Parts.{power}

@@ -7,17 +7,16 @@ use mathlib.Core.Path.{_≡_, refl, sym, ap, _∙_}
 use Rattle.ast.specs.declared.Node.{Node}
 use Rattle.grammar.specs.Handle.{link}
 use Rattle.grammar.specs.Kaori.{rules, script-items, statement as a-statement}
-use Rattle.grammar.specs.Kind.{Eof}
 use Rattle.grammar.specs.Phrase.{empty, choice, chain, whole}
 use Rattle.grammar.specs.Refusal.{Refused}
 use Rattle.grammar.specs.Token.{kind, count}
+use Rattle.grammar.proofs.Tables.{keyed, unkeyed}
 use Rattle.reading.specs.Answers.{State-case, States, Stated, List-case, Lists}
 use Rattle.reading.specs.Reading.{refusal, Refusing}
 use Rattle.reading.specs.State.{State, state, Within}
 use Rattle.reading.specs.declared.Read.{Read}
 use Rattle.reading.specs.declared.Refusal.{Refusal}
 use Rattle.reading.proofs.Listings.{Listing, Item-of, listing-none, listing-more, listing-end, lists, item-less, hold-room, hold-number}
-use Rattle.reading.proofs.Names.{plain, keyed, unkeyed}
 use Rattle.reading.proofs.Replies.{stated, further}
 use Rattle.parser.proofs.Sorts.{statement-link}
 use Rattle.syntax.proofs.statements.Statement.{statement}
@@ -25,7 +24,7 @@ use Rattle.syntax.proofs.statements.Tie as tie
 
 -- a statement is refused
 passed : {text ts : List ℕ} {limit o o′ : ℕ} {s s′ : State} {ns ls ys ss : List ℕ} {r : Read} {q : Refusal} → r ≡ Read.Refused q → States text ts limit o′ s′ ns ls ys ss r →
-    ((x : Refused) → Refusing text ts limit (choice a-statement) o′ s′ x → Refusing text ts limit (chain empty script-items) o s x) → Lists text ts limit (whole (chain empty script-items)) o s ns ls ys ss r
+    ((x : Refused) → Refusing ts limit (choice a-statement) o′ s′ x → Refusing ts limit (chain empty script-items) o s x) → Lists text ts limit (whole (chain empty script-items)) o s ns ls ys ss r
 unfolding State-case List-case
 passed {q = q} e a up = rw e (record { says = up (refusal q) ((rw e at a) .says) })
 
@@ -47,7 +46,7 @@ abbrev μ-list : tie.MeasureT-list
 -- where the script goes on: what its table has there
 on : (c : tie.In-list Inv-list μ-list) → Item-of (c .before .list .inv .listing) (choice a-statement)
 unfolding rules
-on c = unkeyed _ _ script-items _ refl (plain Eof tt) (rw (c .before .list .inv .next-is) at (c .list-test .left))
+on c = unkeyed script-items _ refl (rw (c .before .list .inv .next-is) at (c .list-test .left))
 
 list-holds : tie.Need-list-holds Inv-list μ-list
 list-holds c = let p = c .before .before .before .before .before .before .before .pre in record { listing = listing-none (p .deep) (p .within); next-is = c .kind-at .ensures }
@@ -75,7 +74,7 @@ list-less c = item-less (c .before .before .before .before .before .before .befo
 
 returns-2 : tie.Need-returns-2 Inv-list μ-list
 unfolding rules
-returns-2 c = lists (listing-end (c .before .list .inv .listing) (keyed _ _ script-items _ refl (plain Eof tt) (rw (c .before .list .inv .next-is) at (c .list-test .taken))))
+returns-2 c = lists (listing-end (c .before .list .inv .listing) (keyed script-items _ refl (rw (c .before .list .inv .next-is) at (c .list-test .taken))))
 
 pub statements-spec : {M : Type 1} → statement M
 statements-spec =

@@ -24,12 +24,6 @@ slice-aggregate-put-2 c = search needs
 put-requires-2 : tie.Need-put-requires-2
 put-requires-2 c κs = search needs
 
-slice-aggregate-put-3 : tie.Need-slice-aggregate-put-3
-slice-aggregate-put-3 c = search needs
-
-put-requires-3 : tie.Need-put-requires-3
-put-requires-3 c κs = search needs
-
 same-length : tie.Need-same-length
 same-length c = search needs
 
@@ -57,18 +51,11 @@ returns-4 : tie.Need-returns-4
 unfolding text-of
 returns-4 c = rw (c .before .before .before .before .before .match .keys4) (c .before .before .put2 .ensures)
 
-same-length-5 : tie.Need-same-length-5
-same-length-5 c = search needs
-
 returns-5 : tie.Need-returns-5
 unfolding text-of
-returns-5 c = rw (c .before .before .before .before .before .match .keys5) (c .before .before .put3 .ensures)
-
-returns-6 : tie.Need-returns-6
-unfolding text-of
-returns-6 c =
+returns-5 c =
     let none = c .match .rest in
-    simp (ne-eqb _ 8 (none .0 .0 .0 .0 .1), ne-eqb _ 9 (none .0 .0 .0 .1), ne-eqb _ 10 (none .0 .0 .1), ne-eqb _ 11 (none .0 .1), ne-eqb _ 12 (none .1))
+    simp (ne-eqb _ 8 (none .0 .0 .0 .1), ne-eqb _ 9 (none .0 .0 .1), ne-eqb _ 10 (none .0 .1), ne-eqb _ 11 (none .1))
     (nothing _ _)
 
 pub text-spec : {M : Type 1} → statement M
@@ -81,8 +68,6 @@ text-spec =
     put-requires
     slice-aggregate-put-2
     put-requires-2
-    slice-aggregate-put-3
-    put-requires-3
     same-length
     returns
     same-length-2
@@ -91,6 +76,4 @@ text-spec =
     returns-3
     same-length-4
     returns-4
-    same-length-5
-    returns-5
-    returns-6)
+    returns-5)

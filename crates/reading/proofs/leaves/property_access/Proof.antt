@@ -6,7 +6,6 @@ use Rattle.grammar.specs.Kaori.{calls, rules, kaori}
 use Rattle.grammar.specs.Kind.{Dot}
 use Rattle.grammar.specs.Refusal.{Refuses}
 use Rattle.reading.proofs.Chains.{stops-lacking}
-use Rattle.reading.proofs.Laws.{sees}
 use Rattle.reading.proofs.Leaf.{property-read, property-refused}
 use Rattle.reading.proofs.Replies.{Taken, Told, token-taken, success, further}
 use Rattle.reading.proofs.Taking.{ready-led, free}
@@ -31,8 +30,8 @@ returns : tie.Need-returns
 unfolding kaori rules
 returns c =
     let s = c .before .before .before .before .before .before .before .before .before in
-    let k = sees (s .args .text .now) (s .args .tokens .now) (s .args .cur .at) (s .pre .0) (λ e. omega arith) in
-    stops-lacking (c .enum-told .given .1) (c .before .before .consume .ensures) (omega arith) (λ s b n. further b (ap (kaori calls) k) (Refuses.missing n))
+    let k = s .pre .0 in
+    stops-lacking (c .enum-told .given .1) (c .before .before .consume .ensures) (λ s b n. further b (ap (kaori calls) k) (Refuses.missing n))
 
 returns-2 : tie.Need-returns-2
 returns-2 c =

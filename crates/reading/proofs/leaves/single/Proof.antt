@@ -2,7 +2,7 @@
 use borrow.Author.Needs.{needs}
 use native.Mathlib.Omega.{arith}
 use Rattle.grammar.specs.Refusal.{Refuses}
-use Rattle.reading.proofs.Leaf.{next-row, single-below, single-read}
+use Rattle.reading.proofs.Leaf.{next-row, single-read}
 use Rattle.reading.proofs.Replies.{Taken, token-taken, lacks}
 use Rattle.reading.proofs.leaves.single.Statement.{statement}
 use Rattle.reading.proofs.leaves.single.Tie as tie
@@ -15,15 +15,13 @@ place : (c : tie.After-known-told) → Taken (start c .args .tokens .now) (start
 place c = token-taken (c .before .read .given .1) (c .before .before .before .consume .ensures)
 
 returns : tie.Need-returns
-returns c =
-    let b = single-below (c .before .before .before .before .before .before .before .before .before .pre .0) in
-    lacks (c .enum-told .given .1) (c .before .before .consume .ensures) (omega arith) (λ n. Refuses.in-node (Refuses.missing n))
+returns c = lacks (c .enum-told .given .1) (c .before .before .consume .ensures) (λ n. Refuses.in-node (Refuses.missing n))
 
 returns-2 : tie.Need-returns-2
 returns-2 c =
     let z = c .before .before .before .before in
     let p = start z .pre in
-    single-read (p .1 .1) (p .0) (place z) (p .1 .0) (c .before .before .row .ensures)
+    single-read (p .1) (p .0) (place z) (c .before .before .row .ensures)
 
 pub single-spec : {M : Type 1} → statement M
-single-spec = tie.close (tie.spec (λ c κs. search needs) (λ c. search needs) (λ c. search needs) returns (λ c κs. next-row (start (c .before) .pre .1 .1) (place (c .before))) (λ c. omega (arith, next-row (start (c .before .before .before .before) .pre .1 .1) (place (c .before .before .before .before)))) (λ c. search needs) returns-2)
+single-spec = tie.close (tie.spec (λ c κs. search needs) (λ c. search needs) (λ c. search needs) returns (λ c κs. next-row (start (c .before) .pre .1) (place (c .before))) (λ c. omega (arith, next-row (start (c .before .before .before .before) .pre .1) (place (c .before .before .before .before)))) (λ c. search needs) returns-2)

@@ -16,7 +16,7 @@ place : (c : tie.After-known-told) → Taken (start c .args .tokens .now) (start
 place c = token-taken (c .before .read .given .1) (c .before .before .before .consume .ensures)
 
 returns : tie.Need-returns
-returns c = lacks (c .enum-told .given .1) (c .before .before .consume .ensures) (omega arith) (λ n. Refuses.in-node (Refuses.missing n))
+returns c = lacks (c .enum-told .given .1) (c .before .before .consume .ensures) (λ n. Refuses.in-node (Refuses.missing n))
 
 returns-2 : tie.Need-returns-2
 returns-2 c =

@@ -7,9 +7,9 @@ use Rattle.grammar.specs.Kaori.{bindings, rules}
 use Rattle.grammar.specs.Kind.{Colon}
 use Rattle.grammar.specs.Refusal.{Refuses}
 use Rattle.grammar.specs.Token.{kind}
-use Rattle.reading.proofs.Laws.{sees, ready-next}
+use Rattle.grammar.proofs.Tables.{keyed, unkeyed}
+use Rattle.reading.proofs.Laws.{ready-next}
 use Rattle.reading.proofs.Listings.{listed-chosen, listed-taken, lists-nothing, lists-mapped}
-use Rattle.reading.proofs.Names.{plain, keyed, unkeyed}
 use Rattle.reading.proofs.lists.bindings.Statement.{statement}
 use Rattle.reading.proofs.lists.bindings.Tie as tie
 
@@ -18,7 +18,7 @@ colon c = rw (c .before .kind-at .ensures) at (c .if1 .left)
 
 returns : tie.Need-returns
 unfolding rules
-returns c = lists-nothing (c .before .before .before .before .before .before .before .before .pre) (unkeyed _ _ bindings _ refl (plain Colon tt) (rw (c .before .kind-at .ensures) at (c .if1 .taken)))
+returns c = lists-nothing (c .before .before .before .before .before .before .before .before .pre) (unkeyed bindings _ refl (rw (c .before .kind-at .ensures) at (c .if1 .taken)))
 
 names-requires : tie.Need-names-requires
 names-requires c κs = (record { known = inr (inr refl) }, ready-next (c .before .before .before .before .before .before .before .before .before .before .before .before .pre) (colon (c .before .before .before .before)) (λ e. omega arith))
@@ -27,9 +27,8 @@ returns-2 : tie.Need-returns-2
 unfolding rules
 returns-2 c =
     let k = colon (c .before .before .before .before .before .before .before .before .before .before .before .before .before) in
-    let x = sees _ _ _ k (λ e. omega arith) in
-    let t = keyed _ _ bindings _ refl (plain Colon tt) k in
-    lists-mapped _ (c .before .before .before .before .before .before .before .before .names .ensures) (λ s l. listed-chosen t (listed-taken x l)) (λ q h. Refuses.in-choice t (Refuses.past-token x h))
+    let t = keyed bindings _ refl k in
+    lists-mapped _ (c .before .before .before .before .before .before .before .before .names .ensures) (λ s l. listed-chosen t (listed-taken k l)) (λ q h. Refuses.in-choice t (Refuses.past-token k h))
 
 pub bindings-spec : {M : Type 1} → statement M
 bindings-spec = tie.close (tie.spec (λ c κs. search needs) returns (λ c. search needs) names-requires (λ c. search needs) (λ c. search needs) (λ c. search needs) (λ c. search needs) returns-2)

@@ -22,7 +22,7 @@ use Rattle.reading.specs.State.{state, Rooms}
 use Rattle.reading.specs.declared.Cursor.{Cursor}
 use Rattle.reading.proofs.Entering.{grown-by, link-number, list-made}
 use Rattle.reading.proofs.Gathering.{gather-asks, gathered-free}
-use Rattle.reading.proofs.Laws.{Made, rooms-on, sees, taken, labelled, ready-next, ready-on}
+use Rattle.reading.proofs.Laws.{Made, rooms-on, taken, labelled, ready-next, ready-on}
 use Rattle.reading.proofs.Listings.{Held, listed-rooms, listed-from, held-since, listed-both, rows-both}
 use Rattle.reading.proofs.Replies.{Taken, token-taken, answer, lacks, passed-list, listed, after}
 use Rattle.reading.proofs.lists.import.Statement.{statement}
@@ -87,7 +87,7 @@ kept : (c : tie.After-known-told3) → Rooms (state (entry (word (path c)) .args
 kept c = rooms-on (listed-rooms (steps (path c))) (listed-rooms (words c))
 
 returns : tie.Need-returns
-returns c = lacks (c .enum-told .given .1) (c .before .before .consume .ensures) (omega arith) (λ n. Refuses.in-node (Refuses.missing n))
+returns c = lacks (c .enum-told .given .1) (c .before .before .consume .ensures) (λ n. Refuses.in-node (Refuses.missing n))
 
 path-requires : tie.Need-path-requires
 path-requires c κs = let t = lead (c .before .before .before .before) in rw (t .after) (ready-next (entry (c .before .before .before .before) .pre) (t .kind-is) (λ e. omega arith))
@@ -95,7 +95,7 @@ path-requires c κs = let t = lead (c .before .before .before .before) in rw (t 
 returns-2 : tie.Need-returns-2
 returns-2 c =
     let t = lead (c .before .before .before .before .before .before .before .before .before .before .before .before .before .before .before) in
-    passed-list (c .enum-told2 .given .1) (rw (t .after) at (c .before .before .before .before .before .before .before .before .before .before .path .ensures)) (λ x h. Refuses.in-node (Refuses.past-token (sees _ _ _ (t .kind-is) (λ e. omega arith)) (Refuses.in-first h)))
+    passed-list (c .enum-told2 .given .1) (rw (t .after) at (c .before .before .before .before .before .before .before .before .before .before .path .ensures)) (λ x h. Refuses.in-node (Refuses.past-token (t .kind-is) (Refuses.in-first h)))
 
 bindings-requires : tie.Need-bindings-requires
 bindings-requires c κs = ready-on (entry (word (c .before .before .before .before)) .pre) (steps (c .before .before .before .before) .within)
@@ -104,7 +104,7 @@ returns-3 : tie.Need-returns-3
 returns-3 c =
     let t = lead (word (c .before .before .before .before .before .before .before .before .before .before .before .before .before .before .before)) in
     let r = listed-from (t .after) (steps (c .before .before .before .before .before .before .before .before .before .before .before .before .before .before .before)) in
-    passed-list (c .enum-told3 .given .1) (c .before .before .before .before .before .before .before .before .before .before .bindings .ensures) (λ x h. Refuses.in-node (Refuses.past-token (sees _ _ _ (t .kind-is) (λ e. omega arith)) (after (r .reading) h)))
+    passed-list (c .enum-told3 .given .1) (c .before .before .before .before .before .before .before .before .before .before .bindings .ensures) (λ x h. Refuses.in-node (Refuses.past-token (t .kind-is) (after (r .reading) h)))
 
 gather-requires : tie.Need-gather-requires
 gather-requires c κs = let z = sizes (c .before .before .before .before .before) in gather-asks (entry (word (path (c .before .before .before .before .before))) .pre .lent) (words (c .before .before .before .before .before) .within) (omega arith)
@@ -130,7 +130,7 @@ returns-4 c =
     let i = rw (c .before .before .before .before .end-at .ensures, t .node-is, g .cursor, path-long, names-long) at (c .before .before .import .ensures) in
     let u = m .within in
     rw (g .cursor)
-    (answer p (record { pays = tt }) (u .at) (u .table) (labelled (taken (sees _ _ _ (t .kind-is) (λ e. omega arith)) (listed-both l m)) (made _ i (omega (arith, u .rows, u .at, u .roomy .nodes)) (omega (arith, u .links, u .at, u .roomy .links)) w)))
+    (answer p (record { pays = tt }) (u .at) (u .table) (labelled (taken (t .kind-is) (listed-both l m)) (made _ i (omega (arith, u .rows, u .at, u .roomy .nodes)) (omega (arith, u .links, u .at, u .roomy .links)) w)))
 
 pub import-spec : {M : Type 1} → statement M
 import-spec =

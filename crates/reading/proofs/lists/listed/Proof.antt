@@ -1,7 +1,7 @@
 -- A name, and what has to come after it.
 use borrow.Author.Needs.{needs}
 use Rattle.grammar.specs.Refusal.{Refuses}
-use Rattle.reading.proofs.Names.{plain-closer, separated}
+use Rattle.reading.proofs.Names.{separated}
 use Rattle.reading.proofs.Replies.{Told, success, passed}
 use Rattle.reading.proofs.lists.listed.Statement.{statement}
 use Rattle.reading.proofs.lists.listed.Tie as tie
@@ -14,7 +14,7 @@ returns : tie.Need-returns
 returns c = passed (c .enum-told .given .1) (c .before .before .before .before .before .before .before .before .before .before .name .ensures) (λ x h. Refuses.in-first h)
 
 returns-2 : tie.Need-returns-2
-returns-2 c = let p = c .before .before .before .before .before .before .before .before .before .before .before .before .before .before .before .before .before .before .before .before .before .before .before .pre in separated _ (p .1) (plain-closer (p .0)) (part (c .before)) (c .comma .ensures)
+returns-2 c = let p = c .before .before .before .before .before .before .before .before .before .before .before .before .before .before .before .before .before .before .before .before .before .before .before .pre in separated _ (p .1) (part (c .before)) (c .comma .ensures)
 
 pub listed-spec : {M : Type 1} → statement M
 listed-spec =

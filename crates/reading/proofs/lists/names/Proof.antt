@@ -9,9 +9,9 @@ use Rattle.grammar.specs.Kaori.{name, comma, names, rules}
 use Rattle.grammar.specs.Kind.{Eof}
 use Rattle.grammar.specs.Phrase.{part, choice}
 use Rattle.grammar.specs.Token.{count}
+use Rattle.grammar.proofs.Tables.{items-end, items-on}
 use Rattle.reading.specs.State.{state}
 use Rattle.reading.proofs.Listings.{Listing, listing-none, listing-more, listing-end, lists, Item-of, item-refused, item-less, hold-room, hold-number}
-use Rattle.reading.proofs.Names.{plain-closer, items-end, items-on}
 use Rattle.reading.proofs.Replies.{Told, success}
 use Rattle.reading.proofs.lists.names.Statement.{statement}
 use Rattle.reading.proofs.lists.names.Tie as tie
@@ -30,7 +30,7 @@ on : (c : tie.Else2 Inv-list μ-list) → Item-of (c .before .before .before .li
 unfolding rules
 on c =
     let k = c .before .before .kind-at .ensures in
-    items-on _ _ (names _) _ refl (plain-closer (start (c .before .before .before) .pre .0)) (⊎-elim (rw k at (c .before .if1 .left)) (rw k at (eqb-false (c .before .before .kind-at .result) Eof (c .if2 .left))))
+    items-on (names _) _ refl (⊎-elim (rw k at (c .before .if1 .left)) (rw k at (eqb-false (c .before .before .kind-at .result) Eof (c .if2 .left))))
 
 -- where listed has answered: what that says
 item : (c : tie.After-known-told Inv-list μ-list) → Told (c .before .before .before .before .before .before .before .before .before .before .before .listed .ensures) (c .before .read .given .0 .0) (c .before .read .given .0 .1 .0)
@@ -50,7 +50,7 @@ unfolding rules
 returns-2 c =
     let p = start (c .before .before) .pre in
     let k = c .before .kind-at .ensures in
-    lists (listing-end (c .before .before .list .inv) (items-end _ _ (names _) _ refl (plain-closer (p .0)) (⊎-elim (λ w. inl (rw k at (w .taken))) (λ w. inr (rw k at (eqb-true (c .before .kind-at .result) Eof (w .1 .taken)))) (c .if1 .came))))
+    lists (listing-end (c .before .before .list .inv) (items-end (names _) _ refl (⊎-elim (λ w. inl (rw k at (w .taken))) (λ w. inr (rw k at (eqb-true (c .before .kind-at .result) Eof (w .1 .taken)))) (c .if1 .came))))
 
 pub names-spec : {M : Type 1} → statement M
 names-spec =

@@ -3,17 +3,16 @@ use Prim.Native.Nat.{_-_}
 use borrow.Author.Needs.{needs}
 use native.Mathlib.Omega.{arith}
 use mathlib.Core.Path.{_≡_, refl}
-use Rattle.grammar.specs.Float.{seen}
 use Rattle.grammar.specs.Kaori.{path-name, dots, rules, kaori}
 use Rattle.grammar.specs.Kind.{Dot}
 use Rattle.grammar.specs.Label.{Label}
 use Rattle.grammar.specs.Phrase.{token, node, choice}
 use Rattle.grammar.specs.Refusal.{Refuses}
 use Rattle.grammar.specs.Token.{kind, count}
+use Rattle.grammar.proofs.Tables.{keyed, unkeyed}
 use Rattle.reading.specs.State.{state, Rooms}
-use Rattle.reading.proofs.Laws.{sees, rooms-on, ready-next, ready-on}
+use Rattle.reading.proofs.Laws.{rooms-on, ready-next, ready-on}
 use Rattle.reading.proofs.Listings.{Held, listed-rooms, Longer, longer-none, longer-on, listed-first, listed-taken, listed-ended, lists, lists-passed-list}
-use Rattle.reading.proofs.Names.{plain, keyed, unkeyed}
 use Rattle.reading.proofs.Replies.{listed, further}
 use Rattle.reading.proofs.lists.path.Statement.{statement}
 use Rattle.reading.proofs.lists.path.Tie as tie
@@ -31,9 +30,9 @@ start c = c .before .before .before .before .before .before .before .before .bef
 dot : (c : tie.Else1 Inv-path μ-path) → kind (start (c .before .before) .args .tokens .now) (c .before .before .path .now .at) ≡ Dot
 dot c = rw (c .before .kind-at .ensures) at (c .if1 .left)
 
-link : (c : tie.Else1 Inv-path μ-path) → kaori dots (seen (start (c .before .before) .args .text .now) (start (c .before .before) .args .tokens .now) (c .before .before .path .now .at)) ≡ node Label.Item (token Dot (choice path-name))
+link : (c : tie.Else1 Inv-path μ-path) → kaori dots (kind (start (c .before .before) .args .tokens .now) (c .before .before .path .now .at)) ≡ node Label.Item (token Dot (choice path-name))
 unfolding rules
-link c = keyed _ _ dots _ refl (plain Dot tt) (dot c)
+link c = keyed dots _ refl (dot c)
 
 -- where a step has answered: what that says
 started : (c : tie.After-known-told Inv-path μ-path) → Held (c .before .before .before .before .before .before .before .before .before .before .before .step .ensures) (c .before .read .given .0 .1 .0)
@@ -55,19 +54,19 @@ step-requires-2 c κs = ready-next (ready-on (start (c .before .before .before .
 returns-2 : tie.Need-returns-2 Inv-path μ-path
 returns-2 c =
     let b = started (c .before .before .before .before .before .before .before .before .before .before .before .before .before .before .before .before .before .before) in
-    lists-passed-list (c .enum-told2 .given .1) (c .before .before .before .before .before .before .before .before .before .before .step2 .ensures) (λ x h. further (c .before .before .before .before .before .before .before .before .before .before .before .before .before .before .before .before .before .path .inv .grown _ (listed-first b) .reading) (link (c .before .before .before .before .before .before .before .before .before .before .before .before .before .before .before)) (Refuses.past-token (sees _ _ _ (dot (c .before .before .before .before .before .before .before .before .before .before .before .before .before .before .before)) (λ e. omega arith)) h))
+    lists-passed-list (c .enum-told2 .given .1) (c .before .before .before .before .before .before .before .before .before .before .step2 .ensures) (λ x h. further (c .before .before .before .before .before .before .before .before .before .before .before .before .before .before .before .before .before .path .inv .grown _ (listed-first b) .reading) (link (c .before .before .before .before .before .before .before .before .before .before .before .before .before .before .before)) (Refuses.past-token (dot (c .before .before .before .before .before .before .before .before .before .before .before .before .before .before .before)) h))
 
 path-less : tie.Need-path-less Inv-path μ-path
 path-less c = let z = stepped c in omega (arith, z .past, z .within .at)
 
 path-again : tie.Need-path-again Inv-path μ-path
-path-again c = longer-on (c .before .before .before .before .before .before .before .before .before .before .before .before .before .before .before .before .before .before .path .inv) (link (c .before .before .before .before .before .before .before .before .before .before .before .before .before .before .before .before)) (listed-taken (sees _ _ _ (dot (c .before .before .before .before .before .before .before .before .before .before .before .before .before .before .before .before)) (λ e. omega arith)) (stepped c))
+path-again c = longer-on (c .before .before .before .before .before .before .before .before .before .before .before .before .before .before .before .before .before .before .path .inv) (link (c .before .before .before .before .before .before .before .before .before .before .before .before .before .before .before .before)) (listed-taken (dot (c .before .before .before .before .before .before .before .before .before .before .before .before .before .before .before .before)) (stepped c))
 
 returns-3 : tie.Need-returns-3 Inv-path μ-path
 unfolding rules
 returns-3 c =
     let b = started (c .before .before .before) in
-    lists (listed-ended (unkeyed _ _ dots _ refl (plain Dot tt) (rw (c .before .kind-at .ensures) at (c .if1 .taken))) (c .before .before .path .inv .grown _ (listed-first b)))
+    lists (listed-ended (unkeyed dots _ refl (rw (c .before .kind-at .ensures) at (c .if1 .taken))) (c .before .before .path .inv .grown _ (listed-first b)))
 
 pub path-spec : {M : Type 1} → statement M
 path-spec =

@@ -3,11 +3,10 @@ use borrow.Author.Needs.{needs}
 use native.Mathlib.Omega.{arith}
 use mathlib.Core.Path.{refl}
 use Rattle.grammar.specs.Kaori.{path-name, rules}
-use Rattle.grammar.specs.Kind.{Eof}
 use Rattle.grammar.specs.Refusal.{Refuses}
 use Rattle.grammar.proofs.Room.{paid, spare}
+use Rattle.grammar.proofs.Tables.{keyed, unkeyed}
 use Rattle.reading.proofs.Listings.{listed-one, lists-nothing, listed-chosen, lists, lists-passed, hold-room, hold-number}
-use Rattle.reading.proofs.Names.{plain, keyed, unkeyed}
 use Rattle.reading.proofs.Replies.{Told, success}
 use Rattle.reading.proofs.lists.step.Statement.{statement}
 use Rattle.reading.proofs.lists.step.Tie as tie
@@ -18,15 +17,15 @@ item c = success (c .before .read .given .1) (c .before .before .before .before 
 
 returns : tie.Need-returns
 unfolding rules
-returns c = lists-nothing (c .before .before .before .before .before .before .before .before .pre) (keyed _ _ path-name _ refl (plain Eof tt) (rw (c .before .kind-at .ensures) at (c .if1 .taken)))
+returns c = lists-nothing (c .before .before .before .before .before .before .before .before .pre) (keyed path-name _ refl (rw (c .before .kind-at .ensures) at (c .if1 .taken)))
 
 returns-2 : tie.Need-returns-2
 unfolding rules
-returns-2 c = lists-passed (c .enum-told .given .1) (c .before .before .before .before .before .before .before .before .before .before .name .ensures) (λ x h. Refuses.in-choice (unkeyed _ _ path-name _ refl (plain Eof tt) (rw (c .before .before .before .before .before .before .before .before .before .before .before .before .before .before .before .before .kind-at .ensures) at (c .before .before .before .before .before .before .before .before .before .before .before .before .before .before .before .if1 .left))) h)
+returns-2 c = lists-passed (c .enum-told .given .1) (c .before .before .before .before .before .before .before .before .before .before .name .ensures) (λ x h. Refuses.in-choice (unkeyed path-name _ refl (rw (c .before .before .before .before .before .before .before .before .before .before .before .before .before .before .before .before .kind-at .ensures) at (c .before .before .before .before .before .before .before .before .before .before .before .before .before .before .before .if1 .left))) h)
 
 returns-3 : tie.Need-returns-3
 unfolding rules paid spare
-returns-3 c = lists (listed-chosen (unkeyed _ _ path-name _ refl (plain Eof tt) (rw (c .before .before .before .before .before .before .before .before .before .before .before .before .before .before .before .before .before .before .before .before .before .kind-at .ensures) at (c .before .before .before .before .before .before .before .before .before .before .before .before .before .before .before .before .before .before .before .before .if1 .left))) (listed-one (c .before .before .before .before .before .before .before .before .before .before .before .before .before .before .before .before .before .before .before .before .before .before .before .before .before .before .before .before .pre .within) (record { pays = tt }) (item (c .before .before .before .before)) (c .before .before .push .ensures) refl))
+returns-3 c = lists (listed-chosen (unkeyed path-name _ refl (rw (c .before .before .before .before .before .before .before .before .before .before .before .before .before .before .before .before .before .before .before .before .before .kind-at .ensures) at (c .before .before .before .before .before .before .before .before .before .before .before .before .before .before .before .before .before .before .before .before .if1 .left))) (listed-one (c .before .before .before .before .before .before .before .before .before .before .before .before .before .before .before .before .before .before .before .before .before .before .before .before .before .before .before .before .pre .within) (record { pays = tt }) (item (c .before .before .before .before)) (c .before .before .push .ensures) refl))
 
 pub step-spec : {M : Type 1} → statement M
 step-spec =

@@ -1,9 +1,8 @@
 -- An argument: an expression, and the comma after it unless the list ends there.
 use Prim.Native.Nat.{ℕ}
 use borrow.Author.Needs.{needs}
-use Rattle.grammar.specs.Kind.{RightParen}
 use Rattle.grammar.specs.Refusal.{Refuses}
-use Rattle.reading.proofs.Names.{plain, separated}
+use Rattle.reading.proofs.Names.{separated}
 use Rattle.reading.proofs.Replies.{Told, success, passed}
 use Rattle.parser.proofs.readers.+arg+arguments+assign+binary+bind+block+body+call+chained+else_+expression+form+function+group+if_+items+lambda+map_+not_+pair+pairs+plus+postfix+prefix+primary+return_+statement+unary+while_ as cycle
 use Rattle.parser.proofs.readers as readers
@@ -25,7 +24,7 @@ module _ (t : ℕ) where
   returns c = passed (c .enum-told .given .1) (c .before .before .before .before .before .before .before .before .before .before .expression .ensures) (λ x h. Refuses.in-first h)
 
   returns-2 : lts.Need-returns-2 claims (arg-at (just t)) arg.Post
-  returns-2 c = separated _ (c .before .before .before .before .before .before .before .before .before .before .before .before .before .before .before .before .before .before .before .before .before .before .before .pre .1) (plain RightParen tt) (part (c .before)) (c .comma .ensures)
+  returns-2 c = separated _ (c .before .before .before .before .before .before .before .before .before .before .before .before .before .before .before .before .before .before .before .before .before .before .before .pre .1) (part (c .before)) (c .comma .ensures)
 
   pub spec : {M : Type 1} → lts.Closed claims (arg-at (just t)) arg.Post M
   spec = lts.spec claims (arg-at (just t)) arg.Post (λ c κs. search needs) (λ c. search needs) (λ c. search needs) (λ c. search needs) (λ c. search needs) (λ c. search needs) (λ c. search needs) returns (λ c κs. part c .within .at) (λ c. search needs) (λ c. search needs) (λ c. search needs) (λ c. search needs) returns-2

@@ -4,14 +4,13 @@ use borrow.Author.Needs.{needs}
 use native.Mathlib.Omega.{arith}
 use mathlib.Core.Path.{refl, sym, ap, _∙_}
 use Rattle.grammar.specs.Kaori.{above, kaori, rules, assigned}
-use Rattle.grammar.specs.Kind.{Assign}
 use Rattle.grammar.specs.Refusal.{Refuses}
 use Rattle.grammar.specs.Rows.{make, put, fill, numbers, write}
 use Rattle.grammar.specs.Rule.{rule}
 use Rattle.grammar.proofs.Room.{paid, spare}
+use Rattle.grammar.proofs.Tables.{unkeyed}
 use Rattle.reading.proofs.Entering.{row-made}
-use Rattle.reading.proofs.Laws.{sees, alone, joined, taken, ready-next, ready-on}
-use Rattle.reading.proofs.Names.{plain, unkeyed}
+use Rattle.reading.proofs.Laws.{alone, joined, taken, ready-next, ready-on}
 use Rattle.reading.proofs.Replies.{Told, success, passed, answer, after-once}
 use Rattle.reading.proofs.Taking.{free}
 use Rattle.parser.proofs.readers.+arg+arguments+assign+binary+bind+block+body+call+chained+else_+expression+form+function+group+if_+items+lambda+map_+not_+pair+pairs+plus+postfix+prefix+primary+return_+statement+unary+while_ as cycle
@@ -44,7 +43,7 @@ module _ (t : ℕ) where
   unfolding paid spare above rules
   returns-2 c =
       let z = left (c .before .before) in
-      answer (c .before .before .before .before .before .before .before .before .before .before .before .before .before .before .before .before .before .before .before .before .before .before .before .before .pre .1) (record { pays = tt }) (z .within .at) (z .within .table) (alone (unkeyed _ _ assigned _ refl (plain Assign tt) (rw (c .before .kind-at .ensures) at (c .if1 .taken))) (z .reading))
+      answer (c .before .before .before .before .before .before .before .before .before .before .before .before .before .before .before .before .before .before .before .before .before .before .before .before .pre .1) (record { pays = tt }) (z .within .at) (z .within .table) (alone (unkeyed assigned _ refl (rw (c .before .kind-at .ensures) at (c .if1 .taken))) (z .reading))
 
   expression-requires-2 : lts.Need-expression-requires-2 claims (assign-at (just t)) assign.Post
   expression-requires-2 c κs =
@@ -54,13 +53,13 @@ module _ (t : ℕ) where
   returns-3 : lts.Need-returns-3 claims (assign-at (just t)) assign.Post
   unfolding kaori rules
   returns-3 c =
-      let k = sees _ _ _ (sym (c .before .before .before .before .before .before .before .before .before .before .before .before .before .before .before .before .kind-at .ensures) ∙ c .before .before .before .before .before .before .before .before .before .before .before .before .before .before .before .if1 .left) (λ e. omega arith) in
+      let k = sym (c .before .before .before .before .before .before .before .before .before .before .before .before .before .before .before .before .kind-at .ensures) ∙ c .before .before .before .before .before .before .before .before .before .before .before .before .before .before .before .if1 .left in
       passed (c .enum-told2 .given .1) (c .before .before .before .before .before .before .before .before .before .before .expression2 .ensures) (λ x h. after-once (left (c .before .before .before .before .before .before .before .before .before .before .before .before .before .before .before .before .before) .reading) (ap (kaori assigned) k) (Refuses.past-token k h))
 
   returns-4 : lts.Need-returns-4 claims (assign-at (just t)) assign.Post
   unfolding kaori rules paid spare above make put fill numbers write rule
   returns-4 c =
-      let k = sees _ _ _ (sym (c .before .before .before .before .before .before .before .before .before .before .before .before .before .before .before .before .before .before .before .before .before .kind-at .ensures) ∙ c .before .before .before .before .before .before .before .before .before .before .before .before .before .before .before .before .before .before .before .before .if1 .left) (λ e. omega arith) in
+      let k = sym (c .before .before .before .before .before .before .before .before .before .before .before .before .before .before .before .before .before .before .before .before .before .kind-at .ensures) ∙ c .before .before .before .before .before .before .before .before .before .before .before .before .before .before .before .before .before .before .before .before .if1 .left in
       let z = right (c .before .before .before .before) in
       let w = z .within in
       answer (start (c .before .before .before .before) .pre .1) (record { pays = tt }) (w .at) (w .table) (joined (left (c .before .before .before .before .before .before .before .before .before .before .before .before .before .before .before .before .before .before .before .before .before .before) .reading) (ap (kaori assigned) k) (taken k (z .reading)) (row-made (c .before .before .assign .ensures) (omega (arith, w .rows, w .at, w .roomy .nodes)) refl))

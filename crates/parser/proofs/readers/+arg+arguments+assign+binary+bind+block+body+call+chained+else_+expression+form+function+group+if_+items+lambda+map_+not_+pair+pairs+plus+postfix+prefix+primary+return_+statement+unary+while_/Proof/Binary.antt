@@ -2,14 +2,14 @@
 use Prim.Native.Nat.{ℕ, _-_}
 use borrow.Author.Needs.{needs}
 use native.Mathlib.Omega.{arith}
-use mathlib.Core.Path.{sym}
+use mathlib.Core.Path.{refl, sym}
 use Rattle.grammar.specs.Refusal.{Refuses}
 use Rattle.grammar.specs.Token.{count}
 use Rattle.reading.specs.State.{state}
 use Rattle.reading.proofs.Chains.{going-link}
 use Rattle.reading.proofs.Laws.{ready-next, ready-on, taken}
 use Rattle.parser.proofs.Levels.{Climbing, climbing-none, climbing-on, settled, refused-link, refused-operand}
-use Rattle.reading.proofs.Picks.{level-is, level-most, operator-seen, operator-goes, operator-form, operator-made}
+use Rattle.reading.proofs.Picks.{level-is, level-most, operator-goes, operator-form, operator-made}
 use Rattle.reading.proofs.Replies.{Told, success, passed, answered, further}
 use Rattle.reading.proofs.Taking.{free}
 use Rattle.parser.proofs.readers.+arg+arguments+assign+binary+bind+block+body+call+chained+else_+expression+form+function+group+if_+items+lambda+map_+not_+pair+pairs+plus+postfix+prefix+primary+return_+statement+unary+while_ as cycle
@@ -60,7 +60,7 @@ module _ (t : ℕ) where
       let k = c .before .before .before .before .before .before .before .before .before .before .before .before .before .before .before .before .before .kind-at .ensures in
       let e = c .before .before .before .before .before .before .before .before .before .before .before .before .before .before .before .before .level-of .ensures in
       let l = c .before .before .before .before .before .before .before .before .before .before .before .before .before .before .before .if1 .left in
-      passed (c .enum-told2 .given .1) (c .before .before .before .before .before .before .before .before .before .before .binary .ensures) (λ x h. refused-link l (further (i .grown _ (lead (c .before .before .before .before .before .before .before .before .before .before .before .before .before .before .before .before .before .before .before) .reading) .link _ l (level-is _ _ _ k e)) (operator-form _ _ _ k e (omega (arith, p .1 .0, l))) (Refuses.past-token (operator-seen _ _ _ k e (omega (arith, p .1 .0, l))) h)))
+      passed (c .enum-told2 .given .1) (c .before .before .before .before .before .before .before .before .before .before .binary .ensures) (λ x h. refused-link l (further (i .grown _ (lead (c .before .before .before .before .before .before .before .before .before .before .before .before .before .before .before .before .before .before .before) .reading) .link _ l (level-is k e)) (operator-form k e (omega (arith, p .1 .0, l))) (Refuses.past-token refl h)))
 
   loop-less : lts.Need-loop-less claims (binary-at (just t)) binary.Post Inv-loop μ-loop
   loop-less c =
@@ -75,13 +75,13 @@ module _ (t : ℕ) where
       let k = c .before .before .before .before .before .before .before .before .before .before .before .before .before .before .before .before .before .before .before .before .before .before .kind-at .ensures in
       let e = c .before .before .before .before .before .before .before .before .before .before .before .before .before .before .before .before .before .before .before .before .before .level-of .ensures in
       let l = c .before .before .before .before .before .before .before .before .before .before .before .before .before .before .before .before .before .before .before .before .if1 .left in
-      climbing-on i (level-is _ _ _ k e) l (settled _ (omega (arith, p .1 .0, l)) (z .reading .reads)) (going-link (i .within) (operator-form _ _ _ k e (omega (arith, p .1 .0, l))) (taken (operator-seen _ _ _ k e (omega (arith, p .1 .0, l))) (z .reading)) (operator-made k (c .before .before .joined .ensures) (omega (arith, z .within .rows, z .within .at, z .within .roomy .nodes))) (z .within .at) (z .within .table))
+      climbing-on i (level-is k e) l (settled _ (omega (arith, p .1 .0, l)) (z .reading .reads)) (going-link (i .within) (operator-form k e (omega (arith, p .1 .0, l))) (taken refl (z .reading)) (operator-made k (c .before .before .joined .ensures) (omega (arith, z .within .rows, z .within .at, z .within .roomy .nodes))) (z .within .at) (z .within .table))
 
   returns-3 : lts.Need-returns-3 claims (binary-at (just t)) binary.Post Inv-loop μ-loop
   returns-3 c =
       let z = lead (c .before .before .before .before) in
       let i = c .before .before .before .loop .inv in
-      answered (record { reading = i .grown _ (z .reading) .end (level-most _ _ _ (c .before .before .kind-at .ensures) (c .before .level-of .ensures) (c .if1 .taken)); within = i .within; past = omega (arith, z .past, i .past) })
+      answered (record { reading = i .grown _ (z .reading) .end (level-most (c .before .before .kind-at .ensures) (c .before .level-of .ensures) (c .if1 .taken)); within = i .within; past = omega (arith, z .past, i .past) })
 
   pub spec : {M : Type 1} → lts.Closed claims (binary-at (just t)) binary.Post M
   spec = lts.spec claims (binary-at (just t)) binary.Post Inv-loop μ-loop (λ c κs. search needs) (λ c. search needs) (λ c. search needs) (λ c. search needs) (λ c. search needs) (λ c. search needs) (λ c. search needs) returns (λ c. climbing-none (lead c .within)) (λ c κs. search needs) (λ c κs. search needs) (λ c. omega (arith, c .before .before .before .loop .inv .within .at, start (c .before .before .before .before) .pre .1 .1 .lent .whole .most)) binary-requires (λ c. search needs) (λ c. search needs) (λ c. omega (arith, c .before .before .before .before .before .before .before .before .before .before .binary .kept, c .before .before .before .before .before .before .before .before .before .before .before .before .before .before .before .before .before .before .loop .inv .rooms, lead (c .before .before .before .before .before .before .before .before .before .before .before .before .before .before .before .before .before .before .before) .reading .rooms)) (λ c. omega (arith, c .before .before .before .before .before .before .before .before .before .before .binary .kept, c .before .before .before .before .before .before .before .before .before .before .before .before .before .before .before .before .before .before .loop .inv .rooms, lead (c .before .before .before .before .before .before .before .before .before .before .before .before .before .before .before .before .before .before .before) .reading .rooms)) (λ c. search needs) (λ c. search needs) returns-2 (λ c κs. free (start (c .before .before .before .before .before .before .before .before .before .before .before .before .before .before .before .before .before .before .before .before .before) .pre .1 .1 .lent) (part (c .before) .within)) (λ c. omega (arith, free (start (c .before .before .before .before .before .before .before .before .before .before .before .before .before .before .before .before .before .before .before .before .before .before .before .before) .pre .1 .1 .lent) (part (c .before .before .before .before) .within) .number)) loop-less loop-again (λ c. search needs) (λ c. search needs) (λ c. search needs) (λ c. search needs) returns-3

@@ -77,7 +77,7 @@ module _ (t : ℕ) where
   returns : lts.Need-returns claims (bind-at (just t)) bind.Post
   returns c =
       let l = binder-low (c .before .before .before .before .before .before .before .before .before .pre .1 .0) in
-      lacks (c .enum-told .given .1) (c .before .before .consume .ensures) (omega arith) (λ h. Refuses.in-node (Refuses.missing h))
+      lacks (c .enum-told .given .1) (c .before .before .consume .ensures) (λ h. Refuses.in-node (Refuses.missing h))
 
   name-requires : lts.Need-name-requires claims (bind-at (just t)) bind.Post
   name-requires c κs =
@@ -87,12 +87,12 @@ module _ (t : ℕ) where
   returns-2 : lts.Need-returns-2 claims (bind-at (just t)) bind.Post
   returns-2 c =
       let l = binder-low (c .before .before .before .before .before .before .before .before .before .before .before .before .before .before .before .before .before .before .before .before .before .before .before .before .before .pre .1 .0) in
-      passed (c .enum-told2 .given .1) (c .before .before .before .before .before .before .before .before .before .before .name .ensures) (λ x h. Refuses.in-node (led-refused _ (lead (c .before .before .before .before .before .before .before .before .before .before .before .before .before .before .before)) (λ e. omega arith) (Refuses.in-first h)))
+      passed (c .enum-told2 .given .1) (c .before .before .before .before .before .before .before .before .before .before .name .ensures) (λ x h. Refuses.in-node (led-refused (lead (c .before .before .before .before .before .before .before .before .before .before .before .before .before .before .before)) (Refuses.in-first h)))
 
   returns-3 : lts.Need-returns-3 claims (bind-at (just t)) bind.Post
   returns-3 c =
       let l = binder-low (c .before .before .before .before .before .before .before .before .before .before .before .before .before .before .before .before .before .before .before .before .before .before .before .before .before .before .before .before .before .pre .1 .0) in
-      lacks (c .enum-told3 .given .1) (c .before .before .consume2 .ensures) (omega arith) (λ h. Refuses.in-node (led-refused _ (lead (c .before .before .before .before .before .before .before .before .before .before .before .before .before .before .before .before .before .before .before)) (λ e. omega arith) (after (word (c .before .before .before) .reading) (Refuses.missing h))))
+      lacks (c .enum-told3 .given .1) (c .before .before .consume2 .ensures) (λ h. Refuses.in-node (led-refused (lead (c .before .before .before .before .before .before .before .before .before .before .before .before .before .before .before .before .before .before .before)) (after (word (c .before .before .before) .reading) (Refuses.missing h))))
 
   expression-requires : lts.Need-expression-requires claims (bind-at (just t)) bind.Post
   expression-requires c κs =
@@ -103,7 +103,7 @@ module _ (t : ℕ) where
   returns-4 : lts.Need-returns-4 claims (bind-at (just t)) bind.Post
   returns-4 c =
       let l = binder-low (c .before .before .before .before .before .before .before .before .before .before .before .before .before .before .before .before .before .before .before .before .before .before .before .before .before .before .before .before .before .before .before .before .before .before .before .before .before .before .before .before .before .before .before .before .before .pre .1 .0) in
-      passed (c .enum-told4 .given .1) (c .before .before .before .before .before .before .before .before .before .before .expression .ensures) (λ x h. Refuses.in-node (led-refused _ (lead (c .before .before .before .before .before .before .before .before .before .before .before .before .before .before .before .before .before .before .before .before .before .before .before .before .before .before .before .before .before .before .before .before .before .before .before)) (λ e. omega arith) (after (word (c .before .before .before .before .before .before .before .before .before .before .before .before .before .before .before .before .before .before .before) .reading) (led-refused _ (sign (c .before .before .before .before .before .before .before .before .before .before .before .before .before .before .before)) (λ e. omega arith) h))))
+      passed (c .enum-told4 .given .1) (c .before .before .before .before .before .before .before .before .before .before .expression .ensures) (λ x h. Refuses.in-node (led-refused (lead (c .before .before .before .before .before .before .before .before .before .before .before .before .before .before .before .before .before .before .before .before .before .before .before .before .before .before .before .before .before .before .before .before .before .before .before)) (after (word (c .before .before .before .before .before .before .before .before .before .before .before .before .before .before .before .before .before .before .before) .reading) (led-refused (sign (c .before .before .before .before .before .before .before .before .before .before .before .before .before .before .before)) h))))
 
   returns-5 : lts.Need-returns-5 claims (bind-at (just t)) bind.Post
   unfolding paid spare above
@@ -112,7 +112,7 @@ module _ (t : ℕ) where
       let z = right (c .before .before .before .before) in
       let p = start (c .before .before .before .before) .pre .1 in
       let l = binder-low (p .0) in
-      bound-answered (c .before .before .before .before .before .before .before .before .before .before .before .before .before .before .before .before .before .before .before .before .before .before .before .before .before .before .before .before .before .before .before .before .before .before .before .before .before .before .before .before .before .before .before .before .before .before .before .before .before .before .args .kind) (p .1) (record { pays = tt }) (led k (λ e. omega arith) (both (word (c .before .before .before .before .before .before .before .before .before .before .before .before .before .before .before .before .before .before .before .before .before .before .before .before) .reading) (led (sign (c .before .before .before .before .before .before .before .before .before .before .before .before .before .before .before .before .before .before .before .before)) (λ e. omega arith) (z .reading)))) (z .within) (inserted-as (starts k) refl refl (c .before .before .bound .ensures))
+      bound-answered (c .before .before .before .before .before .before .before .before .before .before .before .before .before .before .before .before .before .before .before .before .before .before .before .before .before .before .before .before .before .before .before .before .before .before .before .before .before .before .before .before .before .before .before .before .before .before .before .before .before .before .args .kind) (p .1) (record { pays = tt }) (led k (both (word (c .before .before .before .before .before .before .before .before .before .before .before .before .before .before .before .before .before .before .before .before .before .before .before .before) .reading) (led (sign (c .before .before .before .before .before .before .before .before .before .before .before .before .before .before .before .before .before .before .before .before)) (z .reading)))) (z .within) (inserted-as (starts k) refl refl (c .before .before .bound .ensures))
 
   pub spec : {M : Type 1} → lts.Closed claims (bind-at (just t)) bind.Post M
   spec = lts.spec claims (bind-at (just t)) bind.Post (λ c κs. search needs) (λ c. search needs) (λ c. search needs) returns name-requires (λ c. search needs) (λ c. search needs) (λ c. search needs) (λ c. search needs) (λ c. search needs) (λ c. search needs) returns-2 (λ c κs. word c .within .at) (λ c. search needs) (λ c. search needs) (λ c. search needs) (λ c. search needs) (λ c. search needs) (λ c. search needs) returns-3 expression-requires (λ c. search needs) (λ c. search needs) (λ c. omega (arith, word (c .before .before .before .before .before .before .before .before .before .before .before .before .before .before .before .before .before .before .before) .reading .rooms)) (λ c. omega (arith, word (c .before .before .before .before .before .before .before .before .before .before .before .before .before .before .before .before .before .before .before) .reading .rooms)) (λ c. omega (arith, word (c .before .before .before .before .before .before .before .before .before .before .before .before .before .before .before .before .before .before .before) .reading .rooms)) (λ c. search needs) returns-4 (λ c κs. free (start (c .before) .pre .1 .1 .lent) (right (c .before) .within)) (λ c. omega (arith, free (start (c .before .before .before .before) .pre .1 .1 .lent) (right (c .before .before .before .before) .within) .number)) (λ c. omega (arith, word (c .before .before .before .before .before .before .before .before .before .before .before .before .before .before .before .before .before .before .before .before .before .before .before .before) .reading .rooms, right (c .before .before .before .before) .reading .rooms)) (λ c. omega (arith, word (c .before .before .before .before .before .before .before .before .before .before .before .before .before .before .before .before .before .before .before .before .before .before .before .before) .reading .rooms, right (c .before .before .before .before) .reading .rooms)) (λ c. omega (arith, word (c .before .before .before .before .before .before .before .before .before .before .before .before .before .before .before .before .before .before .before .before .before .before .before .before) .reading .rooms, right (c .before .before .before .before) .reading .rooms)) (λ c. omega (arith, word (c .before .before .before .before .before .before .before .before .before .before .before .before .before .before .before .before .before .before .before .before .before .before .before .before) .reading .rooms, right (c .before .before .before .before) .reading .rooms)) returns-5

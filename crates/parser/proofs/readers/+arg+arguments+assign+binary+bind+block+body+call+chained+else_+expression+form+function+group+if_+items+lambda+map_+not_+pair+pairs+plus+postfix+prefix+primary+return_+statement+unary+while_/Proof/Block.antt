@@ -47,16 +47,16 @@ module _ (t : ℕ) where
   returns c = refuse (Refuses.too-deep (c .if1 .taken))
 
   returns-2 : lts.Need-returns-2 claims (block-at (just t)) block.Post
-  returns-2 c = lacks (c .enum-told .given .1) (c .before .before .consume .ensures) (omega arith) (λ n. inside (c .before .before .before .if1 .left) (Refuses.in-node (Refuses.missing n)))
+  returns-2 c = lacks (c .enum-told .given .1) (c .before .before .consume .ensures) (λ n. inside (c .before .before .before .if1 .left) (Refuses.in-node (Refuses.missing n)))
 
   items-requires : lts.Need-items-requires claims (block-at (just t)) block.Post
   items-requires c κs = (omega (arith, c .before .before .before .before .before .before .before .before .before .before .before .before .before .before .before .pre .0, c .before .before .before .before .before .before .before .before .if1 .left, past-at (lead (c .before .before .before .before)), asked (c .before .before .before .before) .within .at), ready-deep (asked (c .before .before .before .before)) (c .before .before .before .before .before .before .before .before .if1 .left))
 
   returns-3 : lts.Need-returns-3 claims (block-at (just t)) block.Post
-  returns-3 c = passed-fill (c .enum-told2 .given .1) (c .before .before .before .before .before .before .before .before .before .before .items .ensures) (λ x h. inside (c .before .before .before .before .before .before .before .before .before .before .before .before .before .before .before .before .before .before .before .if1 .left) (Refuses.in-node (led-refused _ (lead (c .before .before .before .before .before .before .before .before .before .before .before .before .before .before .before)) (λ e. omega arith) (Refuses.in-first h))))
+  returns-3 c = passed-fill (c .enum-told2 .given .1) (c .before .before .before .before .before .before .before .before .before .before .items .ensures) (λ x h. inside (c .before .before .before .before .before .before .before .before .before .before .before .before .before .before .before .before .before .before .before .if1 .left) (Refuses.in-node (led-refused (lead (c .before .before .before .before .before .before .before .before .before .before .before .before .before .before .before)) (Refuses.in-first h))))
 
   returns-4 : lts.Need-returns-4 claims (block-at (just t)) block.Post
-  returns-4 c = lacks (c .enum-told3 .given .1) (c .before .before .consume2 .ensures) (omega arith) (λ n. inside (c .before .before .before .before .before .before .before .before .before .before .before .before .before .before .before .before .before .before .before .before .before .before .before .if1 .left) (Refuses.in-node (led-refused _ (lead (c .before .before .before .before .before .before .before .before .before .before .before .before .before .before .before .before .before .before .before)) (λ e. omega arith) (after (statements (c .before .before .before) .reading) (Refuses.missing n)))))
+  returns-4 c = lacks (c .enum-told3 .given .1) (c .before .before .consume2 .ensures) (λ n. inside (c .before .before .before .before .before .before .before .before .before .before .before .before .before .before .before .before .before .before .before .before .before .before .before .if1 .left) (Refuses.in-node (led-refused (lead (c .before .before .before .before .before .before .before .before .before .before .before .before .before .before .before .before .before .before .before)) (after (statements (c .before .before .before) .reading) (Refuses.missing n)))))
 
   returns-5 : lts.Need-returns-5 claims (block-at (just t)) block.Post
   unfolding paid spare
@@ -64,7 +64,7 @@ module _ (t : ℕ) where
       let g = c .before .before .before .before .before .before .gather .ensures in
       let l = fill-reading (token-held (lead (c .before .before .before .before .before .before .before .before .before .before .before .before .before .before .before .before .before .before .before .before .before .before .before .before .before .before .before .before .before .before))) (statements (c .before .before .before .before .before .before .before .before .before .before .before .before .before .before)) in
       let w = within (c .before .before .before .before .before .before .before .before .before .before) in
-      gathered-answer (c .before .before .before .before .before .before .before .before .before .before .before .before .before .before .before .before .before .before .before .before .before .before .before .before .before .before .before .before .before .before .before .before .before .before .before .before .before .before .before .before .before .pre .1) (record { pays = tt }) w g (opened (labelled (led (lead (c .before .before .before .before .before .before .before .before .before .before .before .before .before .before .before .before .before .before .before .before .before .before .before .before .before .before .before .before .before .before)) (λ e. omega arith) (token-closes (close (c .before .before .before .before .before .before .before .before .before .before)) (λ e. omega arith) (omega (arith, c .before .before .before .before .before .before .before .before .before .before .before .before .before .before .before .before .before .before .before .before .before .before .before .before .before .before .before .before .before .before .before .before .before .before .if1 .left)) l)) (block-made w g (starts (lead (c .before .before .before .before .before .before .before .before .before .before .before .before .before .before .before .before .before .before .before .before .before .before .before .before .before .before .before .before .before .before))) (kept (c .before .before .before .before .before .before .before .before .before .before)) (token-end (close (c .before .before .before .before .before .before .before .before .before .before))) (statements (c .before .before .before .before .before .before .before .before .before .before .before .before .before .before) .tail) (c .before .before .block .ensures))))
+      gathered-answer (c .before .before .before .before .before .before .before .before .before .before .before .before .before .before .before .before .before .before .before .before .before .before .before .before .before .before .before .before .before .before .before .before .before .before .before .before .before .before .before .before .before .pre .1) (record { pays = tt }) w g (opened (labelled (led (lead (c .before .before .before .before .before .before .before .before .before .before .before .before .before .before .before .before .before .before .before .before .before .before .before .before .before .before .before .before .before .before)) (token-closes (close (c .before .before .before .before .before .before .before .before .before .before)) (omega (arith, c .before .before .before .before .before .before .before .before .before .before .before .before .before .before .before .before .before .before .before .before .before .before .before .before .before .before .before .before .before .before .before .before .before .before .if1 .left)) l)) (block-made w g (starts (lead (c .before .before .before .before .before .before .before .before .before .before .before .before .before .before .before .before .before .before .before .before .before .before .before .before .before .before .before .before .before .before))) (kept (c .before .before .before .before .before .before .before .before .before .before)) (token-end (close (c .before .before .before .before .before .before .before .before .before .before))) (statements (c .before .before .before .before .before .before .before .before .before .before .before .before .before .before) .tail) (c .before .before .block .ensures))))
 
   pub spec : {M : Type 1} → lts.Closed claims (block-at (just t)) block.Post M
   spec = lts.spec claims (block-at (just t)) block.Post returns (λ c κs. search needs) (λ c. search needs) (λ c. search needs) returns-2 (λ c. search needs) items-requires (λ c. search needs) (λ c. search needs) (λ c. search needs) (λ c. search needs) (λ c. search needs) (λ c. search needs) returns-3 (λ c κs. statements c .within .at) (λ c. search needs) (λ c. search needs) (λ c. search needs) (λ c. search needs) (λ c. search needs) (λ c. search needs) returns-4 (λ c. kept-under (kept (c .before))) (λ c κs. gather-asks (asked (c .before .before .before .before .before .before .before .before .before .before .before .before .before .before .before .before .before .before .before .before .before .before .before) .lent) (within (c .before .before .before)) (kept-under (kept (c .before .before .before)))) (λ c. omega (arith, numbers-fit (asked (c .before .before .before .before .before .before .before .before .before .before .before .before .before .before .before .before .before .before .before .before .before .before .before .before .before .before .before) .lent) (within (c .before .before .before .before .before .before .before)) .0)) (λ c. omega (arith, numbers-fit (asked (c .before .before .before .before .before .before .before .before .before .before .before .before .before .before .before .before .before .before .before .before .before .before .before .before .before .before .before) .lent) (within (c .before .before .before .before .before .before .before)) .1)) (λ c κs. gathered-free (asked (c .before .before .before .before .before .before .before .before .before .before .before .before .before .before .before .before .before .before .before .before .before .before .before .before .before .before .before) .lent) (within (c .before .before .before .before .before .before .before)) (c .before .before .before .gather .ensures)) (λ c. omega (arith, gathered-free (asked (c .before .before .before .before .before .before .before .before .before .before .before .before .before .before .before .before .before .before .before .before .before .before .before .before .before .before .before .before .before .before) .lent) (within (c .before .before .before .before .before .before .before .before .before .before)) (c .before .before .before .before .before .before .gather .ensures) .number)) (λ c. omega (arith, statements (c .before .before .before .before .before .before .before .before .before .before .before .before .before .before) .reading .rooms)) (λ c. omega (arith, statements (c .before .before .before .before .before .before .before .before .before .before .before .before .before .before) .reading .rooms)) (λ c. omega (arith, statements (c .before .before .before .before .before .before .before .before .before .before .before .before .before .before) .reading .rooms)) (λ c. omega (arith, statements (c .before .before .before .before .before .before .before .before .before .before .before .before .before .before) .reading .rooms)) returns-5

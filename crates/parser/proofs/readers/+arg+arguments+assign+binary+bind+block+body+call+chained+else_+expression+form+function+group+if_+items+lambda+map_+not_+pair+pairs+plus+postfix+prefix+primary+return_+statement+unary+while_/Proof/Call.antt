@@ -2,15 +2,11 @@
 use Prim.Native.Nat.{ℕ}
 use borrow.Author.Needs.{needs}
 use native.Mathlib.Omega.{arith}
-use mathlib.Core.List.{List}
 use mathlib.Core.Path.{_≡_, ap}
-use Rattle.grammar.specs.Float.{seen}
 use Rattle.grammar.specs.Kaori.{kaori, rules, row, function-call as form, calls}
 use Rattle.grammar.specs.Kind.{LeftParen}
 use Rattle.grammar.specs.Label.{Node}
 use Rattle.grammar.specs.Refusal.{Refuses}
-use Rattle.grammar.specs.Token.{kind}
-use Rattle.reading.proofs.Laws.{sees}
 use Rattle.reading.proofs.Replies.{token-taken, listed, after, further}
 use Rattle.reading.proofs.Chains.{going-link, goes, stops-lacking, stopped-list}
 use Rattle.reading.proofs.Taking.{Taken-by, led, ready-led, led-refused, starts, past-at}
@@ -27,9 +23,9 @@ use Rattle.ast.proofs.function_call.Reads as function-call-reads
 use Rattle.reading.proofs.lists.gather.Reads as gather-reads
 
 -- a `(` after a callee is a call
-call-link : (text ts : List ℕ) (a : ℕ) → kind ts a ≡ LeftParen → kaori calls (seen text ts a) ≡ row Node.FunctionCall form
+call-link : {x : ℕ} → x ≡ LeftParen → kaori calls x ≡ row Node.FunctionCall form
 unfolding kaori rules
-call-link text ts a k = ap (kaori calls) (sees text ts a k (λ e. omega arith))
+call-link k = ap (kaori calls) k
 
 module _ (t : ℕ) where
   abbrev claims : lts.Claims
@@ -57,23 +53,23 @@ module _ (t : ℕ) where
   kept c = kept-as (list-kept (token-held (lead (c .before .before .before .before .before .before .before .before .before .before .before .before .before .before .before .before .before .before .before .before))) (items (c .before .before .before .before)) (asked (c .before .before .before .before .before .before .before .before .before .before .before .before .before .before .before .before .before .before .before .before) .within)) (token-held (close c))
 
   returns : lts.Need-returns claims (call-at (just t)) call.Post
-  returns c = stops-lacking (c .enum-told .given .1) (c .before .before .consume .ensures) (omega arith) (λ s b n. further b (call-link _ _ _ (c .before .before .before .before .before .before .before .before .before .pre .1 .0)) (Refuses.missing n))
+  returns c = stops-lacking (c .enum-told .given .1) (c .before .before .consume .ensures) (λ s b n. further b (call-link (c .before .before .before .before .before .before .before .before .before .pre .1 .0)) (Refuses.missing n))
 
   arguments-requires : lts.Need-arguments-requires claims (call-at (just t)) call.Post
   arguments-requires c κs = (omega (arith, c .before .before .before .before .before .before .before .before .before .before .before .before .before .before .pre .0, past-at (lead (c .before .before .before .before)), asked (c .before .before .before .before) .within .at), asked (c .before .before .before .before))
 
   returns-2 : lts.Need-returns-2 claims (call-at (just t)) call.Post
-  returns-2 c = stopped-list (c .enum-told2 .given .1) (c .before .before .before .before .before .before .before .before .before .before .arguments .ensures) (λ s x b h. further b (call-link _ _ _ (c .before .before .before .before .before .before .before .before .before .before .before .before .before .before .before .before .before .before .before .before .before .before .before .before .before .pre .1 .0)) (led-refused _ (lead (c .before .before .before .before .before .before .before .before .before .before .before .before .before .before .before)) (λ e. omega arith) (Refuses.in-first h)))
+  returns-2 c = stopped-list (c .enum-told2 .given .1) (c .before .before .before .before .before .before .before .before .before .before .arguments .ensures) (λ s x b h. further b (call-link (c .before .before .before .before .before .before .before .before .before .before .before .before .before .before .before .before .before .before .before .before .before .before .before .before .before .pre .1 .0)) (led-refused (lead (c .before .before .before .before .before .before .before .before .before .before .before .before .before .before .before)) (Refuses.in-first h)))
 
   returns-3 : lts.Need-returns-3 claims (call-at (just t)) call.Post
-  returns-3 c = stops-lacking (c .enum-told3 .given .1) (c .before .before .consume2 .ensures) (omega arith) (λ s b n. further b (call-link _ _ _ (c .before .before .before .before .before .before .before .before .before .before .before .before .before .before .before .before .before .before .before .before .before .before .before .before .before .before .before .before .before .pre .1 .0)) (led-refused _ (lead (c .before .before .before .before .before .before .before .before .before .before .before .before .before .before .before .before .before .before .before)) (λ e. omega arith) (after (items (c .before .before .before) .reading) (Refuses.missing n))))
+  returns-3 c = stops-lacking (c .enum-told3 .given .1) (c .before .before .consume2 .ensures) (λ s b n. further b (call-link (c .before .before .before .before .before .before .before .before .before .before .before .before .before .before .before .before .before .before .before .before .before .before .before .before .before .before .before .before .before .pre .1 .0)) (led-refused (lead (c .before .before .before .before .before .before .before .before .before .before .before .before .before .before .before .before .before .before .before)) (after (items (c .before .before .before) .reading) (Refuses.missing n))))
 
   returns-4 : lts.Need-returns-4 claims (call-at (just t)) call.Post
   returns-4 c =
       let g = c .before .before .before .before .before .before .gather .ensures in
       let l = list-reading (token-held (lead (c .before .before .before .before .before .before .before .before .before .before .before .before .before .before .before .before .before .before .before .before .before .before .before .before .before .before .before .before .before .before))) (items (c .before .before .before .before .before .before .before .before .before .before .before .before .before .before)) in
       let w = within (c .before .before .before .before .before .before .before .before .before .before) in
-      goes (omega (arith, gathered-at g, past-at (close (c .before .before .before .before .before .before .before .before .before .before)), past-at (lead (c .before .before .before .before .before .before .before .before .before .before .before .before .before .before .before .before .before .before .before .before .before .before .before .before .before .before .before .before .before .before)), items (c .before .before .before .before .before .before .before .before .before .before .before .before .before .before) .past)) (going-link (c .before .before .before .before .before .before .before .before .before .before .before .before .before .before .before .before .before .before .before .before .before .before .before .before .before .before .before .before .before .before .before .before .before .before .before .before .before .before .before .before .pre .1 .1 .within) (call-link _ _ _ (c .before .before .before .before .before .before .before .before .before .before .before .before .before .before .before .before .before .before .before .before .before .before .before .before .before .before .before .before .before .before .before .before .before .before .before .before .before .before .before .before .pre .1 .0)) (led (lead (c .before .before .before .before .before .before .before .before .before .before .before .before .before .before .before .before .before .before .before .before .before .before .before .before .before .before .before .before .before .before)) (λ e. omega arith) (token-closes (close (c .before .before .before .before .before .before .before .before .before .before)) (λ e. omega arith) (c .before .before .before .before .before .before .before .before .before .before .before .before .before .before .before .before .before .before .before .before .before .before .before .before .before .before .before .before .before .before .before .before .before .before .before .before .before .before .before .before .pre .1 .1 .deep) l)) (call-made w g (starts (lead (c .before .before .before .before .before .before .before .before .before .before .before .before .before .before .before .before .before .before .before .before .before .before .before .before .before .before .before .before .before .before))) (kept (c .before .before .before .before .before .before .before .before .before .before)) (token-end (close (c .before .before .before .before .before .before .before .before .before .before))) (c .before .before .function-call .ensures)) (w .at) (gathered-table w g))
+      goes (omega (arith, gathered-at g, past-at (close (c .before .before .before .before .before .before .before .before .before .before)), past-at (lead (c .before .before .before .before .before .before .before .before .before .before .before .before .before .before .before .before .before .before .before .before .before .before .before .before .before .before .before .before .before .before)), items (c .before .before .before .before .before .before .before .before .before .before .before .before .before .before) .past)) (going-link (c .before .before .before .before .before .before .before .before .before .before .before .before .before .before .before .before .before .before .before .before .before .before .before .before .before .before .before .before .before .before .before .before .before .before .before .before .before .before .before .before .pre .1 .1 .within) (call-link (c .before .before .before .before .before .before .before .before .before .before .before .before .before .before .before .before .before .before .before .before .before .before .before .before .before .before .before .before .before .before .before .before .before .before .before .before .before .before .before .before .pre .1 .0)) (led (lead (c .before .before .before .before .before .before .before .before .before .before .before .before .before .before .before .before .before .before .before .before .before .before .before .before .before .before .before .before .before .before)) (token-closes (close (c .before .before .before .before .before .before .before .before .before .before)) (c .before .before .before .before .before .before .before .before .before .before .before .before .before .before .before .before .before .before .before .before .before .before .before .before .before .before .before .before .before .before .before .before .before .before .before .before .before .before .before .before .pre .1 .1 .deep) l)) (call-made w g (starts (lead (c .before .before .before .before .before .before .before .before .before .before .before .before .before .before .before .before .before .before .before .before .before .before .before .before .before .before .before .before .before .before))) (kept (c .before .before .before .before .before .before .before .before .before .before)) (token-end (close (c .before .before .before .before .before .before .before .before .before .before))) (c .before .before .function-call .ensures)) (w .at) (gathered-table w g))
 
   pub spec : {M : Type 1} → lts.Closed claims (call-at (just t)) call.Post M
   spec = lts.spec claims (call-at (just t)) call.Post (λ c κs. search needs) (λ c. search needs) (λ c. search needs) returns arguments-requires (λ c. search needs) (λ c. search needs) (λ c. search needs) (λ c. search needs) (λ c. search needs) (λ c. search needs) returns-2 (λ c κs. items c .within .at) (λ c. search needs) (λ c. search needs) (λ c. search needs) (λ c. search needs) (λ c. search needs) (λ c. search needs) returns-3 (λ c. kept-under (kept (c .before))) (λ c κs. gather-asks (asked (c .before .before .before .before .before .before .before .before .before .before .before .before .before .before .before .before .before .before .before .before .before .before .before) .lent) (within (c .before .before .before)) (kept-under (kept (c .before .before .before)))) (λ c. omega (arith, numbers-fit (asked (c .before .before .before .before .before .before .before .before .before .before .before .before .before .before .before .before .before .before .before .before .before .before .before .before .before .before .before) .lent) (within (c .before .before .before .before .before .before .before)) .0)) (λ c. omega (arith, numbers-fit (asked (c .before .before .before .before .before .before .before .before .before .before .before .before .before .before .before .before .before .before .before .before .before .before .before .before .before .before .before) .lent) (within (c .before .before .before .before .before .before .before)) .1)) (λ c κs. gathered-free (asked (c .before .before .before .before .before .before .before .before .before .before .before .before .before .before .before .before .before .before .before .before .before .before .before .before .before .before .before) .lent) (within (c .before .before .before .before .before .before .before)) (c .before .before .before .gather .ensures)) (λ c. omega (arith, gathered-free (asked (c .before .before .before .before .before .before .before .before .before .before .before .before .before .before .before .before .before .before .before .before .before .before .before .before .before .before .before .before .before .before) .lent) (within (c .before .before .before .before .before .before .before .before .before .before)) (c .before .before .before .before .before .before .gather .ensures) .number)) (λ c. omega (arith, items (c .before .before .before .before .before .before .before .before .before .before .before .before .before .before) .reading .rooms)) (λ c. omega (arith, items (c .before .before .before .before .before .before .before .before .before .before .before .before .before .before) .reading .rooms)) (λ c. omega (arith, items (c .before .before .before .before .before .before .before .before .before .before .before .before .before .before) .reading .rooms)) (λ c. omega (arith, items (c .before .before .before .before .before .before .before .before .before .before .before .before .before .before) .reading .rooms)) returns-4

@@ -36,7 +36,7 @@ module _ (t : ℕ) where
   returns-2 c =
       let z = part (c .before .before) in
       let k = c .before .kind-at .ensures in
-      answered (record { reading = ended (no-call _ _ _ (λ e. c .match2 .rest .1 (inl (k ∙ e))) (λ e. c .match2 .rest .1 (inr (k ∙ e)))) (first (z .reading)); within = z .within; past = z .past })
+      answered (record { reading = ended (no-call (λ e. c .match2 .rest .1 (inl (k ∙ e))) (λ e. c .match2 .rest .1 (inr (k ∙ e)))) (first (z .reading)); within = z .within; past = z .past })
 
   postfix-requires : lts.Need-postfix-requires claims (chained-at (just t)) chained.Post
   unfolding paid spare

@@ -1,7 +1,6 @@
 -- The kind of its first token picks a statement's form.
 use Prim.Native.Nat.{ℕ}
 use borrow.Author.Needs.{needs}
-use native.Mathlib.Omega.{arith}
 use mathlib.Core.Logic.{inl, inr, ⊎-elim}
 use mathlib.Core.Path.{ap, sym, _∙_}
 use Rattle.grammar.specs.Refusal.{Refuses}
@@ -35,7 +34,7 @@ module _ (t : ℕ) where
   single-requires c κs =
       let r = c .before .before .before .before .before .before .before .match .rest .0 .0 .0 in
       let w = keyword-of (c .before .before .before .before .before .before .before .before .kind-at .result) (c .before .before .before .before .before .if2 .left) (r .0 .0 .1) (r .0 .1) (r .1) (c .before .before .before .before .if3 .taken) in
-      (keyword-single w, ((λ e. absurd (omega (arith, e, c .before .before .before .before .if3 .taken))), c .before .before .before .before .before .before .before .before .before .before .before .before .before .before .before .pre .1))
+      (keyword-single w, c .before .before .before .before .before .before .before .before .before .before .before .before .before .before .before .pre .1)
 
   returns : lts.Need-returns claims (form-at (just t)) form.Post
   unfolding form-of

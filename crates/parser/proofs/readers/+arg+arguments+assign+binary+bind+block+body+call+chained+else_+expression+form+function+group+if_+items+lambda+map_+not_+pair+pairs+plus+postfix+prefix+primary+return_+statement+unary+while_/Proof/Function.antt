@@ -65,30 +65,30 @@ module _ (t : ℕ) where
   kept c = kept-on (held (c .before .before .before .before .before .before .before .before .before .before .before .before .before .before .before .before)) (part c .reading)
 
   returns : lts.Need-returns claims (function-at (just t)) function.Post
-  returns c = lacks (c .enum-told .given .1) (c .before .before .consume .ensures) (omega arith) (λ n. Refuses.in-node (Refuses.missing n))
+  returns c = lacks (c .enum-told .given .1) (c .before .before .consume .ensures) (λ n. Refuses.in-node (Refuses.missing n))
 
   returns-2 : lts.Need-returns-2 claims (function-at (just t)) function.Post
-  returns-2 c = passed (c .enum-told2 .given .1) (c .before .before .before .before .before .before .before .before .before .before .name .ensures) (λ x h. Refuses.in-node (led-refused _ (lead (c .before .before .before .before .before .before .before .before .before .before .before .before .before .before .before)) (λ e. omega arith) (Refuses.in-first (Refuses.in-first h))))
+  returns-2 c = passed (c .enum-told2 .given .1) (c .before .before .before .before .before .before .before .before .before .before .name .ensures) (λ x h. Refuses.in-node (led-refused (lead (c .before .before .before .before .before .before .before .before .before .before .before .before .before .before .before)) (Refuses.in-first (Refuses.in-first h))))
 
   returns-3 : lts.Need-returns-3 claims (function-at (just t)) function.Post
-  returns-3 c = lacks (c .enum-told3 .given .1) (c .before .before .consume2 .ensures) (omega arith) (λ n. Refuses.in-node (led-refused _ (lead (c .before .before .before .before .before .before .before .before .before .before .before .before .before .before .before .before .before .before .before)) (λ e. omega arith) (Refuses.in-first (after (word (c .before .before .before) .reading) (Refuses.missing n)))))
+  returns-3 c = lacks (c .enum-told3 .given .1) (c .before .before .consume2 .ensures) (λ n. Refuses.in-node (led-refused (lead (c .before .before .before .before .before .before .before .before .before .before .before .before .before .before .before .before .before .before .before)) (Refuses.in-first (after (word (c .before .before .before) .reading) (Refuses.missing n)))))
 
   names-requires : lts.Need-names-requires claims (function-at (just t)) function.Post
   names-requires c κs = (record { known = inr (inl refl) }, ready-on (asked (c .before .before .before .before .before .before .before .before .before .before .before .before .before .before .before .before .before .before .before .before .before .before .before .before)) (named (c .before .before .before .before)))
 
   returns-4 : lts.Need-returns-4 claims (function-at (just t)) function.Post
-  returns-4 c = passed-list (c .enum-told4 .given .1) (c .before .before .before .before .before .before .before .before .before .before .names .ensures) (λ x h. Refuses.in-node (led-refused _ (lead (c .before .before .before .before .before .before .before .before .before .before .before .before .before .before .before .before .before .before .before .before .before .before .before .before .before .before .before .before .before .before .before .before .before .before .before)) (λ e. omega arith) (Refuses.in-first (after (word (c .before .before .before .before .before .before .before .before .before .before .before .before .before .before .before .before .before .before .before) .reading) (led-refused _ (paren (c .before .before .before .before .before .before .before .before .before .before .before .before .before .before .before)) (λ e. omega arith) (Refuses.in-first h))))))
+  returns-4 c = passed-list (c .enum-told4 .given .1) (c .before .before .before .before .before .before .before .before .before .before .names .ensures) (λ x h. Refuses.in-node (led-refused (lead (c .before .before .before .before .before .before .before .before .before .before .before .before .before .before .before .before .before .before .before .before .before .before .before .before .before .before .before .before .before .before .before .before .before .before .before)) (Refuses.in-first (after (word (c .before .before .before .before .before .before .before .before .before .before .before .before .before .before .before .before .before .before .before) .reading) (led-refused (paren (c .before .before .before .before .before .before .before .before .before .before .before .before .before .before .before)) (Refuses.in-first h))))))
 
   returns-5 : lts.Need-returns-5 claims (function-at (just t)) function.Post
-  returns-5 c = lacks (c .enum-told5 .given .1) (c .before .before .consume3 .ensures) (omega arith) (λ n. Refuses.in-node (led-refused _ (lead (c .before .before .before .before .before .before .before .before .before .before .before .before .before .before .before .before .before .before .before .before .before .before .before .before .before .before .before .before .before .before .before .before .before .before .before .before .before .before .before)) (λ e. omega arith) (Refuses.in-first (after (word (c .before .before .before .before .before .before .before .before .before .before .before .before .before .before .before .before .before .before .before .before .before .before .before) .reading) (led-refused _ (paren (c .before .before .before .before .before .before .before .before .before .before .before .before .before .before .before .before .before .before .before)) (λ e. omega arith) (after (names (c .before .before .before) .reading) (Refuses.missing n)))))))
+  returns-5 c = lacks (c .enum-told5 .given .1) (c .before .before .consume3 .ensures) (λ n. Refuses.in-node (led-refused (lead (c .before .before .before .before .before .before .before .before .before .before .before .before .before .before .before .before .before .before .before .before .before .before .before .before .before .before .before .before .before .before .before .before .before .before .before .before .before .before .before)) (Refuses.in-first (after (word (c .before .before .before .before .before .before .before .before .before .before .before .before .before .before .before .before .before .before .before .before .before .before .before) .reading) (led-refused (paren (c .before .before .before .before .before .before .before .before .before .before .before .before .before .before .before .before .before .before .before)) (after (names (c .before .before .before) .reading) (Refuses.missing n)))))))
 
   block-requires : lts.Need-block-requires claims (function-at (just t)) function.Post
   block-requires c κs = (omega (arith, c .before .before .before .before .before .before .before .before .before .before .before .before .before .before .before .before .before .before .before .before .before .before .before .before .before .before .before .before .before .before .before .before .before .before .before .before .before .before .before .before .before .before .before .before .before .before .before .before .before .before .before .before .before .before .pre .0, past-at (lead (c .before .before .before .before .before .before .before .before .before .before .before .before .before .before .before .before .before .before .before .before .before .before .before .before .before .before .before .before .before .before .before .before .before .before .before .before .before .before .before .before .before .before .before .before)), word (c .before .before .before .before .before .before .before .before .before .before .before .before .before .before .before .before .before .before .before .before .before .before .before .before .before .before .before .before) .past, past-at (paren (c .before .before .before .before .before .before .before .before .before .before .before .before .before .before .before .before .before .before .before .before .before .before .before .before)), names (c .before .before .before .before .before .before .before .before) .past, past-at (close (c .before .before .before .before)), within (c .before .before .before .before) .at), ready-on (asked (c .before .before .before .before .before .before .before .before .before .before .before .before .before .before .before .before .before .before .before .before .before .before .before .before .before .before .before .before .before .before .before .before .before .before .before .before .before .before .before .before .before .before .before .before)) (within (c .before .before .before .before)))
 
   returns-6 : lts.Need-returns-6 claims (function-at (just t)) function.Post
   returns-6 c =
-      let f = both (word (c .before .before .before .before .before .before .before .before .before .before .before .before .before .before .before .before .before .before .before .before .before .before .before .before .before .before .before .before .before .before .before .before .before .before .before .before .before .before .before) .reading) (led (paren (c .before .before .before .before .before .before .before .before .before .before .before .before .before .before .before .before .before .before .before .before .before .before .before .before .before .before .before .before .before .before .before .before .before .before .before)) (λ e. omega arith) (token-closes (close (c .before .before .before .before .before .before .before .before .before .before .before .before .before .before .before)) (λ e. omega arith) (c .before .before .before .before .before .before .before .before .before .before .before .before .before .before .before .before .before .before .before .before .before .before .before .before .before .before .before .before .before .before .before .before .before .before .before .before .before .before .before .before .before .before .before .before .before .before .before .before .before .before .before .before .before .before .before .before .before .before .before .before .before .before .before .before .before .pre .1 .deep) (names (c .before .before .before .before .before .before .before .before .before .before .before .before .before .before .before .before .before .before .before) .reading))) in
-      passed (c .enum-told6 .given .1) (c .before .before .before .before .before .before .before .before .before .before .block .ensures) (λ x h. Refuses.in-node (led-refused _ (lead (c .before .before .before .before .before .before .before .before .before .before .before .before .before .before .before .before .before .before .before .before .before .before .before .before .before .before .before .before .before .before .before .before .before .before .before .before .before .before .before .before .before .before .before .before .before .before .before .before .before .before .before .before .before .before .before)) (λ e. omega arith) (after f h)))
+      let f = both (word (c .before .before .before .before .before .before .before .before .before .before .before .before .before .before .before .before .before .before .before .before .before .before .before .before .before .before .before .before .before .before .before .before .before .before .before .before .before .before .before) .reading) (led (paren (c .before .before .before .before .before .before .before .before .before .before .before .before .before .before .before .before .before .before .before .before .before .before .before .before .before .before .before .before .before .before .before .before .before .before .before)) (token-closes (close (c .before .before .before .before .before .before .before .before .before .before .before .before .before .before .before)) (c .before .before .before .before .before .before .before .before .before .before .before .before .before .before .before .before .before .before .before .before .before .before .before .before .before .before .before .before .before .before .before .before .before .before .before .before .before .before .before .before .before .before .before .before .before .before .before .before .before .before .before .before .before .before .before .before .before .before .before .before .before .before .before .before .before .pre .1 .deep) (names (c .before .before .before .before .before .before .before .before .before .before .before .before .before .before .before .before .before .before .before) .reading))) in
+      passed (c .enum-told6 .given .1) (c .before .before .before .before .before .before .before .before .before .before .block .ensures) (λ x h. Refuses.in-node (led-refused (lead (c .before .before .before .before .before .before .before .before .before .before .before .before .before .before .before .before .before .before .before .before .before .before .before .before .before .before .before .before .before .before .before .before .before .before .before .before .before .before .before .before .before .before .before .before .before .before .before .before .before .before .before .before .before .before .before)) (after f h)))
 
   returns-7 : lts.Need-returns-7 claims (function-at (just t)) function.Post
   unfolding paid spare
@@ -96,9 +96,9 @@ module _ (t : ℕ) where
       let g = c .before .before .before .before .before .before .gather .ensures in
       let z = part (c .before .before .before .before .before .before .before .before .before .before) in
       let l = list-reading (token-held (paren (c .before .before .before .before .before .before .before .before .before .before .before .before .before .before .before .before .before .before .before .before .before .before .before .before .before .before .before .before .before .before .before .before .before .before .before .before .before .before .before .before .before .before .before .before .before .before)) ∙ word (c .before .before .before .before .before .before .before .before .before .before .before .before .before .before .before .before .before .before .before .before .before .before .before .before .before .before .before .before .before .before .before .before .before .before .before .before .before .before .before .before .before .before .before .before .before .before .before .before .before .before) .reading .holds ∙ token-held (lead (c .before .before .before .before .before .before .before .before .before .before .before .before .before .before .before .before .before .before .before .before .before .before .before .before .before .before .before .before .before .before .before .before .before .before .before .before .before .before .before .before .before .before .before .before .before .before .before .before .before .before .before .before .before .before .before .before .before .before .before .before .before .before .before .before .before .before))) (names (c .before .before .before .before .before .before .before .before .before .before .before .before .before .before .before .before .before .before .before .before .before .before .before .before .before .before .before .before .before .before)) in
-      let f = both (word (c .before .before .before .before .before .before .before .before .before .before .before .before .before .before .before .before .before .before .before .before .before .before .before .before .before .before .before .before .before .before .before .before .before .before .before .before .before .before .before .before .before .before .before .before .before .before .before .before .before .before) .reading) (led (paren (c .before .before .before .before .before .before .before .before .before .before .before .before .before .before .before .before .before .before .before .before .before .before .before .before .before .before .before .before .before .before .before .before .before .before .before .before .before .before .before .before .before .before .before .before .before .before)) (λ e. omega arith) (token-closes (close (c .before .before .before .before .before .before .before .before .before .before .before .before .before .before .before .before .before .before .before .before .before .before .before .before .before .before)) (λ e. omega arith) (c .before .before .before .before .before .before .before .before .before .before .before .before .before .before .before .before .before .before .before .before .before .before .before .before .before .before .before .before .before .before .before .before .before .before .before .before .before .before .before .before .before .before .before .before .before .before .before .before .before .before .before .before .before .before .before .before .before .before .before .before .before .before .before .before .before .before .before .before .before .before .before .before .before .before .before .before .pre .1 .deep) l)) in
+      let f = both (word (c .before .before .before .before .before .before .before .before .before .before .before .before .before .before .before .before .before .before .before .before .before .before .before .before .before .before .before .before .before .before .before .before .before .before .before .before .before .before .before .before .before .before .before .before .before .before .before .before .before .before) .reading) (led (paren (c .before .before .before .before .before .before .before .before .before .before .before .before .before .before .before .before .before .before .before .before .before .before .before .before .before .before .before .before .before .before .before .before .before .before .before .before .before .before .before .before .before .before .before .before .before .before)) (token-closes (close (c .before .before .before .before .before .before .before .before .before .before .before .before .before .before .before .before .before .before .before .before .before .before .before .before .before .before)) (c .before .before .before .before .before .before .before .before .before .before .before .before .before .before .before .before .before .before .before .before .before .before .before .before .before .before .before .before .before .before .before .before .before .before .before .before .before .before .before .before .before .before .before .before .before .before .before .before .before .before .before .before .before .before .before .before .before .before .before .before .before .before .before .before .before .before .before .before .before .before .before .before .before .before .before .before .pre .1 .deep) l)) in
       let b = lower (c .before .before .before .before .before .before .before .before .before .before .before .before .before .before .before .before .before .before .before .before .before .before .before .before .before .before .before .before .before .before .before .before .before .before .before .before .before .before .before .before .before .before .before .before .before .before .before .before .before .before .before .before .before .before .before .before .before .before .before .before .before .before .before .before .before .before .before .before .before .before .before .before .before .before .before .before .args .cur .held) (kept-under (held (c .before .before .before .before .before .before .before .before .before .before .before .before .before .before .before .before .before .before .before .before .before .before .before .before .before .before))) (z .reading) in
-      gathered-answer (c .before .before .before .before .before .before .before .before .before .before .before .before .before .before .before .before .before .before .before .before .before .before .before .before .before .before .before .before .before .before .before .before .before .before .before .before .before .before .before .before .before .before .before .before .before .before .before .before .before .before .before .before .before .before .before .before .before .before .before .before .before .before .before .before .before .before .before .before .before .before .before .before .before .before .before .before .pre .1) (record { pays = tt }) (z .within) g (labelled (led (lead (c .before .before .before .before .before .before .before .before .before .before .before .before .before .before .before .before .before .before .before .before .before .before .before .before .before .before .before .before .before .before .before .before .before .before .before .before .before .before .before .before .before .before .before .before .before .before .before .before .before .before .before .before .before .before .before .before .before .before .before .before .before .before .before .before .before .before)) (λ e. omega arith) (both-first f b)) (function-made (z .within) g (starts (lead (c .before .before .before .before .before .before .before .before .before .before .before .before .before .before .before .before .before .before .before .before .before .before .before .before .before .before .before .before .before .before .before .before .before .before .before .before .before .before .before .before .before .before .before .before .before .before .before .before .before .before .before .before .before .before .before .before .before .before .before .before .before .before .before .before .before .before))) (kept (c .before .before .before .before .before .before .before .before .before .before)) (c .before .before .function .ensures)))
+      gathered-answer (c .before .before .before .before .before .before .before .before .before .before .before .before .before .before .before .before .before .before .before .before .before .before .before .before .before .before .before .before .before .before .before .before .before .before .before .before .before .before .before .before .before .before .before .before .before .before .before .before .before .before .before .before .before .before .before .before .before .before .before .before .before .before .before .before .before .before .before .before .before .before .before .before .before .before .before .before .pre .1) (record { pays = tt }) (z .within) g (labelled (led (lead (c .before .before .before .before .before .before .before .before .before .before .before .before .before .before .before .before .before .before .before .before .before .before .before .before .before .before .before .before .before .before .before .before .before .before .before .before .before .before .before .before .before .before .before .before .before .before .before .before .before .before .before .before .before .before .before .before .before .before .before .before .before .before .before .before .before .before)) (both-first f b)) (function-made (z .within) g (starts (lead (c .before .before .before .before .before .before .before .before .before .before .before .before .before .before .before .before .before .before .before .before .before .before .before .before .before .before .before .before .before .before .before .before .before .before .before .before .before .before .before .before .before .before .before .before .before .before .before .before .before .before .before .before .before .before .before .before .before .before .before .before .before .before .before .before .before .before))) (kept (c .before .before .before .before .before .before .before .before .before .before)) (c .before .before .function .ensures)))
 
   pub spec : {M : Type 1} → lts.Closed claims (function-at (just t)) function.Post M
   spec = lts.spec claims (function-at (just t)) function.Post (λ c κs. search needs) (λ c. search needs) (λ c. search needs) returns (λ c κs. asked (c .before .before .before .before)) (λ c. search needs) (λ c. search needs) (λ c. search needs) (λ c. search needs) (λ c. search needs) (λ c. search needs) returns-2 (λ c κs. word c .within .at) (λ c. search needs) (λ c. search needs) (λ c. search needs) (λ c. search needs) (λ c. search needs) (λ c. search needs) returns-3 names-requires (λ c. search needs) (λ c. search needs) (λ c. omega (arith, word (c .before .before .before .before .before .before .before .before .before .before .before .before .before .before .before .before .before .before .before) .reading .rooms)) (λ c. omega (arith, word (c .before .before .before .before .before .before .before .before .before .before .before .before .before .before .before .before .before .before .before) .reading .rooms)) (λ c. omega (arith, word (c .before .before .before .before .before .before .before .before .before .before .before .before .before .before .before .before .before .before .before) .reading .rooms)) (λ c. search needs) returns-4 (λ c κs. names c .within .at) (λ c. search needs) (λ c. search needs) (λ c. omega (arith, word (c .before .before .before .before .before .before .before .before .before .before .before .before .before .before .before .before .before .before .before .before .before .before .before) .reading .rooms, names (c .before .before .before) .reading .rooms)) (λ c. omega (arith, word (c .before .before .before .before .before .before .before .before .before .before .before .before .before .before .before .before .before .before .before .before .before .before .before) .reading .rooms, names (c .before .before .before) .reading .rooms)) (λ c. omega (arith, word (c .before .before .before .before .before .before .before .before .before .before .before .before .before .before .before .before .before .before .before .before .before .before .before) .reading .rooms, names (c .before .before .before) .reading .rooms)) (λ c. omega (arith, word (c .before .before .before .before .before .before .before .before .before .before .before .before .before .before .before .before .before .before .before .before .before .before .before) .reading .rooms, names (c .before .before .before) .reading .rooms)) returns-5 block-requires (λ c. search needs) (λ c. search needs) (λ c. omega (arith, word (c .before .before .before .before .before .before .before .before .before .before .before .before .before .before .before .before .before .before .before .before .before .before .before .before .before .before .before .before .before .before .before .before .before .before .before .before .before .before .before) .reading .rooms, names (c .before .before .before .before .before .before .before .before .before .before .before .before .before .before .before .before .before .before .before) .reading .rooms)) (λ c. omega (arith, word (c .before .before .before .before .before .before .before .before .before .before .before .before .before .before .before .before .before .before .before .before .before .before .before .before .before .before .before .before .before .before .before .before .before .before .before .before .before .before .before) .reading .rooms, names (c .before .before .before .before .before .before .before .before .before .before .before .before .before .before .before .before .before .before .before) .reading .rooms)) (λ c. omega (arith, word (c .before .before .before .before .before .before .before .before .before .before .before .before .before .before .before .before .before .before .before .before .before .before .before .before .before .before .before .before .before .before .before .before .before .before .before .before .before .before .before) .reading .rooms, names (c .before .before .before .before .before .before .before .before .before .before .before .before .before .before .before .before .before .before .before) .reading .rooms)) (λ c. omega (arith, word (c .before .before .before .before .before .before .before .before .before .before .before .before .before .before .before .before .before .before .before .before .before .before .before .before .before .before .before .before .before .before .before .before .before .before .before .before .before .before .before) .reading .rooms, names (c .before .before .before .before .before .before .before .before .before .before .before .before .before .before .before .before .before .before .before) .reading .rooms)) returns-6 (λ c. kept-under (kept (c .before))) (λ c κs. gather-asks (asked (c .before .before .before .before .before .before .before .before .before .before .before .before .before .before .before .before .before .before .before .before .before .before .before .before .before .before .before .before .before .before .before .before .before .before .before .before .before .before .before .before .before .before .before .before .before .before .before .before .before .before .before .before .before .before .before .before .before .before .before) .lent) (part (c .before .before .before) .within) (kept-under (kept (c .before .before .before)))) (λ c. omega (arith, numbers-fit (asked (c .before .before .before .before .before .before .before .before .before .before .before .before .before .before .before .before .before .before .before .before .before .before .before .before .before .before .before .before .before .before .before .before .before .before .before .before .before .before .before .before .before .before .before .before .before .before .before .before .before .before .before .before .before .before .before .before .before .before .before .before .before .before .before) .lent) (part (c .before .before .before .before .before .before .before) .within) .0)) (λ c. omega (arith, numbers-fit (asked (c .before .before .before .before .before .before .before .before .before .before .before .before .before .before .before .before .before .before .before .before .before .before .before .before .before .before .before .before .before .before .before .before .before .before .before .before .before .before .before .before .before .before .before .before .before .before .before .before .before .before .before .before .before .before .before .before .before .before .before .before .before .before .before) .lent) (part (c .before .before .before .before .before .before .before) .within) .1)) (λ c κs. gathered-free (asked (c .before .before .before .before .before .before .before .before .before .before .before .before .before .before .before .before .before .before .before .before .before .before .before .before .before .before .before .before .before .before .before .before .before .before .before .before .before .before .before .before .before .before .before .before .before .before .before .before .before .before .before .before .before .before .before .before .before .before .before .before .before .before .before) .lent) (part (c .before .before .before .before .before .before .before) .within) (c .before .before .before .gather .ensures)) (λ c. omega (arith, gathered-free (asked (c .before .before .before .before .before .before .before .before .before .before .before .before .before .before .before .before .before .before .before .before .before .before .before .before .before .before .before .before .before .before .before .before .before .before .before .before .before .before .before .before .before .before .before .before .before .before .before .before .before .before .before .before .before .before .before .before .before .before .before .before .before .before .before .before .before .before) .lent) (part (c .before .before .before .before .before .before .before .before .before .before) .within) (c .before .before .before .before .before .before .gather .ensures) .number)) (λ c. omega (arith, word (c .before .before .before .before .before .before .before .before .before .before .before .before .before .before .before .before .before .before .before .before .before .before .before .before .before .before .before .before .before .before .before .before .before .before .before .before .before .before .before .before .before .before .before .before .before .before .before .before .before .before) .reading .rooms, names (c .before .before .before .before .before .before .before .before .before .before .before .before .before .before .before .before .before .before .before .before .before .before .before .before .before .before .before .before .before .before) .reading .rooms, part (c .before .before .before .before .before .before .before .before .before .before) .reading .rooms)) (λ c. omega (arith, word (c .before .before .before .before .before .before .before .before .before .before .before .before .before .before .before .before .before .before .before .before .before .before .before .before .before .before .before .before .before .before .before .before .before .before .before .before .before .before .before .before .before .before .before .before .before .before .before .before .before .before) .reading .rooms, names (c .before .before .before .before .before .before .before .before .before .before .before .before .before .before .before .before .before .before .before .before .before .before .before .before .before .before .before .before .before .before) .reading .rooms, part (c .before .before .before .before .before .before .before .before .before .before) .reading .rooms)) (λ c. omega (arith, word (c .before .before .before .before .before .before .before .before .before .before .before .before .before .before .before .before .before .before .before .before .before .before .before .before .before .before .before .before .before .before .before .before .before .before .before .before .before .before .before .before .before .before .before .before .before .before .before .before .before .before) .reading .rooms, names (c .before .before .before .before .before .before .before .before .before .before .before .before .before .before .before .before .before .before .before .before .before .before .before .before .before .before .before .before .before .before) .reading .rooms, part (c .before .before .before .before .before .before .before .before .before .before) .reading .rooms)) (λ c. omega (arith, word (c .before .before .before .before .before .before .before .before .before .before .before .before .before .before .before .before .before .before .before .before .before .before .before .before .before .before .before .before .before .before .before .before .before .before .before .before .before .before .before .before .before .before .before .before .before .before .before .before .before .before) .reading .rooms, names (c .before .before .before .before .before .before .before .before .before .before .before .before .before .before .before .before .before .before .before .before .before .before .before .before .before .before .before .before .before .before) .reading .rooms, part (c .before .before .before .before .before .before .before .before .before .before) .reading .rooms)) returns-7

@@ -34,18 +34,18 @@ module _ (t : ℕ) where
   start c = c .before .before .before .before .before .before .before .before .before .before .before .before .before .before .before .before .before .before .before .before .before .before .before .before .before .before
 
   returns : lts.Need-returns claims (group-at (just t)) group.Post
-  returns c = lacks (c .enum-told .given .1) (c .before .before .consume .ensures) (omega arith) (λ h. Refuses.missing h)
+  returns c = lacks (c .enum-told .given .1) (c .before .before .consume .ensures) (λ h. Refuses.missing h)
 
   expression-requires : lts.Need-expression-requires claims (group-at (just t)) group.Post
   expression-requires c κs = let e = past-at (lead (c .before .before .before .before)) in (search needs, ready-led (c .before .before .before .before .before .before .before .before .before .before .before .before .before .before .pre .1) (lead (c .before .before .before .before)) (λ e. omega arith))
 
   returns-2 : lts.Need-returns-2 claims (group-at (just t)) group.Post
-  returns-2 c = passed (c .enum-told2 .given .1) (c .before .before .before .before .before .before .before .before .before .before .expression .ensures) (λ x h. led-refused _ (lead (c .before .before .before .before .before .before .before .before .before .before .before .before .before .before .before)) (λ e. omega arith) (Refuses.in-first h))
+  returns-2 c = passed (c .enum-told2 .given .1) (c .before .before .before .before .before .before .before .before .before .before .expression .ensures) (λ x h. led-refused (lead (c .before .before .before .before .before .before .before .before .before .before .before .before .before .before .before)) (Refuses.in-first h))
 
   returns-3 : lts.Need-returns-3 claims (group-at (just t)) group.Post
   returns-3 c =
       let z = part (c .before .before .before) in
-      lacks (c .enum-told3 .given .1) (c .before .before .consume2 .ensures) (omega arith) (λ h. led-refused _ (lead (c .before .before .before .before .before .before .before .before .before .before .before .before .before .before .before .before .before .before .before)) (λ e. omega arith) (after (z .reading) (Refuses.missing h)))
+      lacks (c .enum-told3 .given .1) (c .before .before .consume2 .ensures) (λ h. led-refused (lead (c .before .before .before .before .before .before .before .before .before .before .before .before .before .before .before .before .before .before .before)) (after (z .reading) (Refuses.missing h)))
 
   returns-4 : lts.Need-returns-4 claims (group-at (just t)) group.Post
   unfolding paid spare above
@@ -54,7 +54,7 @@ module _ (t : ℕ) where
       let k = close c in
       let p = start (c .before .before .before .before) .pre .1 in
       let w = ready-led (ready-on p (z .within)) k (λ e. omega arith) .within in
-      answer p (record { pays = tt }) (w .at) (w .table) (led (lead (c .before .before .before .before .before .before .before .before .before .before .before .before .before .before .before .before .before .before .before .before)) (λ e. omega arith) (both (z .reading) (led k (λ e. omega arith) (nothing (p .deep)))))
+      answer p (record { pays = tt }) (w .at) (w .table) (led (lead (c .before .before .before .before .before .before .before .before .before .before .before .before .before .before .before .before .before .before .before .before)) (both (z .reading) (led k (nothing (p .deep)))))
 
   pub spec : {M : Type 1} → lts.Closed claims (group-at (just t)) group.Post M
   spec = lts.spec claims (group-at (just t)) group.Post (λ c κs. search needs) (λ c. search needs) (λ c. search needs) returns expression-requires (λ c. search needs) (λ c. search needs) (λ c. search needs) (λ c. search needs) (λ c. search needs) (λ c. search needs) returns-2 (λ c κs. part c .within .at) (λ c. search needs) (λ c. search needs) (λ c. search needs) (λ c. search needs) (λ c. search needs) (λ c. search needs) returns-3 (λ c. search needs) (λ c. search needs) (λ c. search needs) (λ c. search needs) returns-4

@@ -4,11 +4,10 @@ use borrow.Author.Needs.{needs}
 use native.Mathlib.Omega.{arith}
 use mathlib.Core.Path.{refl, sym, _∙_}
 use Rattle.grammar.specs.Kaori.{rules, above, otherwise}
-use Rattle.grammar.specs.Kind.{Else}
 use Rattle.grammar.specs.Refusal.{Refuses}
 use Rattle.grammar.proofs.Room.{paid, spare}
-use Rattle.reading.proofs.Laws.{sees, nothing, both, both-more, opened, chosen, labelled, taken, ready-next, ready-deep, ready-on}
-use Rattle.reading.proofs.Names.{plain, keyed, unkeyed}
+use Rattle.grammar.proofs.Tables.{keyed, unkeyed}
+use Rattle.reading.proofs.Laws.{nothing, both, both-more, opened, chosen, labelled, taken, ready-next, ready-deep, ready-on}
 use Rattle.reading.proofs.Replies.{token-taken, Told, success, refuse, answer, lacks, passed, inside, after}
 use Rattle.reading.proofs.Taking.{Taken-by, led, ready-led, led-refused, starts, past-at, free}
 use Rattle.reading.proofs.Gathering.{Ready-at, if-made, else-made}
@@ -49,26 +48,26 @@ module _ (t : ℕ) where
   returns c = refuse (Refuses.too-deep (c .if1 .taken))
 
   returns-2 : lts.Need-returns-2 claims (if--at (just t)) if-.Post
-  returns-2 c = lacks (c .enum-told .given .1) (c .before .before .consume .ensures) (omega arith) (λ n. inside (c .before .before .before .if1 .left) (Refuses.in-node (Refuses.missing n)))
+  returns-2 c = lacks (c .enum-told .given .1) (c .before .before .consume .ensures) (λ n. inside (c .before .before .before .if1 .left) (Refuses.in-node (Refuses.missing n)))
 
   expression-requires : lts.Need-expression-requires claims (if--at (just t)) if-.Post
   expression-requires c κs = (omega (arith, c .before .before .before .before .before .before .before .before .before .before .before .before .before .before .before .pre .0, c .before .before .before .before .before .before .before .before .if1 .left, past-at (lead (c .before .before .before .before)), asked (c .before .before .before .before) .within .at), ready-deep (asked (c .before .before .before .before)) (c .before .before .before .before .before .before .before .before .if1 .left))
 
   returns-3 : lts.Need-returns-3 claims (if--at (just t)) if-.Post
-  returns-3 c = passed (c .enum-told2 .given .1) (c .before .before .before .before .before .before .before .before .before .before .expression .ensures) (λ x h. inside (c .before .before .before .before .before .before .before .before .before .before .before .before .before .before .before .before .before .before .before .if1 .left) (Refuses.in-node (led-refused _ (lead (c .before .before .before .before .before .before .before .before .before .before .before .before .before .before .before)) (λ e. omega arith) (Refuses.in-first h))))
+  returns-3 c = passed (c .enum-told2 .given .1) (c .before .before .before .before .before .before .before .before .before .before .expression .ensures) (λ x h. inside (c .before .before .before .before .before .before .before .before .before .before .before .before .before .before .before .before .before .before .before .if1 .left) (Refuses.in-node (led-refused (lead (c .before .before .before .before .before .before .before .before .before .before .before .before .before .before .before)) (Refuses.in-first h))))
 
   block-requires : lts.Need-block-requires claims (if--at (just t)) if-.Post
   block-requires c κs = (omega (arith, c .before .before .before .before .before .before .before .before .before .before .before .before .before .before .before .before .before .before .before .before .before .before .before .before .before .before .before .before .before .before .before .pre .0, c .before .before .before .before .before .before .before .before .before .before .before .before .before .before .before .before .before .before .before .before .before .before .before .before .if1 .left, past-at (lead (c .before .before .before .before .before .before .before .before .before .before .before .before .before .before .before .before .before .before .before .before)), condition (c .before .before .before .before) .past, condition (c .before .before .before .before) .within .at), ready-deep (ready-on (asked (c .before .before .before .before .before .before .before .before .before .before .before .before .before .before .before .before .before .before .before .before)) (condition (c .before .before .before .before) .within)) (c .before .before .before .before .before .before .before .before .before .before .before .before .before .before .before .before .before .before .before .before .before .before .before .before .if1 .left))
 
   returns-4 : lts.Need-returns-4 claims (if--at (just t)) if-.Post
-  returns-4 c = passed (c .enum-told3 .given .1) (c .before .before .before .before .before .before .before .before .before .before .block .ensures) (λ x h. inside (c .before .before .before .before .before .before .before .before .before .before .before .before .before .before .before .before .before .before .before .before .before .before .before .before .before .before .before .before .before .before .before .before .before .before .before .if1 .left) (Refuses.in-node (led-refused _ (lead (c .before .before .before .before .before .before .before .before .before .before .before .before .before .before .before .before .before .before .before .before .before .before .before .before .before .before .before .before .before .before .before)) (λ e. omega arith) (after (condition (c .before .before .before .before .before .before .before .before .before .before .before .before .before .before .before) .reading) (Refuses.in-first h)))))
+  returns-4 c = passed (c .enum-told3 .given .1) (c .before .before .before .before .before .before .before .before .before .before .block .ensures) (λ x h. inside (c .before .before .before .before .before .before .before .before .before .before .before .before .before .before .before .before .before .before .before .before .before .before .before .before .before .before .before .before .before .before .before .before .before .before .before .if1 .left) (Refuses.in-node (led-refused (lead (c .before .before .before .before .before .before .before .before .before .before .before .before .before .before .before .before .before .before .before .before .before .before .before .before .before .before .before .before .before .before .before)) (after (condition (c .before .before .before .before .before .before .before .before .before .before .before .before .before .before .before) .reading) (Refuses.in-first h)))))
 
   returns-5 : lts.Need-returns-5 claims (if--at (just t)) if-.Post
   unfolding paid spare above rules
   returns-5 c =
       let z = body (c .before .before .before .before .before .before) in
-      let e = unkeyed _ _ otherwise _ refl (plain Else tt) (λ k. c .before .before .before .before .if2 .taken (c .before .before .before .before .before .kind-at .ensures ∙ k)) in
-      answer (c .before .before .before .before .before .before .before .before .before .before .before .before .before .before .before .before .before .before .before .before .before .before .before .before .before .before .before .before .before .before .before .before .before .before .before .before .before .before .before .before .before .before .before .before .before .before .before .before .before .pre .1) (record { pays = tt }) (z .within .at) (z .within .table) (opened (labelled (led (lead (c .before .before .before .before .before .before .before .before .before .before .before .before .before .before .before .before .before .before .before .before .before .before .before .before .before .before .before .before .before .before .before .before .before .before .before .before .before .before)) (λ k. omega arith) (both-more (condition (c .before .before .before .before .before .before .before .before .before .before .before .before .before .before .before .before .before .before .before .before .before .before) .reading) (both (z .reading) (chosen e (nothing (omega (arith, c .before .before .before .before .before .before .before .before .before .before .before .before .before .before .before .before .before .before .before .before .before .before .before .before .before .before .before .before .before .before .before .before .before .before .before .before .before .before .before .before .before .before .if1 .left))))))) (if-made (z .within) (starts (lead (c .before .before .before .before .before .before .before .before .before .before .before .before .before .before .before .before .before .before .before .before .before .before .before .before .before .before .before .before .before .before .before .before .before .before .before .before .before .before))) (c .before .before .if- .ensures))))
+      let e = unkeyed otherwise _ refl (λ k. c .before .before .before .before .if2 .taken (c .before .before .before .before .before .kind-at .ensures ∙ k)) in
+      answer (c .before .before .before .before .before .before .before .before .before .before .before .before .before .before .before .before .before .before .before .before .before .before .before .before .before .before .before .before .before .before .before .before .before .before .before .before .before .before .before .before .before .before .before .before .before .before .before .before .before .pre .1) (record { pays = tt }) (z .within .at) (z .within .table) (opened (labelled (led (lead (c .before .before .before .before .before .before .before .before .before .before .before .before .before .before .before .before .before .before .before .before .before .before .before .before .before .before .before .before .before .before .before .before .before .before .before .before .before .before)) (both-more (condition (c .before .before .before .before .before .before .before .before .before .before .before .before .before .before .before .before .before .before .before .before .before .before) .reading) (both (z .reading) (chosen e (nothing (omega (arith, c .before .before .before .before .before .before .before .before .before .before .before .before .before .before .before .before .before .before .before .before .before .before .before .before .before .before .before .before .before .before .before .before .before .before .before .before .before .before .before .before .before .before .if1 .left))))))) (if-made (z .within) (starts (lead (c .before .before .before .before .before .before .before .before .before .before .before .before .before .before .before .before .before .before .before .before .before .before .before .before .before .before .before .before .before .before .before .before .before .before .before .before .before .before))) (c .before .before .if- .ensures))))
 
   else--requires : lts.Need-else--requires claims (if--at (just t)) if-.Post
   else--requires c κs =
@@ -79,14 +78,14 @@ module _ (t : ℕ) where
   unfolding rules
   returns-6 c =
       let k = sym (c .before .before .before .before .before .before .before .before .before .before .before .before .before .before .before .before .kind-at .ensures) ∙ c .before .before .before .before .before .before .before .before .before .before .before .before .before .before .before .if2 .left in
-      passed (c .enum-told4 .given .1) (c .before .before .before .before .before .before .before .before .before .before .else- .ensures) (λ x h. inside (c .before .before .before .before .before .before .before .before .before .before .before .before .before .before .before .before .before .before .before .before .before .before .before .before .before .before .before .before .before .before .before .before .before .before .before .before .before .before .before .before .before .before .before .before .before .before .before .before .before .before .before .before .before .if1 .left) (Refuses.in-node (led-refused _ (lead (c .before .before .before .before .before .before .before .before .before .before .before .before .before .before .before .before .before .before .before .before .before .before .before .before .before .before .before .before .before .before .before .before .before .before .before .before .before .before .before .before .before .before .before .before .before .before .before .before .before)) (λ e. omega arith) (after (condition (c .before .before .before .before .before .before .before .before .before .before .before .before .before .before .before .before .before .before .before .before .before .before .before .before .before .before .before .before .before .before .before .before .before) .reading) (after (body (c .before .before .before .before .before .before .before .before .before .before .before .before .before .before .before .before .before) .reading) (Refuses.in-choice (keyed _ _ otherwise _ refl (plain Else tt) k) (Refuses.past-token (sees _ _ _ k (λ e. omega arith)) h)))))))
+      passed (c .enum-told4 .given .1) (c .before .before .before .before .before .before .before .before .before .before .else- .ensures) (λ x h. inside (c .before .before .before .before .before .before .before .before .before .before .before .before .before .before .before .before .before .before .before .before .before .before .before .before .before .before .before .before .before .before .before .before .before .before .before .before .before .before .before .before .before .before .before .before .before .before .before .before .before .before .before .before .before .if1 .left) (Refuses.in-node (led-refused (lead (c .before .before .before .before .before .before .before .before .before .before .before .before .before .before .before .before .before .before .before .before .before .before .before .before .before .before .before .before .before .before .before .before .before .before .before .before .before .before .before .before .before .before .before .before .before .before .before .before .before)) (after (condition (c .before .before .before .before .before .before .before .before .before .before .before .before .before .before .before .before .before .before .before .before .before .before .before .before .before .before .before .before .before .before .before .before .before) .reading) (after (body (c .before .before .before .before .before .before .before .before .before .before .before .before .before .before .before .before .before) .reading) (Refuses.in-choice (keyed otherwise _ refl k) (Refuses.past-token k h)))))))
 
   returns-7 : lts.Need-returns-7 claims (if--at (just t)) if-.Post
   unfolding paid spare above rules
   returns-7 c =
       let z = other (c .before .before .before .before) in
       let k = sym (c .before .before .before .before .before .before .before .before .before .before .before .before .before .before .before .before .before .before .before .before .before .kind-at .ensures) ∙ c .before .before .before .before .before .before .before .before .before .before .before .before .before .before .before .before .before .before .before .before .if2 .left in
-      answer (c .before .before .before .before .before .before .before .before .before .before .before .before .before .before .before .before .before .before .before .before .before .before .before .before .before .before .before .before .before .before .before .before .before .before .before .before .before .before .before .before .before .before .before .before .before .before .before .before .before .before .before .before .before .before .before .before .before .before .before .before .before .before .before .before .before .pre .1) (record { pays = tt }) (z .within .at) (z .within .table) (opened (labelled (led (lead (c .before .before .before .before .before .before .before .before .before .before .before .before .before .before .before .before .before .before .before .before .before .before .before .before .before .before .before .before .before .before .before .before .before .before .before .before .before .before .before .before .before .before .before .before .before .before .before .before .before .before .before .before .before .before)) (λ e. omega arith) (both-more (condition (c .before .before .before .before .before .before .before .before .before .before .before .before .before .before .before .before .before .before .before .before .before .before .before .before .before .before .before .before .before .before .before .before .before .before .before .before .before .before) .reading) (both (body (c .before .before .before .before .before .before .before .before .before .before .before .before .before .before .before .before .before .before .before .before .before .before) .reading) (chosen (keyed _ _ otherwise _ refl (plain Else tt) k) (taken (sees _ _ _ k (λ e. omega arith)) (z .reading)))))) (else-made (z .within) (starts (lead (c .before .before .before .before .before .before .before .before .before .before .before .before .before .before .before .before .before .before .before .before .before .before .before .before .before .before .before .before .before .before .before .before .before .before .before .before .before .before .before .before .before .before .before .before .before .before .before .before .before .before .before .before .before .before))) (c .before .before .if-2 .ensures))))
+      answer (c .before .before .before .before .before .before .before .before .before .before .before .before .before .before .before .before .before .before .before .before .before .before .before .before .before .before .before .before .before .before .before .before .before .before .before .before .before .before .before .before .before .before .before .before .before .before .before .before .before .before .before .before .before .before .before .before .before .before .before .before .before .before .before .before .before .pre .1) (record { pays = tt }) (z .within .at) (z .within .table) (opened (labelled (led (lead (c .before .before .before .before .before .before .before .before .before .before .before .before .before .before .before .before .before .before .before .before .before .before .before .before .before .before .before .before .before .before .before .before .before .before .before .before .before .before .before .before .before .before .before .before .before .before .before .before .before .before .before .before .before .before)) (both-more (condition (c .before .before .before .before .before .before .before .before .before .before .before .before .before .before .before .before .before .before .before .before .before .before .before .before .before .before .before .before .before .before .before .before .before .before .before .before .before .before) .reading) (both (body (c .before .before .before .before .before .before .before .before .before .before .before .before .before .before .before .before .before .before .before .before .before .before) .reading) (chosen (keyed otherwise _ refl k) (taken k (z .reading)))))) (else-made (z .within) (starts (lead (c .before .before .before .before .before .before .before .before .before .before .before .before .before .before .before .before .before .before .before .before .before .before .before .before .before .before .before .before .before .before .before .before .before .before .before .before .before .before .before .before .before .before .before .before .before .before .before .before .before .before .before .before .before .before))) (c .before .before .if-2 .ensures))))
 
   pub spec : {M : Type 1} → lts.Closed claims (if--at (just t)) if-.Post M
   spec = lts.spec claims (if--at (just t)) if-.Post returns (λ c κs. search needs) (λ c. search needs) (λ c. search needs) returns-2 (λ c. search needs) expression-requires (λ c. search needs) (λ c. search needs) (λ c. search needs) (λ c. search needs) (λ c. search needs) (λ c. search needs) returns-3 (λ c. omega (arith, c .before .before .before .before .before .before .before .before .before .before .before .before .before .before .before .before .before .before .before .before .before .before .before .before .if1 .left, c .before .before .before .before .before .before .before .before .before .before .before .before .before .before .before .before .before .before .before .before .before .before .before .before .before .before .before .before .before .before .before .fits .limit)) block-requires (λ c. search needs) (λ c. search needs) (λ c. search needs) (λ c. search needs) (λ c. search needs) (λ c. search needs) returns-4 (λ c κs. body c .within .at) (λ c κs. free (asked (c .before .before .before .before .before .before .before .before .before .before .before .before .before .before .before .before .before .before .before .before .before .before .before .before .before .before .before .before .before .before .before .before .before .before .before) .lent) (body (c .before .before .before) .within)) (λ c. omega (arith, free (asked (c .before .before .before .before .before .before .before .before .before .before .before .before .before .before .before .before .before .before .before .before .before .before .before .before .before .before .before .before .before .before .before .before .before .before .before .before .before .before) .lent) (body (c .before .before .before .before .before .before) .within) .number)) (λ c. omega (arith, condition (c .before .before .before .before .before .before .before .before .before .before .before .before .before .before .before .before .before .before .before .before .before .before) .reading .rooms, body (c .before .before .before .before .before .before) .reading .rooms)) (λ c. omega (arith, condition (c .before .before .before .before .before .before .before .before .before .before .before .before .before .before .before .before .before .before .before .before .before .before) .reading .rooms, body (c .before .before .before .before .before .before) .reading .rooms)) (λ c. omega (arith, condition (c .before .before .before .before .before .before .before .before .before .before .before .before .before .before .before .before .before .before .before .before .before .before) .reading .rooms, body (c .before .before .before .before .before .before) .reading .rooms)) (λ c. omega (arith, condition (c .before .before .before .before .before .before .before .before .before .before .before .before .before .before .before .before .before .before .before .before .before .before) .reading .rooms, body (c .before .before .before .before .before .before) .reading .rooms)) returns-5 (λ c. omega (arith, body (c .before .before) .within .at, asked (c .before .before .before .before .before .before .before .before .before .before .before .before .before .before .before .before .before .before .before .before .before .before .before .before .before .before .before .before .before .before .before .before .before .before) .lent .whole .most)) (λ c. omega (arith, c .before .before .before .before .before .before .before .before .before .before .before .before .before .before .before .before .before .before .before .before .before .before .before .before .before .before .before .before .before .before .before .before .before .before .before .before .before .before .before .before .before .before .if1 .left, c .before .before .before .before .before .before .before .before .before .before .before .before .before .before .before .before .before .before .before .before .before .before .before .before .before .before .before .before .before .before .before .before .before .before .before .before .before .before .before .before .before .before .before .before .before .before .before .before .before .fits .limit)) else--requires (λ c. search needs) (λ c. search needs) (λ c. omega (arith, condition (c .before .before .before .before .before .before .before .before .before .before .before .before .before .before .before .before .before .before .before .before .before .before .before .before .before .before .before .before .before .before .before .before .before) .reading .rooms, body (c .before .before .before .before .before .before .before .before .before .before .before .before .before .before .before .before .before) .reading .rooms)) (λ c. omega (arith, condition (c .before .before .before .before .before .before .before .before .before .before .before .before .before .before .before .before .before .before .before .before .before .before .before .before .before .before .before .before .before .before .before .before .before) .reading .rooms, body (c .before .before .before .before .before .before .before .before .before .before .before .before .before .before .before .before .before) .reading .rooms)) (λ c. omega (arith, condition (c .before .before .before .before .before .before .before .before .before .before .before .before .before .before .before .before .before .before .before .before .before .before .before .before .before .before .before .before .before .before .before .before .before) .reading .rooms, body (c .before .before .before .before .before .before .before .before .before .before .before .before .before .before .before .before .before) .reading .rooms)) (λ c. omega (arith, condition (c .before .before .before .before .before .before .before .before .before .before .before .before .before .before .before .before .before .before .before .before .before .before .before .before .before .before .before .before .before .before .before .before .before) .reading .rooms, body (c .before .before .before .before .before .before .before .before .before .before .before .before .before .before .before .before .before) .reading .rooms)) returns-6 (λ c κs. free (asked (c .before .before .before .before .before .before .before .before .before .before .before .before .before .before .before .before .before .before .before .before .before .before .before .before .before .before .before .before .before .before .before .before .before .before .before .before .before .before .before .before .before .before .before .before .before .before .before .before .before .before .before) .lent) (other (c .before) .within)) (λ c. omega (arith, free (asked (c .before .before .before .before .before .before .before .before .before .before .before .before .before .before .before .before .before .before .before .before .before .before .before .before .before .before .before .before .before .before .before .before .before .before .before .before .before .before .before .before .before .before .before .before .before .before .before .before .before .before .before .before .before .before) .lent) (other (c .before .before .before .before) .within) .number)) (λ c. omega (arith, condition (c .before .before .before .before .before .before .before .before .before .before .before .before .before .before .before .before .before .before .before .before .before .before .before .before .before .before .before .before .before .before .before .before .before .before .before .before .before .before) .reading .rooms, body (c .before .before .before .before .before .before .before .before .before .before .before .before .before .before .before .before .before .before .before .before .before .before) .reading .rooms, other (c .before .before .before .before) .reading .rooms)) (λ c. omega (arith, condition (c .before .before .before .before .before .before .before .before .before .before .before .before .before .before .before .before .before .before .before .before .before .before .before .before .before .before .before .before .before .before .before .before .before .before .before .before .before .before) .reading .rooms, body (c .before .before .before .before .before .before .before .before .before .before .before .before .before .before .before .before .before .before .before .before .before .before) .reading .rooms, other (c .before .before .before .before) .reading .rooms)) (λ c. omega (arith, condition (c .before .before .before .before .before .before .before .before .before .before .before .before .before .before .before .before .before .before .before .before .before .before .before .before .before .before .before .before .before .before .before .before .before .before .before .before .before .before) .reading .rooms, body (c .before .before .before .before .before .before .before .before .before .before .before .before .before .before .before .before .before .before .before .before .before .before) .reading .rooms, other (c .before .before .before .before) .reading .rooms)) (λ c. omega (arith, condition (c .before .before .before .before .before .before .before .before .before .before .before .before .before .before .before .before .before .before .before .before .before .before .before .before .before .before .before .before .before .before .before .before .before .before .before .before .before .before) .reading .rooms, body (c .before .before .before .before .before .before .before .before .before .before .before .before .before .before .before .before .before .before .before .before .before .before) .reading .rooms, other (c .before .before .before .before) .reading .rooms)) returns-7

@@ -5,17 +5,16 @@ use native.Mathlib.Omega.{arith}
 use mathlib.Core.List.{List}
 use mathlib.Core.Path.{_≡_, refl}
 use Rattle.grammar.specs.Kaori.{rules, statement as a-statement, block-items}
-use Rattle.grammar.specs.Kind.{RightBrace}
 use Rattle.grammar.specs.Phrase.{empty, choice, chain}
 use Rattle.grammar.specs.Refusal.{Refused}
 use Rattle.grammar.specs.Token.{count}
+use Rattle.grammar.proofs.Tables.{items-end, items-on}
 use Rattle.reading.specs.Answers.{State-case, States, Fill-case, Fills}
 use Rattle.reading.specs.Reading.{refusal, Refusing}
 use Rattle.reading.specs.State.{State, state}
 use Rattle.reading.specs.declared.Read.{Read}
 use Rattle.reading.specs.declared.Refusal.{Refusal}
 use Rattle.reading.proofs.Listings.{Statements, Item-of, item-less, hold-room, hold-number}
-use Rattle.reading.proofs.Names.{plain, items-end, items-on}
 use Rattle.reading.proofs.Replies.{stated, further}
 use Rattle.parser.proofs.Statements.{statements-none, statements-more, tail-held, block-ends}
 use Rattle.parser.proofs.readers.+arg+arguments+assign+binary+bind+block+body+call+chained+else_+expression+form+function+group+if_+items+lambda+map_+not_+pair+pairs+plus+postfix+prefix+primary+return_+statement+unary+while_ as cycle
@@ -29,7 +28,7 @@ use Rattle.ast.proofs.room.push.Reads as push-reads
 use Rattle.reading.proofs.pieces.untailed.Reads as untailed-reads
 
 -- a statement is refused
-passed : {text ts : List ℕ} {limit o o′ : ℕ} {s s′ : State} {ns ls ys ss : List ℕ} {r : Read} {q : Refusal} → r ≡ Read.Refused q → States text ts limit o′ s′ ns ls ys ss r → ((x : Refused) → Refusing text ts limit (choice a-statement) o′ s′ x → Refusing text ts limit (chain empty block-items) o s x) → Fills text ts limit o s ns ls ys ss r
+passed : {text ts : List ℕ} {limit o o′ : ℕ} {s s′ : State} {ns ls ys ss : List ℕ} {r : Read} {q : Refusal} → r ≡ Read.Refused q → States text ts limit o′ s′ ns ls ys ss r → ((x : Refused) → Refusing ts limit (choice a-statement) o′ s′ x → Refusing ts limit (chain empty block-items) o s x) → Fills text ts limit o s ns ls ys ss r
 unfolding State-case Fill-case
 passed {q = q} e a up = rw e (record { says = up (refusal q) ((rw e at a) .says) })
 
@@ -46,7 +45,7 @@ module _ (t : ℕ) where
   -- where the block goes on: what its table has there
   on : (c : lts.At-match-rest claims (items-at (just t)) items.Post Inv-list μ-list) → Item-of (c .before .before .list .inv .listing) (choice a-statement)
   unfolding rules
-  on c = items-on _ _ block-items _ refl (plain RightBrace tt) (rw (c .before .kind-at .ensures) at (c .match .rest .1))
+  on c = items-on block-items _ refl (rw (c .before .kind-at .ensures) at (c .match .rest .1))
 
   returns : lts.Need-returns claims (items-at (just t)) items.Post Inv-list μ-list
   returns c = passed (c .enum-told .given .1) (c .before .before .before .before .before .before .before .before .before .before .statement .ensures) (λ x h. further (c .before .before .before .before .before .before .before .before .before .before .before .before .before .before .before .before .before .list .inv .listing .reading) (on (c .before .before .before .before .before .before .before .before .before .before .before .before .before .before .before)) h)
@@ -59,7 +58,7 @@ module _ (t : ℕ) where
 
   returns-2 : lts.Need-returns-2 claims (items-at (just t)) items.Post Inv-list μ-list
   unfolding rules
-  returns-2 c = let i = c .before .before .before .list .inv in block-ends (i .listing) (i .last) (c .before .before .before .before .before .before .before .before .before .before .pre .1) (items-end _ _ block-items _ refl (plain RightBrace tt) (rw (c .before .before .kind-at .ensures) at (c .before .match .keys1))) (c .untailed .ensures)
+  returns-2 c = let i = c .before .before .before .list .inv in block-ends (i .listing) (i .last) (c .before .before .before .before .before .before .before .before .before .before .pre .1) (items-end block-items _ refl (rw (c .before .before .kind-at .ensures) at (c .before .match .keys1))) (c .untailed .ensures)
 
   pub spec : {M : Type 1} → lts.Closed claims (items-at (just t)) items.Post M
   spec = lts.spec claims (items-at (just t)) items.Post Inv-list μ-list (λ c. let p = c .before .before .before .before .before .before .pre .1 in statements-none (p .deep) (p .within)) (λ c κs. search needs) (λ c κs. search needs) (λ c. search needs) (λ c. search needs) (λ c. search needs) (λ c. search needs) (λ c. search needs) (λ c. search needs) returns (λ c κs. hold-room (stated (c .before .before .read .given .1) (c .before .before .before .before .before .before .before .before .before .before .before .before .statement .ensures) .success .within)) (λ c. omega (arith, hold-number (stated (c .before .before .before .before .before .read .given .1) (c .before .before .before .before .before .before .before .before .before .before .before .before .before .before .before .statement .ensures) .success .within) (c .before .before .before .before .before .before .before .before .before .before .before .before .before .before .before .before .before .before .before .before .before .before .before .before .before .before .before .before .before .pre .1 .lent))) list-less list-again (λ c κs. let i = c .before .before .list .inv in tail-held (i .listing) (i .last)) (λ c. search needs) (λ c. search needs) (λ c. search needs) (λ c. search needs) returns-2

@@ -54,22 +54,22 @@ module _ (t : ℕ) where
   kept c = kept-on (held (c .before .before .before .before .before .before .before .before .before .before .before .before .before .before .before .before)) (part c .reading)
 
   returns : lts.Need-returns claims (lambda-at (just t)) lambda.Post
-  returns c = lacks (c .enum-told .given .1) (c .before .before .consume .ensures) (omega arith) (λ n. Refuses.in-node (Refuses.missing n))
+  returns c = lacks (c .enum-told .given .1) (c .before .before .consume .ensures) (λ n. Refuses.in-node (Refuses.missing n))
 
   names-requires : lts.Need-names-requires claims (lambda-at (just t)) lambda.Post
   names-requires c κs = (record { known = inl refl }, asked (c .before .before .before .before))
 
   returns-2 : lts.Need-returns-2 claims (lambda-at (just t)) lambda.Post
-  returns-2 c = passed-list (c .enum-told2 .given .1) (c .before .before .before .before .before .before .before .before .before .before .names .ensures) (λ x h. Refuses.in-node (led-refused _ (lead (c .before .before .before .before .before .before .before .before .before .before .before .before .before .before .before)) (λ e. omega arith) (Refuses.in-first h)))
+  returns-2 c = passed-list (c .enum-told2 .given .1) (c .before .before .before .before .before .before .before .before .before .before .names .ensures) (λ x h. Refuses.in-node (led-refused (lead (c .before .before .before .before .before .before .before .before .before .before .before .before .before .before .before)) (Refuses.in-first h)))
 
   returns-3 : lts.Need-returns-3 claims (lambda-at (just t)) lambda.Post
-  returns-3 c = lacks (c .enum-told3 .given .1) (c .before .before .consume2 .ensures) (omega arith) (λ n. Refuses.in-node (led-refused _ (lead (c .before .before .before .before .before .before .before .before .before .before .before .before .before .before .before .before .before .before .before)) (λ e. omega arith) (after (names (c .before .before .before) .reading) (Refuses.missing n))))
+  returns-3 c = lacks (c .enum-told3 .given .1) (c .before .before .consume2 .ensures) (λ n. Refuses.in-node (led-refused (lead (c .before .before .before .before .before .before .before .before .before .before .before .before .before .before .before .before .before .before .before)) (after (names (c .before .before .before) .reading) (Refuses.missing n))))
 
   body-requires : lts.Need-body-requires claims (lambda-at (just t)) lambda.Post
   body-requires c κs = (omega (arith, c .before .before .before .before .before .before .before .before .before .before .before .before .before .before .before .before .before .before .before .before .before .before .before .before .before .before .before .before .before .before .before .before .before .before .pre .0, past-at (lead (c .before .before .before .before .before .before .before .before .before .before .before .before .before .before .before .before .before .before .before .before .before .before .before .before)), names (c .before .before .before .before .before .before .before .before) .past, past-at (close (c .before .before .before .before)), within (c .before .before .before .before) .at), ready-on (asked (c .before .before .before .before .before .before .before .before .before .before .before .before .before .before .before .before .before .before .before .before .before .before .before .before)) (within (c .before .before .before .before)))
 
   returns-4 : lts.Need-returns-4 claims (lambda-at (just t)) lambda.Post
-  returns-4 c = passed (c .enum-told4 .given .1) (c .before .before .before .before .before .before .before .before .before .before .body .ensures) (λ x h. Refuses.in-node (led-refused _ (lead (c .before .before .before .before .before .before .before .before .before .before .before .before .before .before .before .before .before .before .before .before .before .before .before .before .before .before .before .before .before .before .before .before .before .before .before)) (λ e. omega arith) (after (names (c .before .before .before .before .before .before .before .before .before .before .before .before .before .before .before .before .before .before .before) .reading) (led-refused _ (close (c .before .before .before .before .before .before .before .before .before .before .before .before .before .before .before)) (λ e. omega arith) h))))
+  returns-4 c = passed (c .enum-told4 .given .1) (c .before .before .before .before .before .before .before .before .before .before .body .ensures) (λ x h. Refuses.in-node (led-refused (lead (c .before .before .before .before .before .before .before .before .before .before .before .before .before .before .before .before .before .before .before .before .before .before .before .before .before .before .before .before .before .before .before .before .before .before .before)) (after (names (c .before .before .before .before .before .before .before .before .before .before .before .before .before .before .before .before .before .before .before) .reading) (led-refused (close (c .before .before .before .before .before .before .before .before .before .before .before .before .before .before .before)) h))))
 
   returns-5 : lts.Need-returns-5 claims (lambda-at (just t)) lambda.Post
   unfolding paid spare
@@ -77,8 +77,8 @@ module _ (t : ℕ) where
       let g = c .before .before .before .before .before .before .gather .ensures in
       let z = part (c .before .before .before .before .before .before .before .before .before .before) in
       let l = list-reading (token-held (lead (c .before .before .before .before .before .before .before .before .before .before .before .before .before .before .before .before .before .before .before .before .before .before .before .before .before .before .before .before .before .before .before .before .before .before .before .before .before .before .before .before .before .before .before .before .before .before))) (names (c .before .before .before .before .before .before .before .before .before .before .before .before .before .before .before .before .before .before .before .before .before .before .before .before .before .before .before .before .before .before)) in
-      let b = lower (c .before .before .before .before .before .before .before .before .before .before .before .before .before .before .before .before .before .before .before .before .before .before .before .before .before .before .before .before .before .before .before .before .before .before .before .before .before .before .before .before .before .before .before .before .before .before .before .before .before .before .before .before .before .before .before .before .args .cur .held) (omega (arith, names (c .before .before .before .before .before .before .before .before .before .before .before .before .before .before .before .before .before .before .before .before .before .before .before .before .before .before .before .before .before .before) .count, token-held (lead (c .before .before .before .before .before .before .before .before .before .before .before .before .before .before .before .before .before .before .before .before .before .before .before .before .before .before .before .before .before .before .before .before .before .before .before .before .before .before .before .before .before .before .before .before .before .before)))) (led (close (c .before .before .before .before .before .before .before .before .before .before .before .before .before .before .before .before .before .before .before .before .before .before .before .before .before .before)) (λ e. omega arith) (z .reading)) in
-      gathered-answer (c .before .before .before .before .before .before .before .before .before .before .before .before .before .before .before .before .before .before .before .before .before .before .before .before .before .before .before .before .before .before .before .before .before .before .before .before .before .before .before .before .before .before .before .before .before .before .before .before .before .before .before .before .before .before .before .before .pre .1) (record { pays = tt }) (z .within) g (labelled (led (lead (c .before .before .before .before .before .before .before .before .before .before .before .before .before .before .before .before .before .before .before .before .before .before .before .before .before .before .before .before .before .before .before .before .before .before .before .before .before .before .before .before .before .before .before .before .before .before)) (λ e. omega arith) (both l b)) (lambda-made (z .within) g (starts (lead (c .before .before .before .before .before .before .before .before .before .before .before .before .before .before .before .before .before .before .before .before .before .before .before .before .before .before .before .before .before .before .before .before .before .before .before .before .before .before .before .before .before .before .before .before .before .before))) (kept (c .before .before .before .before .before .before .before .before .before .before)) (c .before .before .lambda .ensures)))
+      let b = lower (c .before .before .before .before .before .before .before .before .before .before .before .before .before .before .before .before .before .before .before .before .before .before .before .before .before .before .before .before .before .before .before .before .before .before .before .before .before .before .before .before .before .before .before .before .before .before .before .before .before .before .before .before .before .before .before .before .args .cur .held) (omega (arith, names (c .before .before .before .before .before .before .before .before .before .before .before .before .before .before .before .before .before .before .before .before .before .before .before .before .before .before .before .before .before .before) .count, token-held (lead (c .before .before .before .before .before .before .before .before .before .before .before .before .before .before .before .before .before .before .before .before .before .before .before .before .before .before .before .before .before .before .before .before .before .before .before .before .before .before .before .before .before .before .before .before .before .before)))) (led (close (c .before .before .before .before .before .before .before .before .before .before .before .before .before .before .before .before .before .before .before .before .before .before .before .before .before .before)) (z .reading)) in
+      gathered-answer (c .before .before .before .before .before .before .before .before .before .before .before .before .before .before .before .before .before .before .before .before .before .before .before .before .before .before .before .before .before .before .before .before .before .before .before .before .before .before .before .before .before .before .before .before .before .before .before .before .before .before .before .before .before .before .before .before .pre .1) (record { pays = tt }) (z .within) g (labelled (led (lead (c .before .before .before .before .before .before .before .before .before .before .before .before .before .before .before .before .before .before .before .before .before .before .before .before .before .before .before .before .before .before .before .before .before .before .before .before .before .before .before .before .before .before .before .before .before .before)) (both l b)) (lambda-made (z .within) g (starts (lead (c .before .before .before .before .before .before .before .before .before .before .before .before .before .before .before .before .before .before .before .before .before .before .before .before .before .before .before .before .before .before .before .before .before .before .before .before .before .before .before .before .before .before .before .before .before .before))) (kept (c .before .before .before .before .before .before .before .before .before .before)) (c .before .before .lambda .ensures)))
 
   pub spec : {M : Type 1} → lts.Closed claims (lambda-at (just t)) lambda.Post M
   spec = lts.spec claims (lambda-at (just t)) lambda.Post (λ c κs. search needs) (λ c. search needs) (λ c. search needs) returns names-requires (λ c. search needs) (λ c. search needs) (λ c. search needs) (λ c. search needs) (λ c. search needs) (λ c. search needs) returns-2 (λ c κs. names c .within .at) (λ c. search needs) (λ c. search needs) (λ c. search needs) (λ c. search needs) (λ c. search needs) (λ c. search needs) returns-3 body-requires (λ c. search needs) (λ c. search needs) (λ c. omega (arith, names (c .before .before .before .before .before .before .before .before .before .before .before .before .before .before .before .before .before .before .before) .reading .rooms)) (λ c. omega (arith, names (c .before .before .before .before .before .before .before .before .before .before .before .before .before .before .before .before .before .before .before) .reading .rooms)) (λ c. omega (arith, names (c .before .before .before .before .before .before .before .before .before .before .before .before .before .before .before .before .before .before .before) .reading .rooms)) (λ c. search needs) returns-4 (λ c. kept-under (kept (c .before))) (λ c κs. gather-asks (asked (c .before .before .before .before .before .before .before .before .before .before .before .before .before .before .before .before .before .before .before .before .before .before .before .before .before .before .before .before .before .before .before .before .before .before .before .before .before .before .before) .lent) (part (c .before .before .before) .within) (kept-under (kept (c .before .before .before)))) (λ c. omega (arith, numbers-fit (asked (c .before .before .before .before .before .before .before .before .before .before .before .before .before .before .before .before .before .before .before .before .before .before .before .before .before .before .before .before .before .before .before .before .before .before .before .before .before .before .before .before .before .before .before) .lent) (part (c .before .before .before .before .before .before .before) .within) .0)) (λ c. omega (arith, numbers-fit (asked (c .before .before .before .before .before .before .before .before .before .before .before .before .before .before .before .before .before .before .before .before .before .before .before .before .before .before .before .before .before .before .before .before .before .before .before .before .before .before .before .before .before .before .before) .lent) (part (c .before .before .before .before .before .before .before) .within) .1)) (λ c κs. gathered-free (asked (c .before .before .before .before .before .before .before .before .before .before .before .before .before .before .before .before .before .before .before .before .before .before .before .before .before .before .before .before .before .before .before .before .before .before .before .before .before .before .before .before .before .before .before) .lent) (part (c .before .before .before .before .before .before .before) .within) (c .before .before .before .gather .ensures)) (λ c. omega (arith, gathered-free (asked (c .before .before .before .before .before .before .before .before .before .before .before .before .before .before .before .before .before .before .before .before .before .before .before .before .before .before .before .before .before .before .before .before .before .before .before .before .before .before .before .before .before .before .before .before .before .before) .lent) (part (c .before .before .before .before .before .before .before .before .before .before) .within) (c .before .before .before .before .before .before .gather .ensures) .number)) (λ c. omega (arith, names (c .before .before .before .before .before .before .before .before .before .before .before .before .before .before .before .before .before .before .before .before .before .before .before .before .before .before .before .before .before .before) .reading .rooms, part (c .before .before .before .before .before .before .before .before .before .before) .reading .rooms)) (λ c. omega (arith, names (c .before .before .before .before .before .before .before .before .before .before .before .before .before .before .before .before .before .before .before .before .before .before .before .before .before .before .before .before .before .before) .reading .rooms, part (c .before .before .before .before .before .before .before .before .before .before) .reading .rooms)) (λ c. omega (arith, names (c .before .before .before .before .before .before .before .before .before .before .before .before .before .before .before .before .before .before .before .before .before .before .before .before .before .before .before .before .before .before) .reading .rooms, part (c .before .before .before .before .before .before .before .before .before .before) .reading .rooms)) (λ c. omega (arith, names (c .before .before .before .before .before .before .before .before .before .before .before .before .before .before .before .before .before .before .before .before .before .before .before .before .before .before .before .before .before .before) .reading .rooms, part (c .before .before .before .before .before .before .before .before .before .before) .reading .rooms)) returns-5

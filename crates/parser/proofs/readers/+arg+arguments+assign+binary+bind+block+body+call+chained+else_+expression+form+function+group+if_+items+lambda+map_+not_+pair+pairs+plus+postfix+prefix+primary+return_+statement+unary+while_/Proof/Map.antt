@@ -45,19 +45,19 @@ module _ (t : ℕ) where
   close c = token-taken (c .before .read4 .given .1) (c .before .before .before .consume3 .ensures)
 
   returns : lts.Need-returns claims (map--at (just t)) map-.Post
-  returns c = lacks (c .enum-told .given .1) (c .before .before .consume .ensures) (omega arith) (λ n. Refuses.in-node (Refuses.missing n))
+  returns c = lacks (c .enum-told .given .1) (c .before .before .consume .ensures) (λ n. Refuses.in-node (Refuses.missing n))
 
   returns-2 : lts.Need-returns-2 claims (map--at (just t)) map-.Post
-  returns-2 c = lacks (c .enum-told2 .given .1) (c .before .before .consume2 .ensures) (omega arith) (λ n. Refuses.in-node (led-refused _ (lead (c .before .before .before)) (λ e. omega arith) (Refuses.missing n)))
+  returns-2 c = lacks (c .enum-told2 .given .1) (c .before .before .consume2 .ensures) (λ n. Refuses.in-node (led-refused (lead (c .before .before .before)) (Refuses.missing n)))
 
   map-entries-requires : lts.Need-pairs-requires claims (map--at (just t)) map-.Post
   map-entries-requires c κs = (omega (arith, c .before .before .before .before .before .before .before .before .before .before .before .before .before .before .before .before .before .before .pre .0, past-at (lead (c .before .before .before .before .before .before .before .before)), past-at (brace (c .before .before .before .before)), opened (c .before .before .before .before) .within .at), opened (c .before .before .before .before))
 
   returns-3 : lts.Need-returns-3 claims (map--at (just t)) map-.Post
-  returns-3 c = passed-list (c .enum-told3 .given .1) (c .before .before .before .before .before .before .before .before .before .before .pairs .ensures) (λ x h. Refuses.in-node (led-refused _ (lead (c .before .before .before .before .before .before .before .before .before .before .before .before .before .before .before .before .before .before .before)) (λ e. omega arith) (led-refused _ (brace (c .before .before .before .before .before .before .before .before .before .before .before .before .before .before .before)) (λ e. omega arith) (Refuses.in-first h))))
+  returns-3 c = passed-list (c .enum-told3 .given .1) (c .before .before .before .before .before .before .before .before .before .before .pairs .ensures) (λ x h. Refuses.in-node (led-refused (lead (c .before .before .before .before .before .before .before .before .before .before .before .before .before .before .before .before .before .before .before)) (led-refused (brace (c .before .before .before .before .before .before .before .before .before .before .before .before .before .before .before)) (Refuses.in-first h))))
 
   returns-4 : lts.Need-returns-4 claims (map--at (just t)) map-.Post
-  returns-4 c = lacks (c .enum-told4 .given .1) (c .before .before .consume3 .ensures) (omega arith) (λ n. Refuses.in-node (led-refused _ (lead (c .before .before .before .before .before .before .before .before .before .before .before .before .before .before .before .before .before .before .before .before .before .before .before)) (λ e. omega arith) (led-refused _ (brace (c .before .before .before .before .before .before .before .before .before .before .before .before .before .before .before .before .before .before .before)) (λ e. omega arith) (after (entries (c .before .before .before) .reading) (Refuses.missing n)))))
+  returns-4 c = lacks (c .enum-told4 .given .1) (c .before .before .consume3 .ensures) (λ n. Refuses.in-node (led-refused (lead (c .before .before .before .before .before .before .before .before .before .before .before .before .before .before .before .before .before .before .before .before .before .before .before)) (led-refused (brace (c .before .before .before .before .before .before .before .before .before .before .before .before .before .before .before .before .before .before .before)) (after (entries (c .before .before .before) .reading) (Refuses.missing n)))))
 
   -- what stands where the entries are gathered, and that they are held there
   within : (c : lts.After-known-told4 claims (map--at (just t)) map-.Post) → Within-at (entries (c .before .before .before .before) .within) (c .before .read4 .given .0 .1 .0)
@@ -71,7 +71,7 @@ module _ (t : ℕ) where
   returns-5 c =
       let g = c .before .before .before .before .before .before .gather .ensures in
       let l = list-reading (token-held (brace (c .before .before .before .before .before .before .before .before .before .before .before .before .before .before .before .before .before .before .before .before .before .before .before .before .before .before .before .before .before .before)) ∙ token-held (lead (c .before .before .before .before .before .before .before .before .before .before .before .before .before .before .before .before .before .before .before .before .before .before .before .before .before .before .before .before .before .before .before .before .before .before))) (entries (c .before .before .before .before .before .before .before .before .before .before .before .before .before .before)) in
-      gathered-answer (c .before .before .before .before .before .before .before .before .before .before .before .before .before .before .before .before .before .before .before .before .before .before .before .before .before .before .before .before .before .before .before .before .before .before .before .before .before .before .before .before .before .before .before .before .pre .1) (record { pays = tt }) (within (c .before .before .before .before .before .before .before .before .before .before)) g (labelled (led (lead (c .before .before .before .before .before .before .before .before .before .before .before .before .before .before .before .before .before .before .before .before .before .before .before .before .before .before .before .before .before .before .before .before .before .before)) (λ e. omega arith) (led (brace (c .before .before .before .before .before .before .before .before .before .before .before .before .before .before .before .before .before .before .before .before .before .before .before .before .before .before .before .before .before .before)) (λ e. omega arith) (token-closes (close (c .before .before .before .before .before .before .before .before .before .before)) (λ e. omega arith) (c .before .before .before .before .before .before .before .before .before .before .before .before .before .before .before .before .before .before .before .before .before .before .before .before .before .before .before .before .before .before .before .before .before .before .before .before .before .before .before .before .before .before .before .before .pre .1 .deep) l))) (map-made (within (c .before .before .before .before .before .before .before .before .before .before)) g (starts (lead (c .before .before .before .before .before .before .before .before .before .before .before .before .before .before .before .before .before .before .before .before .before .before .before .before .before .before .before .before .before .before .before .before .before .before))) (kept (c .before .before .before .before .before .before .before .before .before .before)) (token-end (close (c .before .before .before .before .before .before .before .before .before .before))) (c .before .before .map .ensures)))
+      gathered-answer (c .before .before .before .before .before .before .before .before .before .before .before .before .before .before .before .before .before .before .before .before .before .before .before .before .before .before .before .before .before .before .before .before .before .before .before .before .before .before .before .before .before .before .before .before .pre .1) (record { pays = tt }) (within (c .before .before .before .before .before .before .before .before .before .before)) g (labelled (led (lead (c .before .before .before .before .before .before .before .before .before .before .before .before .before .before .before .before .before .before .before .before .before .before .before .before .before .before .before .before .before .before .before .before .before .before)) (led (brace (c .before .before .before .before .before .before .before .before .before .before .before .before .before .before .before .before .before .before .before .before .before .before .before .before .before .before .before .before .before .before)) (token-closes (close (c .before .before .before .before .before .before .before .before .before .before)) (c .before .before .before .before .before .before .before .before .before .before .before .before .before .before .before .before .before .before .before .before .before .before .before .before .before .before .before .before .before .before .before .before .before .before .before .before .before .before .before .before .before .before .before .before .pre .1 .deep) l))) (map-made (within (c .before .before .before .before .before .before .before .before .before .before)) g (starts (lead (c .before .before .before .before .before .before .before .before .before .before .before .before .before .before .before .before .before .before .before .before .before .before .before .before .before .before .before .before .before .before .before .before .before .before))) (kept (c .before .before .before .before .before .before .before .before .before .before)) (token-end (close (c .before .before .before .before .before .before .before .before .before .before))) (c .before .before .map .ensures)))
 
   pub spec : {M : Type 1} → lts.Closed claims (map--at (just t)) map-.Post M
   spec = lts.spec claims (map--at (just t)) map-.Post (λ c κs. search needs) (λ c. search needs) (λ c. search needs) returns (λ c κs. asked c .within .at) (λ c. search needs) (λ c. search needs) returns-2 map-entries-requires (λ c. search needs) (λ c. search needs) (λ c. search needs) (λ c. search needs) (λ c. search needs) (λ c. search needs) returns-3 (λ c κs. entries c .within .at) (λ c. search needs) (λ c. search needs) (λ c. search needs) (λ c. search needs) (λ c. search needs) (λ c. search needs) returns-4 (λ c. kept-under (kept (c .before))) (λ c κs. gather-asks (opened (c .before .before .before .before .before .before .before .before .before .before .before .before .before .before .before .before .before .before .before .before .before .before .before) .lent) (within (c .before .before .before)) (kept-under (kept (c .before .before .before)))) (λ c. omega (arith, numbers-fit (opened (c .before .before .before .before .before .before .before .before .before .before .before .before .before .before .before .before .before .before .before .before .before .before .before .before .before .before .before) .lent) (within (c .before .before .before .before .before .before .before)) .0)) (λ c. omega (arith, numbers-fit (opened (c .before .before .before .before .before .before .before .before .before .before .before .before .before .before .before .before .before .before .before .before .before .before .before .before .before .before .before) .lent) (within (c .before .before .before .before .before .before .before)) .1)) (λ c κs. gathered-free (opened (c .before .before .before .before .before .before .before .before .before .before .before .before .before .before .before .before .before .before .before .before .before .before .before .before .before .before .before) .lent) (within (c .before .before .before .before .before .before .before)) (c .before .before .before .gather .ensures)) (λ c. omega (arith, gathered-free (opened (c .before .before .before .before .before .before .before .before .before .before .before .before .before .before .before .before .before .before .before .before .before .before .before .before .before .before .before .before .before .before) .lent) (within (c .before .before .before .before .before .before .before .before .before .before)) (c .before .before .before .before .before .before .gather .ensures) .number)) (λ c. omega (arith, entries (c .before .before .before .before .before .before .before .before .before .before .before .before .before .before) .reading .rooms)) (λ c. omega (arith, entries (c .before .before .before .before .before .before .before .before .before .before .before .before .before .before) .reading .rooms)) (λ c. omega (arith, entries (c .before .before .before .before .before .before .before .before .before .before .before .before .before .before) .reading .rooms)) (λ c. omega (arith, entries (c .before .before .before .before .before .before .before .before .before .before .before .before .before .before) .reading .rooms)) returns-5

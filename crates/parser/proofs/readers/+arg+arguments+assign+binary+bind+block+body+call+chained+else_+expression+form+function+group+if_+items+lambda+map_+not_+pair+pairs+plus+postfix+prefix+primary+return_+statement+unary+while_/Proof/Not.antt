@@ -35,10 +35,10 @@ module _ (t : ℕ) where
   start c = c .before .before .before .before .before .before .before .before .before .before .before .before .before .before .before .before .before .before .before .before .before .before .before .before .before .before .before
 
   returns : lts.Need-returns claims (not--at (just t)) not-.Post
-  returns c = lacks (c .enum-told .given .1) (c .before .before .consume .ensures) (omega arith) (λ h. Refuses.in-node (Refuses.missing h))
+  returns c = lacks (c .enum-told .given .1) (c .before .before .consume .ensures) (λ h. Refuses.in-node (Refuses.missing h))
 
   returns-2 : lts.Need-returns-2 claims (not--at (just t)) not-.Post
-  returns-2 c = refuse (Refuses.in-node (led-refused _ (lead (c .before)) (λ e. omega arith) (Refuses.too-deep (c .if1 .taken))))
+  returns-2 c = refuse (Refuses.in-node (led-refused (lead (c .before)) (Refuses.too-deep (c .if1 .taken))))
 
   binary-requires : lts.Need-binary-requires claims (not--at (just t)) not-.Post
   binary-requires c κs =
@@ -47,14 +47,14 @@ module _ (t : ℕ) where
       (search needs, (omega arith, ready-deep (ready-led (c .before .before .before .before .before .before .before .before .before .before .before .before .before .before .before .pre .1) k (λ e. omega arith)) (c .before .before .before .before .if1 .left)))
 
   returns-3 : lts.Need-returns-3 claims (not--at (just t)) not-.Post
-  returns-3 c = passed (c .enum-told2 .given .1) (c .before .before .before .before .before .before .before .before .before .before .binary .ensures) (λ x h. Refuses.in-node (led-refused _ (lead (c .before .before .before .before .before .before .before .before .before .before .before .before .before .before .before .before)) (λ e. omega arith) (inside (c .before .before .before .before .before .before .before .before .before .before .before .before .before .before .before .if1 .left) h)))
+  returns-3 c = passed (c .enum-told2 .given .1) (c .before .before .before .before .before .before .before .before .before .before .binary .ensures) (λ x h. Refuses.in-node (led-refused (lead (c .before .before .before .before .before .before .before .before .before .before .before .before .before .before .before .before)) (inside (c .before .before .before .before .before .before .before .before .before .before .before .before .before .before .before .if1 .left) h)))
 
   returns-4 : lts.Need-returns-4 claims (not--at (just t)) not-.Post
   unfolding paid spare above make put fill numbers write rule
   returns-4 c =
       let k = lead (c .before .before .before .before .before .before .before .before .before .before .before .before .before .before .before .before .before .before .before .before .before) in
       let z = part (c .before .before .before .before) in
-      row-answered (start (c .before .before .before .before) .pre .1) (record { pays = tt }) (led k (λ e. omega arith) (opened (z .reading))) (z .within) (inserted-as (starts k) (ends k) refl (c .before .before .logical-not .ensures)) refl
+      row-answered (start (c .before .before .before .before) .pre .1) (record { pays = tt }) (led k (opened (z .reading))) (z .within) (inserted-as (starts k) (ends k) refl (c .before .before .logical-not .ensures)) refl
 
   pub spec : {M : Type 1} → lts.Closed claims (not--at (just t)) not-.Post M
   spec = lts.spec claims (not--at (just t)) not-.Post (λ c κs. search needs) (λ c. search needs) (λ c. search needs) returns returns-2 (λ c. search needs) binary-requires (λ c. search needs) (λ c. search needs) (λ c. search needs) (λ c. search needs) (λ c. search needs) (λ c. search needs) returns-3 (λ c κs. free (start (c .before) .pre .1 .lent) (part (c .before) .within)) (λ c. omega (arith, free (start (c .before .before .before .before) .pre .1 .lent) (part (c .before .before .before .before) .within) .number)) (λ c. search needs) (λ c. search needs) (λ c. search needs) (λ c. search needs) returns-4

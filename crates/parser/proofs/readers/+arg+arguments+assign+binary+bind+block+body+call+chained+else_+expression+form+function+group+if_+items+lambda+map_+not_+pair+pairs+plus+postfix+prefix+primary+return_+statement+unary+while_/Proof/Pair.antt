@@ -4,11 +4,11 @@ use borrow.Author.Needs.{needs}
 use native.Mathlib.Omega.{arith}
 use mathlib.Core.Path.{refl}
 use Rattle.grammar.specs.Kaori.{value, rules}
-use Rattle.grammar.specs.Kind.{Colon, RightBrace}
 use Rattle.grammar.specs.Refusal.{Refuses}
+use Rattle.grammar.proofs.Tables.{keyed}
 use Rattle.parser.proofs.Entries.{entry-alone, entry-pair}
-use Rattle.reading.proofs.Laws.{sees, ready-next, ready-on}
-use Rattle.reading.proofs.Names.{plain, keyed, separated}
+use Rattle.reading.proofs.Laws.{ready-next, ready-on}
+use Rattle.reading.proofs.Names.{separated}
 use Rattle.reading.proofs.Replies.{Told, success, passed, after}
 use Rattle.parser.proofs.readers.+arg+arguments+assign+binary+bind+block+body+call+chained+else_+expression+form+function+group+if_+items+lambda+map_+not_+pair+pairs+plus+postfix+prefix+primary+return_+statement+unary+while_ as cycle
 use Rattle.parser.proofs.readers as readers
@@ -40,7 +40,7 @@ module _ (t : ℕ) where
   returns-2 : lts.Need-returns-2 claims (pair-at (just t)) pair.Post
   returns-2 c =
       let p = start (c .before .before .before) .pre .1 in
-      separated _ p (plain RightBrace tt) (entry-alone (key (c .before .before .before)) p (rw (c .before .before .kind-at .ensures) at (c .before .if1 .taken))) (c .comma .ensures)
+      separated _ p (entry-alone (key (c .before .before .before)) p (rw (c .before .before .kind-at .ensures) at (c .before .if1 .taken))) (c .comma .ensures)
 
   expression-requires-2 : lts.Need-expression-requires-2 claims (pair-at (just t)) pair.Post
   expression-requires-2 c κs =
@@ -53,10 +53,10 @@ module _ (t : ℕ) where
   returns-3 c =
       let z = key (c .before .before .before .before .before .before .before .before .before .before .before .before .before .before .before .before .before) in
       let k = rw (c .before .before .before .before .before .before .before .before .before .before .before .before .before .before .before .before .kind-at .ensures) at (c .before .before .before .before .before .before .before .before .before .before .before .before .before .before .before .if1 .left) in
-      passed (c .enum-told2 .given .1) (c .before .before .before .before .before .before .before .before .before .before .expression2 .ensures) (λ x h. Refuses.in-first (Refuses.in-node (after (z .reading) (Refuses.in-choice (keyed _ _ value _ refl (plain Colon tt) k) (Refuses.past-token (sees _ _ _ k (λ e. omega arith)) h)))))
+      passed (c .enum-told2 .given .1) (c .before .before .before .before .before .before .before .before .before .before .expression2 .ensures) (λ x h. Refuses.in-first (Refuses.in-node (after (z .reading) (Refuses.in-choice (keyed value _ refl k) (Refuses.past-token k h)))))
 
   returns-4 : lts.Need-returns-4 claims (pair-at (just t)) pair.Post
-  returns-4 c = separated _ (start (c .before .before .before .before .before .before .before .before .before .before .before .before .before .before .before .before .before .before .before) .pre .1) (plain RightBrace tt) (entry-pair (key (c .before .before .before .before .before .before .before .before .before .before .before .before .before .before .before .before .before .before .before)) (rw (c .before .before .before .before .before .before .before .before .before .before .before .before .before .before .before .before .before .before .kind-at .ensures) at (c .before .before .before .before .before .before .before .before .before .before .before .before .before .before .before .before .before .if1 .left)) (second (c .before))) (c .comma2 .ensures)
+  returns-4 c = separated _ (start (c .before .before .before .before .before .before .before .before .before .before .before .before .before .before .before .before .before .before .before) .pre .1) (entry-pair (key (c .before .before .before .before .before .before .before .before .before .before .before .before .before .before .before .before .before .before .before)) (rw (c .before .before .before .before .before .before .before .before .before .before .before .before .before .before .before .before .before .before .kind-at .ensures) at (c .before .before .before .before .before .before .before .before .before .before .before .before .before .before .before .before .before .if1 .left)) (second (c .before))) (c .comma2 .ensures)
 
   pub spec : {M : Type 1} → lts.Closed claims (pair-at (just t)) pair.Post M
   spec = lts.spec claims (pair-at (just t)) pair.Post (λ c κs. search needs) (λ c. search needs) (λ c. search needs) (λ c. search needs) (λ c. search needs) (λ c. search needs) (λ c. search needs) returns (λ c κs. key c .within .at) (λ c κs. key (c .before .before) .within .at) (λ c. search needs) (λ c. search needs) (λ c. search needs) (λ c. search needs) returns-2 (λ c. omega (arith, key (c .before .before) .within .at, start (c .before .before) .pre .1 .lent .whole .most)) expression-requires-2 (λ c. search needs) (λ c. search needs) (λ c. search needs) (λ c. search needs) (λ c. search needs) (λ c. search needs) returns-3 (λ c κs. second c .within .at) (λ c. omega (arith, key (c .before .before .before .before .before .before .before .before .before .before .before .before .before .before .before .before .before .before .before) .reading .rooms, second (c .before) .reading .rooms)) (λ c. omega (arith, key (c .before .before .before .before .before .before .before .before .before .before .before .before .before .before .before .before .before .before .before) .reading .rooms, second (c .before) .reading .rooms)) (λ c. omega (arith, key (c .before .before .before .before .before .before .before .before .before .before .before .before .before .before .before .before .before .before .before) .reading .rooms, second (c .before) .reading .rooms)) (λ c. omega (arith, key (c .before .before .before .before .before .before .before .before .before .before .before .before .before .before .before .before .before .before .before) .reading .rooms, second (c .before) .reading .rooms)) returns-4

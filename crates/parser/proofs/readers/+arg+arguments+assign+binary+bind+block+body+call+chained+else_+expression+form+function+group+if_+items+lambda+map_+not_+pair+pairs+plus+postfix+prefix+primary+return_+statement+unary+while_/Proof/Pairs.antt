@@ -7,10 +7,10 @@ use Rattle.grammar.specs.Kaori.{comma, rules, entries as table}
 use Rattle.grammar.specs.Kind.{RightBrace}
 use Rattle.grammar.specs.Phrase.{part, choice}
 use Rattle.grammar.specs.Token.{count}
+use Rattle.grammar.proofs.Tables.{items-end, items-on}
 use Rattle.reading.specs.State.{state}
 use Rattle.parser.proofs.Entries.{entry}
 use Rattle.reading.proofs.Listings.{Listing, listing-none, listing-more, listing-end, lists, Item-of, item-refused, item-less, hold-room, hold-number}
-use Rattle.reading.proofs.Names.{plain, items-end, items-on}
 use Rattle.reading.proofs.Replies.{Told, success}
 use Rattle.parser.proofs.readers.+arg+arguments+assign+binary+bind+block+body+call+chained+else_+expression+form+function+group+if_+items+lambda+map_+not_+pair+pairs+plus+postfix+prefix+primary+return_+statement+unary+while_ as cycle
 use Rattle.parser.proofs.readers as readers
@@ -34,7 +34,7 @@ module _ (t : ℕ) where
   -- where the list goes on: what its table has there
   on : (c : lts.At-match-rest claims (pairs-at (just t)) pairs.Post Inv-list μ-list) → Item-of (c .before .before .list .inv) (part entry (choice (comma RightBrace)))
   unfolding rules
-  on c = items-on _ _ table _ refl (plain RightBrace tt) (rw (c .before .kind-at .ensures) at (c .match .rest .1))
+  on c = items-on table _ refl (rw (c .before .kind-at .ensures) at (c .match .rest .1))
 
   -- where an item is read: what that says
   item : (c : lts.After-known-told claims (pairs-at (just t)) pairs.Post Inv-list μ-list) → Told (c .before .before .before .before .before .before .before .before .before .before .before .pair .ensures) (c .before .read .given .0 .0) (c .before .read .given .0 .1 .0)
@@ -51,7 +51,7 @@ module _ (t : ℕ) where
 
   returns-2 : lts.Need-returns-2 claims (pairs-at (just t)) pairs.Post Inv-list μ-list
   unfolding rules
-  returns-2 c = lists (listing-end (c .before .before .list .inv) (items-end _ _ table _ refl (plain RightBrace tt) (rw (c .before .kind-at .ensures) at (c .match .keys1))))
+  returns-2 c = lists (listing-end (c .before .before .list .inv) (items-end table _ refl (rw (c .before .kind-at .ensures) at (c .match .keys1))))
 
   pub spec : {M : Type 1} → lts.Closed claims (pairs-at (just t)) pairs.Post M
   spec = lts.spec claims (pairs-at (just t)) pairs.Post Inv-list μ-list (λ c. let p = c .before .before .before .before .before .before .pre .1 in listing-none (p .deep) (p .within)) (λ c κs. search needs) (λ c κs. search needs) (λ c. search needs) (λ c. search needs) (λ c. search needs) (λ c. search needs) (λ c. search needs) (λ c. search needs) returns (λ c κs. hold-room (item (c .before) .within)) (λ c. omega (arith, hold-number (item (c .before .before .before .before) .within) (c .before .before .before .before .before .before .before .before .before .before .before .before .before .before .before .before .before .before .before .before .before .before .before .before .before .before .before .before .before .pre .1 .lent))) list-less list-again (λ c. search needs) (λ c. search needs) (λ c. search needs) (λ c. search needs) returns-2

@@ -27,7 +27,7 @@ module _ (t : ℕ) where
   returns c = refuse (Refuses.too-deep (c .if1 .taken))
 
   returns-2 : lts.Need-returns-2 claims (plus-at (just t)) plus.Post
-  returns-2 c = lacks (c .enum-told .given .1) (c .before .before .consume .ensures) (omega arith) (λ h. inside (c .before .before .before .if1 .left) (Refuses.missing h))
+  returns-2 c = lacks (c .enum-told .given .1) (c .before .before .consume .ensures) (λ h. inside (c .before .before .before .if1 .left) (Refuses.missing h))
 
   binary-requires : lts.Need-binary-requires claims (plus-at (just t)) plus.Post
   binary-requires c κs = let e = past-at (lead (c .before .before .before .before)) in (search needs, (search needs, ready-led (ready-deep (c .before .before .before .before .before .before .before .before .before .before .before .before .before .before .before .pre .1) (c .before .before .before .before .before .before .before .before .if1 .left)) (lead (c .before .before .before .before)) (λ e. omega arith)))
@@ -37,7 +37,7 @@ module _ (t : ℕ) where
   returns-3 c =
       let k = lead (c .before .before .before .before .before .before .before .before .before .before .before .before .before) in
       let e = past-at k in
-      mapped _ (omega arith) (c .before .before .before .before .before .before .before .before .binary .ensures) (λ n d r. opened (led k (λ e. omega arith) r)) (λ x h. inside (c .before .before .before .before .before .before .before .before .before .before .before .before .before .before .before .before .before .if1 .left) (led-refused _ k (λ e. omega arith) h))
+      mapped _ (omega arith) (c .before .before .before .before .before .before .before .before .binary .ensures) (λ n d r. opened (led k r)) (λ x h. inside (c .before .before .before .before .before .before .before .before .before .before .before .before .before .before .before .before .before .if1 .left) (led-refused k h))
 
   pub spec : {M : Type 1} → lts.Closed claims (plus-at (just t)) plus.Post M
   spec = lts.spec claims (plus-at (just t)) plus.Post returns (λ c κs. search needs) (λ c. search needs) (λ c. search needs) returns-2 (λ c. search needs) binary-requires (λ c. search needs) (λ c. search needs) (λ c. search needs) (λ c. search needs) returns-3

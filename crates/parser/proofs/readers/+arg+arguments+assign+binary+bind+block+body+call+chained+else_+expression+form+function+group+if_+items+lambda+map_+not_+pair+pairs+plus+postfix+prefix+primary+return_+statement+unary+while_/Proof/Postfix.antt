@@ -62,7 +62,7 @@ module _ (t : ℕ) where
   returns-3 : lts.Need-returns-3 claims (postfix-at (just t)) postfix.Post Inv-loop μ-loop
   returns-3 c =
       let i = c .before .before .loop .inv in
-      goes (i .past) (going-end (no-call _ _ _ (λ e. c .match .rest .0 .1 (c .before .kind-at .ensures ∙ e)) (λ e. c .match .rest .1 (c .before .kind-at .ensures ∙ e))) i)
+      goes (i .past) (going-end (no-call (λ e. c .match .rest .0 .1 (c .before .kind-at .ensures ∙ e)) (λ e. c .match .rest .1 (c .before .kind-at .ensures ∙ e))) i)
 
   pub spec : {M : Type 1} → lts.Closed claims (postfix-at (just t)) postfix.Post M
   spec = lts.spec claims (postfix-at (just t)) postfix.Post Inv-loop μ-loop (λ c. search needs) (λ c κs. search needs) (λ c κs. search needs) (λ c. search needs) (λ c. search needs) (λ c. search needs) (λ c. search needs) (λ c. search needs) (λ c. search needs) returns loop-less loop-again function-call-requires (λ c. search needs) (λ c. search needs) (λ c. search needs) (λ c. search needs) (λ c. search needs) (λ c. search needs) returns-2 loop-less-2 loop-again-2 (λ c. search needs) (λ c. search needs) (λ c. search needs) (λ c. search needs) returns-3

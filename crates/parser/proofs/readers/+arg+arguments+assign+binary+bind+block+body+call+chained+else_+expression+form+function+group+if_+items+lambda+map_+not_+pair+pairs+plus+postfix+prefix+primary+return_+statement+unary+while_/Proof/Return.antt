@@ -34,20 +34,20 @@ module _ (t : ℕ) where
   start c = c .before .before .before .before .before .before .before .before .before .before .before .before .before .before .before .before .before .before .before .before .before .before .before .before .before .before
 
   returns : lts.Need-returns claims (return--at (just t)) return-.Post
-  returns c = lacks (c .enum-told .given .1) (c .before .before .consume .ensures) (omega arith) (λ h. Refuses.in-node (Refuses.missing h))
+  returns c = lacks (c .enum-told .given .1) (c .before .before .consume .ensures) (λ h. Refuses.in-node (Refuses.missing h))
 
   expression-requires : lts.Need-expression-requires claims (return--at (just t)) return-.Post
   expression-requires c κs = let e = past-at (lead (c .before .before .before .before)) in (search needs, ready-led (c .before .before .before .before .before .before .before .before .before .before .before .before .before .before .pre .1) (lead (c .before .before .before .before)) (λ e. omega arith))
 
   returns-2 : lts.Need-returns-2 claims (return--at (just t)) return-.Post
-  returns-2 c = passed (c .enum-told2 .given .1) (c .before .before .before .before .before .before .before .before .before .before .expression .ensures) (λ x h. Refuses.in-node (led-refused _ (lead (c .before .before .before .before .before .before .before .before .before .before .before .before .before .before .before)) (λ e. omega arith) h))
+  returns-2 c = passed (c .enum-told2 .given .1) (c .before .before .before .before .before .before .before .before .before .before .expression .ensures) (λ x h. Refuses.in-node (led-refused (lead (c .before .before .before .before .before .before .before .before .before .before .before .before .before .before .before)) h))
 
   returns-3 : lts.Need-returns-3 claims (return--at (just t)) return-.Post
   unfolding paid spare above make put fill numbers write rule
   returns-3 c =
       let k = lead (c .before .before .before .before .before .before .before .before .before .before .before .before .before .before .before .before .before .before .before .before) in
       let z = part (c .before .before .before .before) in
-      row-answered (start (c .before .before .before .before) .pre .1) (record { pays = tt }) (led k (λ e. omega arith) (z .reading)) (z .within) (inserted-as (starts k) refl refl (c .before .before .return- .ensures)) refl
+      row-answered (start (c .before .before .before .before) .pre .1) (record { pays = tt }) (led k (z .reading)) (z .within) (inserted-as (starts k) refl refl (c .before .before .return- .ensures)) refl
 
   pub spec : {M : Type 1} → lts.Closed claims (return--at (just t)) return-.Post M
   spec = lts.spec claims (return--at (just t)) return-.Post (λ c κs. search needs) (λ c. search needs) (λ c. search needs) returns expression-requires (λ c. search needs) (λ c. search needs) (λ c. search needs) (λ c. search needs) (λ c. search needs) (λ c. search needs) returns-2 (λ c κs. free (start (c .before) .pre .1 .lent) (part (c .before) .within)) (λ c. omega (arith, free (start (c .before .before .before .before) .pre .1 .lent) (part (c .before .before .before .before) .within) .number)) (λ c. search needs) (λ c. search needs) (λ c. search needs) (λ c. search needs) returns-3

@@ -41,7 +41,7 @@ module _ (t : ℕ) where
   returns c = refuse (Refuses.too-deep (c .if1 .taken))
 
   returns-2 : lts.Need-returns-2 claims (unary-at (just t)) unary.Post
-  returns-2 c = lacks (c .enum-told .given .1) (c .before .before .consume .ensures) (let l = sign-low (c .before .before .before .before .before .before .before .before .before .before .pre .1 .0) in omega arith) (λ h. inside (c .before .before .before .if1 .left) (Refuses.in-node (Refuses.missing h)))
+  returns-2 c = lacks (c .enum-told .given .1) (c .before .before .consume .ensures) (λ h. inside (c .before .before .before .if1 .left) (Refuses.in-node (Refuses.missing h)))
 
   binary-requires : lts.Need-binary-requires claims (unary-at (just t)) unary.Post
   binary-requires c κs =
@@ -54,7 +54,7 @@ module _ (t : ℕ) where
   unfolding above
   returns-3 c =
       let l = sign-low (c .before .before .before .before .before .before .before .before .before .before .before .before .before .before .before .before .before .before .before .before .before .before .before .before .before .before .pre .1 .0) in
-      passed (c .enum-told2 .given .1) (c .before .before .before .before .before .before .before .before .before .before .binary .ensures) (λ x h. inside (c .before .before .before .before .before .before .before .before .before .before .before .before .before .before .before .before .before .before .before .if1 .left) (Refuses.in-node (led-refused _ (lead (c .before .before .before .before .before .before .before .before .before .before .before .before .before .before .before)) (λ e. omega arith) h)))
+      passed (c .enum-told2 .given .1) (c .before .before .before .before .before .before .before .before .before .before .binary .ensures) (λ x h. inside (c .before .before .before .before .before .before .before .before .before .before .before .before .before .before .before .before .before .before .before .if1 .left) (Refuses.in-node (led-refused (lead (c .before .before .before .before .before .before .before .before .before .before .before .before .before .before .before)) h)))
 
   returns-4 : lts.Need-returns-4 claims (unary-at (just t)) unary.Post
   unfolding paid spare above make put fill numbers write rule
@@ -63,7 +63,7 @@ module _ (t : ℕ) where
       let z = part (c .before .before .before .before .before) in
       let p = start (c .before .before .before .before .before) .pre .1 in
       let l = sign-low (p .0) in
-      answer (p .1) (record { pays = tt }) (z .within .at) (z .within .table) (opened (rowed (led k (λ e. omega arith) (z .reading)) (z .within) (inserted-as (starts k) refl (ap (λ n. n ∷ c .before .before .before .before .before .before .read2 .given .0 .0 .id ∷ []) (c .before .before .before .sign-of .ensures ∙ ap (λ x. place x unary-operators) (sym (k .kind-is)))) (c .before .before .unary .ensures)) refl))
+      answer (p .1) (record { pays = tt }) (z .within .at) (z .within .table) (opened (rowed (led k (z .reading)) (z .within) (inserted-as (starts k) refl (ap (λ n. n ∷ c .before .before .before .before .before .before .read2 .given .0 .0 .id ∷ []) (c .before .before .before .sign-of .ensures ∙ ap (λ x. place x unary-operators) (sym (k .kind-is)))) (c .before .before .unary .ensures)) refl))
 
   pub spec : {M : Type 1} → lts.Closed claims (unary-at (just t)) unary.Post M
   spec = lts.spec claims (unary-at (just t)) unary.Post returns (λ c κs. search needs) (λ c. search needs) (λ c. search needs) returns-2 (λ c. search needs) binary-requires (λ c. search needs) (λ c. search needs) (λ c. search needs) (λ c. search needs) (λ c. search needs) (λ c. search needs) returns-3 (λ c κs. search needs) (λ c κs. free (start (c .before .before) .pre .1 .1 .lent) (part (c .before .before) .within)) (λ c. omega (arith, free (start (c .before .before .before .before .before) .pre .1 .1 .lent) (part (c .before .before .before .before .before) .within) .number)) (λ c. search needs) (λ c. search needs) (λ c. search needs) (λ c. search needs) returns-4

@@ -39,13 +39,13 @@ module _ (t : ℕ) where
   start c = c .before .before .before .before .before .before .before .before .before .before .before .before .before .before .before .before .before .before .before .before .before .before .before .before .before .before .before .before .before .before .before .before .before .before .before .before .before .before .before .before .before .before
 
   returns : lts.Need-returns claims (while--at (just t)) while-.Post
-  returns c = lacks (c .enum-told .given .1) (c .before .before .consume .ensures) (omega arith) (λ h. Refuses.in-node (Refuses.missing h))
+  returns c = lacks (c .enum-told .given .1) (c .before .before .consume .ensures) (λ h. Refuses.in-node (Refuses.missing h))
 
   expression-requires : lts.Need-expression-requires claims (while--at (just t)) while-.Post
   expression-requires c κs = let e = past-at (lead (c .before .before .before .before)) in (search needs, ready-led (c .before .before .before .before .before .before .before .before .before .before .before .before .before .before .pre .1) (lead (c .before .before .before .before)) (λ e. omega arith))
 
   returns-2 : lts.Need-returns-2 claims (while--at (just t)) while-.Post
-  returns-2 c = passed (c .enum-told2 .given .1) (c .before .before .before .before .before .before .before .before .before .before .expression .ensures) (λ x h. Refuses.in-node (led-refused _ (lead (c .before .before .before .before .before .before .before .before .before .before .before .before .before .before .before)) (λ e. omega arith) (Refuses.in-first h)))
+  returns-2 c = passed (c .enum-told2 .given .1) (c .before .before .before .before .before .before .before .before .before .before .expression .ensures) (λ x h. Refuses.in-node (led-refused (lead (c .before .before .before .before .before .before .before .before .before .before .before .before .before .before .before)) (Refuses.in-first h)))
 
   block-requires : lts.Need-block-requires claims (while--at (just t)) while-.Post
   block-requires c κs =
@@ -53,14 +53,14 @@ module _ (t : ℕ) where
       (omega (arith, past-at (lead (c .before .before .before .before .before .before .before .before .before .before .before .before .before .before .before .before .before .before .before .before)), z .past, z .within .at, c .before .before .before .before .before .before .before .before .before .before .before .before .before .before .before .before .before .before .before .before .before .before .before .before .before .before .before .before .before .before .pre .0), ready-on (c .before .before .before .before .before .before .before .before .before .before .before .before .before .before .before .before .before .before .before .before .before .before .before .before .before .before .before .before .before .before .pre .1) (z .within))
 
   returns-3 : lts.Need-returns-3 claims (while--at (just t)) while-.Post
-  returns-3 c = passed (c .enum-told3 .given .1) (c .before .before .before .before .before .before .before .before .before .before .block .ensures) (λ x h. Refuses.in-node (led-refused _ (lead (c .before .before .before .before .before .before .before .before .before .before .before .before .before .before .before .before .before .before .before .before .before .before .before .before .before .before .before .before .before .before .before)) (λ e. omega arith) (after (condition (c .before .before .before .before .before .before .before .before .before .before .before .before .before .before .before) .reading) h)))
+  returns-3 c = passed (c .enum-told3 .given .1) (c .before .before .before .before .before .before .before .before .before .before .block .ensures) (λ x h. Refuses.in-node (led-refused (lead (c .before .before .before .before .before .before .before .before .before .before .before .before .before .before .before .before .before .before .before .before .before .before .before .before .before .before .before .before .before .before .before)) (after (condition (c .before .before .before .before .before .before .before .before .before .before .before .before .before .before .before) .reading) h)))
 
   returns-4 : lts.Need-returns-4 claims (while--at (just t)) while-.Post
   unfolding paid spare above make put fill numbers write rule
   returns-4 c =
       let k = lead (c .before .before .before .before .before .before .before .before .before .before .before .before .before .before .before .before .before .before .before .before .before .before .before .before .before .before .before .before .before .before .before .before .before .before .before .before) in
       let z = body (c .before .before .before .before) in
-      row-answered (start (c .before .before .before .before) .pre .1) (record { pays = tt }) (led k (λ e. omega arith) (both (condition (c .before .before .before .before .before .before .before .before .before .before .before .before .before .before .before .before .before .before .before .before) .reading) (z .reading))) (z .within) (inserted-as (starts k) refl refl (c .before .before .while-loop .ensures)) refl
+      row-answered (start (c .before .before .before .before) .pre .1) (record { pays = tt }) (led k (both (condition (c .before .before .before .before .before .before .before .before .before .before .before .before .before .before .before .before .before .before .before .before) .reading) (z .reading))) (z .within) (inserted-as (starts k) refl refl (c .before .before .while-loop .ensures)) refl
 
   pub spec : {M : Type 1} → lts.Closed claims (while--at (just t)) while-.Post M
   spec = lts.spec claims (while--at (just t)) while-.Post (λ c κs. search needs) (λ c. search needs) (λ c. search needs) returns expression-requires (λ c. search needs) (λ c. search needs) (λ c. search needs) (λ c. search needs) (λ c. search needs) (λ c. search needs) returns-2 block-requires (λ c. search needs) (λ c. search needs) (λ c. search needs) (λ c. search needs) (λ c. search needs) (λ c. search needs) returns-3 (λ c κs. free (start (c .before) .pre .1 .lent) (body (c .before) .within)) (λ c. omega (arith, free (start (c .before .before .before .before) .pre .1 .lent) (body (c .before .before .before .before) .within) .number)) (λ c. omega (arith, condition (c .before .before .before .before .before .before .before .before .before .before .before .before .before .before .before .before .before .before .before .before) .reading .rooms, body (c .before .before .before .before) .reading .rooms)) (λ c. omega (arith, condition (c .before .before .before .before .before .before .before .before .before .before .before .before .before .before .before .before .before .before .before .before) .reading .rooms, body (c .before .before .before .before) .reading .rooms)) (λ c. omega (arith, condition (c .before .before .before .before .before .before .before .before .before .before .before .before .before .before .before .before .before .before .before .before) .reading .rooms, body (c .before .before .before .before) .reading .rooms)) (λ c. omega (arith, condition (c .before .before .before .before .before .before .before .before .before .before .before .before .before .before .before .before .before .before .before .before) .reading .rooms, body (c .before .before .before .before) .reading .rooms)) returns-4
