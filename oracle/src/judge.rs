@@ -87,9 +87,6 @@ fn agreed(case: &Case, original: Parsed, counted: Parsed) -> Outcome {
 
 /// Code and expected kind of a message of parser.rs.
 fn meaning(message: &str) -> (u32, u32) {
-    if message == "failed to parse float" {
-        return (12, NO_KIND);
-    }
     if message.starts_with("expected a <operand> and found: ") {
         return (9, NO_KIND);
     }

@@ -11,6 +11,7 @@ pub mod judge;
 pub mod kinds;
 pub mod lexer;
 pub mod list;
+pub mod numbers;
 pub mod random;
 pub mod rows;
 pub mod scripts;

@@ -2,8 +2,21 @@
 //! All generated antt text comes from this file.
 use crate::{
     case::Case,
+    numbers::Number,
     rows::{Outcome, Rows},
+    show,
 };
+
+/// A row of a table: the table's `specs/Cases.antt` and `proofs/Cases.antt` of crate `grammar`.
+pub trait Row: Clone {
+    /// The file of crate `grammar`'s proofs that `proofs` is made from.
+    const MODEL: &'static str;
+    fn specs(rows: &[Self]) -> String;
+    fn proofs(model: &str) -> String;
+    /// How large a case is, and how it is shown.
+    fn size(&self) -> usize;
+    fn shown(&self) -> String;
+}
 
 /// A case with its limit and what the original made of it.
 #[derive(Clone)]
@@ -16,11 +29,13 @@ pub struct Entry {
 /// Enough for the reader of `grammar/proofs/Reader.antt` on scripts of some 30 tokens.
 const FUEL: usize = 1_000;
 
-/// Crate `grammar`'s `specs/Cases.antt`.
-pub fn specs(entries: &[Entry]) -> String {
-    let rows: String = entries.iter().map(|entry| format!("    {} ∷\n", sample(entry))).collect();
-    format!(
-        "\
+impl Row for Entry {
+    const MODEL: &'static str = "Samples.antt";
+
+    fn specs(rows: &[Entry]) -> String {
+        let rows: String = rows.iter().map(|entry| format!("    {} ∷\n", sample(entry))).collect();
+        format!(
+            "\
 -- Cases and what the Rust makes of them.
 use mathlib.Core.List.{{List, [], _∷_}}
 use Rattle.grammar.specs.Outcome.{{refusal}}
@@ -31,24 +46,79 @@ abbrev pub cases : List Sample
 cases =
 {rows}    []
 "
-    )
+        )
+    }
+
+    /// As the model, of `cases`, with more fuel.
+    fn proofs(model: &str) -> String {
+        let model = replaced(
+            model,
+            "specs.Samples.{Sample, All-right, samples, points}",
+            "specs.Samples.{Sample, All-right}\nuse Rattle.grammar.specs.Cases.{cases}",
+        );
+        let model = replaced(&model, " 400 script", &format!(" {FUEL} script"));
+        let model = replaced(
+            &model,
+            "pub samples-right : All-right (samples ++ points)",
+            "pub cases-right : All-right cases",
+        );
+        replaced(
+            &model,
+            "samples-right = all-right (samples ++ points) refl",
+            "cases-right = all-right cases refl",
+        )
+    }
+
+    fn size(&self) -> usize {
+        self.case.encode().len()
+    }
+
+    fn shown(&self) -> String {
+        let case = show::case(&self.case.encode());
+        format!("{case}limit    {}\nRust\n         {:?}\n", self.limit, self.outcome)
+    }
 }
 
-/// Crate `grammar`'s `proofs/Cases.antt`: as `proofs/Samples.antt`, of `cases`, with more fuel.
-pub fn proofs(samples: &str) -> String {
-    let samples = replaced(
-        samples,
-        "specs.Samples.{Sample, All-right, samples, points}",
-        "specs.Samples.{Sample, All-right}\nuse Rattle.grammar.specs.Cases.{cases}",
-    );
-    let samples = replaced(&samples, " 400 script", &format!(" {FUEL} script"));
-    let samples =
-        replaced(&samples, "pub samples-right : All-right (samples ++ points)", "pub cases-right : All-right cases");
-    replaced(&samples, "samples-right = all-right (samples ++ points) refl", "cases-right = all-right cases refl")
+impl Row for Number {
+    const MODEL: &'static str = "Spelled.antt";
+
+    fn specs(rows: &[Number]) -> String {
+        let rows: String = rows.iter().map(|number| format!("    {} ∷\n", facts(number))).collect();
+        format!(
+            "\
+-- Texts, which of them are NumberLiterals, and which the Rust library's f64 reading takes.
+use mathlib.Core.List.{{List, [], _∷_}}
+use Rattle.grammar.specs.Spelled.{{Spelled, fits, misfits, float, no-float}}
+
+abbrev pub cases : List Spelled
+cases =
+{rows}    []
+"
+        )
+    }
+
+    fn proofs(model: &str) -> String {
+        let model = replaced(
+            model,
+            "Holds, All-hold, lexemes}",
+            "Holds, All-hold}\nuse Rattle.grammar.specs.Cases.{cases}",
+        );
+        let model =
+            replaced(&model, "pub lexemes-right : All-hold lexemes", "pub cases-right : All-hold cases");
+        replaced(&model, "lexemes-right = so (all-hold lexemes) tt", "cases-right = so (all-hold cases) tt")
+    }
+
+    fn size(&self) -> usize {
+        self.text.len()
+    }
+
+    fn shown(&self) -> String {
+        format!("Rust\n         {self:?}\n")
+    }
 }
 
 fn replaced(text: &str, old: &str, new: &str) -> String {
-    assert!(text.matches(old).count() == 1, "proofs/Samples.antt has not one `{old}`: adapt table.rs");
+    assert!(text.matches(old).count() == 1, "the model has not one `{old}`: adapt table.rs");
     text.replace(old, new)
 }
 
@@ -72,4 +142,10 @@ fn sample(Entry { case, limit, outcome }: &Entry) -> String {
 fn list(numbers: impl Iterator<Item = u32>) -> String {
     let items: String = numbers.map(|number| format!("{number} ∷ ")).collect();
     format!("({items}[])")
+}
+
+fn facts(Number { text, is_float, fits }: &Number) -> String {
+    let float = if *is_float { "float" } else { "no-float" };
+    let fits = if *fits { "fits" } else { "misfits" };
+    format!("{float} {text:?} ∷ {fits} 40 {text:?}")
 }

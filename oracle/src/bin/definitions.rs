@@ -1,5 +1,5 @@
-//! definitions N [--seed S] [--damage]: N of the original's answers, computed anew by antt from the definitions
-//! of crate `grammar`, in a copy of that crate outside the repository.
+//! definitions N [--numbers] [--seed S] [--damage]: N of the original's answers, computed anew by antt from the
+//! definitions of crate `grammar`, in a copy of that crate outside the repository.
 use std::{
     collections::BTreeMap,
     env, fs, io,
@@ -12,9 +12,9 @@ use oracle::{
     door,
     drawn::small,
     judge,
+    numbers::number,
     rows::Outcome,
-    show,
-    table::{self, Entry},
+    table::{Entry, Row},
 };
 
 /// Cases in one table.
@@ -22,46 +22,61 @@ const CHUNK: usize = 1_000;
 
 fn main() -> ExitCode {
     let mut words = env::args().skip(1);
-    let (mut count, mut seed, mut damage) = (None, 1, false);
+    let (mut count, mut seed, mut damage, mut numbers) = (None, 1, false, false);
     while let Some(word) = words.next() {
         match word.as_str() {
             "--seed" => seed = words.next().and_then(|seed| seed.parse().ok()).unwrap_or(seed),
             "--damage" => damage = true,
+            "--numbers" => numbers = true,
             number => count = number.parse().ok(),
         }
     }
     let (Some(count), Some(grammar)) = (count, env::var_os("ORACLE_GRAMMAR")) else {
-        eprintln!("usage: oracle/definitions N [--seed S] [--damage]");
+        eprintln!("usage: oracle/definitions N [--numbers] [--seed S] [--damage]");
         return ExitCode::from(2);
     };
-    oracle::with_large_stack(move || run(count, seed, damage, Path::new(&grammar)))
+    oracle::with_large_stack(move || match numbers {
+        false => scripts(count, seed, damage, Path::new(&grammar)),
+        true => texts(count, seed, damage, Path::new(&grammar)),
+    })
 }
 
-fn run(count: usize, seed: u64, damage: bool, grammar: &Path) -> ExitCode {
+/// Scripts that pass the door, and what the original makes of them.
+fn scripts(count: usize, seed: u64, damage: bool, grammar: &Path) -> ExitCode {
     let mut entries: Vec<_> = (0..).filter_map(|index| entry(seed, index)).take(count).collect();
     if damage && let Some(entry) = entries.get_mut(count / 2) {
         falsify(&mut entry.outcome);
     }
-    let copy = GrammarCopy::new(grammar).expect("a copy of the crate can be made");
-    if let Err(report) = copy.computes(&[]) {
+    run(&entries, codes(&entries), grammar)
+}
+
+/// Texts of the bytes that numbers are made of: which are NumberLiterals, and which the library's f64 reading takes.
+fn texts(count: usize, seed: u64, damage: bool, grammar: &Path) -> ExitCode {
+    let mut numbers: Vec<_> = (0..count as u64).map(|index| number(seed, index)).collect();
+    if damage && let Some(number) = numbers.get_mut(count / 2) {
+        number.is_float ^= true;
+    }
+    let taken = numbers.iter().filter(|number| number.is_float).count();
+    let fitting = numbers.iter().filter(|number| number.fits).count();
+    run(&numbers, format!("{taken} that f64's reading takes, {fitting} that are NumberLiterals"), grammar)
+}
+
+fn run<R: Row>(rows: &[R], summary: String, grammar: &Path) -> ExitCode {
+    let copy = GrammarCopy::new::<R>(grammar).expect("a copy of the crate can be made");
+    if let Err(report) = copy.computes::<R>(&[]) {
         println!("the definitions do not check even with no cases:\n{report}");
         return ExitCode::from(2);
     }
     let mut different = Vec::new();
-    for (number, chunk) in entries.chunks(CHUNK).enumerate() {
+    for (number, chunk) in rows.chunks(CHUNK).enumerate() {
         copy.collect(chunk, &mut different);
         println!("{} cases computed", (number * CHUNK + chunk.len()));
     }
-    if let Some((entry, report)) = different.iter().min_by_key(|(entry, _)| entry.case.encode().len()) {
-        print!(
-            "the smallest case that differs:\n{}limit    {}\n",
-            show::case(&entry.case.encode()),
-            entry.limit
-        );
-        print!("Rust\n         {:?}\nantt\n{report}", entry.outcome);
+    if let Some((row, report)) = different.iter().min_by_key(|(row, _)| row.size()) {
+        print!("the smallest case that differs:\n{}antt\n{report}", row.shown());
     }
-    print_codes(&entries);
-    println!("{count} cases, {} differences", different.len());
+    println!("{summary}");
+    println!("{} cases, {} differences", rows.len(), different.len());
     ExitCode::from(!different.is_empty() as u8)
 }
 
@@ -77,7 +92,7 @@ fn entry(seed: u64, index: u64) -> Option<Entry> {
     Some(Entry { outcome: outcome(&case, limit), case, limit })
 }
 
-fn print_codes(entries: &[Entry]) {
+fn codes(entries: &[Entry]) -> String {
     let mut counts = BTreeMap::new();
     for entry in entries {
         let code = match &entry.outcome {
@@ -87,7 +102,7 @@ fn print_codes(entries: &[Entry]) {
         *counts.entry(code).or_insert(0) += 1;
     }
     let counts: Vec<_> = counts.iter().map(|(code, count)| format!("{count} of code {code}")).collect();
-    println!("{}", counts.join(", "));
+    counts.join(", ")
 }
 
 /// Makes an answer wrong by one.
@@ -104,7 +119,7 @@ struct GrammarCopy {
 }
 
 impl GrammarCopy {
-    fn new(grammar: &Path) -> io::Result<GrammarCopy> {
+    fn new<R: Row>(grammar: &Path) -> io::Result<GrammarCopy> {
         let copy =
             GrammarCopy { root: env::temp_dir().join(format!("oracle-definitions-{}", process::id())) };
         let to = copy.folder();
@@ -114,8 +129,8 @@ impl GrammarCopy {
             let path = to.join(part).join("Lib.antt");
             fs::write(&path, fs::read_to_string(&path)? + "pub mod Cases\n")?;
         }
-        let samples = fs::read_to_string(to.join("proofs/Samples.antt"))?;
-        fs::write(to.join("proofs/Cases.antt"), table::proofs(&samples))?;
+        let model = fs::read_to_string(to.join("proofs").join(R::MODEL))?;
+        fs::write(to.join("proofs/Cases.antt"), R::proofs(&model))?;
         Ok(copy)
     }
 
@@ -124,9 +139,8 @@ impl GrammarCopy {
     }
 
     /// Lets antt compute a table; an error holds what `rt` said.
-    fn computes(&self, entries: &[Entry]) -> Result<(), String> {
-        fs::write(self.folder().join("specs/Cases.antt"), table::specs(entries))
-            .expect("the table can be written");
+    fn computes<R: Row>(&self, rows: &[R]) -> Result<(), String> {
+        fs::write(self.folder().join("specs/Cases.antt"), R::specs(rows)).expect("the table can be written");
         let output = Command::new("rt").arg("check").current_dir(&self.root).output().expect("rt runs");
         if output.status.success() {
             return Ok(());
@@ -139,12 +153,12 @@ impl GrammarCopy {
     }
 
     /// Finds the cases that differ, by halves.
-    fn collect(&self, entries: &[Entry], different: &mut Vec<(Entry, String)>) {
-        match (self.computes(entries), entries) {
+    fn collect<R: Row>(&self, rows: &[R], different: &mut Vec<(R, String)>) {
+        match (self.computes(rows), rows) {
             (Ok(()), _) => {}
-            (Err(report), [entry]) => different.push((entry.clone(), report)),
+            (Err(report), [row]) => different.push((row.clone(), report)),
             (Err(_), _) => {
-                let (first, second) = entries.split_at(entries.len() / 2);
+                let (first, second) = rows.split_at(rows.len() / 2);
                 self.collect(first, different);
                 self.collect(second, different);
             }
