@@ -52,7 +52,7 @@ enum {
 /* And in an answer of kaori_place, after its code. */
 enum { KAORI_LINE = 1, KAORI_COLUMN };
 
-/* Codes. The first that applies is the answer. */
+/* Codes. The first that applies is the answer. 12 is not used. */
 enum {
     KAORI_OK = 0,
     KAORI_BAD_COUNT = 1,       /* the list's length is not three times a count from 1 to 4,096; of kaori_read: too many
@@ -67,7 +67,6 @@ enum {
     KAORI_OPERAND = 9,         /* an operand was required */
     KAORI_FOR = 10,            /* a statement starts with `for` */
     KAORI_TOO_DEEP = 11,       /* an opening would pass the depth limit */
-    KAORI_BAD_NUMBER = 12,     /* a number that has no value: no script is known that meets it */
     KAORI_SMALL_ANSWER = 13,   /* too little room for the answer: nothing was done */
     KAORI_PAST_TEXT = 14,      /* of kaori_place: the offset is past the text */
     KAORI_NO_TOKEN = 16        /* of kaori_read: no token starts at a byte */
@@ -152,9 +151,9 @@ enum {
 /* Reads a script that is given as its text and its tokens.
    Takes: the text; the tokens, three numbers each (kind, start, end), Eof last; the depth limit, 1 to 64; four rooms,
    each of at least as many rows as there are tokens, whatever they hold; and a room of 8 numbers or more for the answer.
-   Answers: the code, 0 or 1 to 13.
+   Answers: the code: 0, 1 to 11 or 13.
    Leaves: in the answer's room the eight numbers, the rest as it was; after 0 in the other rooms the script's rows and
-   then zeros to each room's end, scratch all zeros; after 1 to 7 the four rooms as they were; after 8 to 12 the four
+   then zeros to each room's end, scratch all zeros; after 1 to 7 the four rooms as they were; after 8 to 11 the four
    rooms all zeros; after 13 everything as it was. */
 uint32_t kaori_parse(const uint8_t *text, size_t text_len, const uint32_t *tokens, size_t tokens_len, uint32_t limit,
                      uint32_t *nodes, size_t nodes_len, uint32_t *links, size_t links_len, uint32_t *symbols,
@@ -162,7 +161,7 @@ uint32_t kaori_parse(const uint8_t *text, size_t text_len, const uint32_t *token
 
 /* Reads a script that is given as its text alone: makes its tokens, and reads them.
    Takes: the text; a room for the tokens, three numbers for each and the Eof; the rest as kaori_parse.
-   Answers: the code. The token maker's refusals come first, in the order 2, 5, 16, 1; then 3, 4 and 8 to 12 as
+   Answers: the code. The token maker's refusals come first, in the order 2, 5, 16, 1; then 3, 4 and 8 to 11 as
    kaori_parse has them for the tokens that were made. 13 comes before all.
    Leaves: in the tokens' room the tokens and then zeros, or as it was after 2, 5 and 13, or zeros throughout after 16 and
    1; the four rooms as they were after 1 to 5, 13 and 16, else as kaori_parse leaves them; in the answer's room the
@@ -173,7 +172,7 @@ uint32_t kaori_read(const uint8_t *text, size_t text_len, uint32_t *tokens, size
 
 /* The text of a refusal, with no byte 0 at its end.
    Takes: the refusal's code and `expected`; the kind of the token at its place; and a room of 52 bytes or more.
-   Answers: the text's length, at most 52. It is 0 for a code that is not 8 to 12, where the text needs a kind over 44,
+   Answers: the text's length, at most 52. It is 0 for a code that is not 8 to 11, where the text needs a kind over 44,
    and for a room under 52 bytes.
    Leaves: the text at the room's start, all bytes past it as they were. */
 size_t kaori_message(uint32_t code, uint32_t expected, uint32_t found, uint8_t *room, size_t room_len);

@@ -119,6 +119,7 @@ static void telling(void) {
     EXPECT(kaori_message(8, KAORI_NUMBER_LITERAL, KAORI_STRING_LITERAL, room, 51) == 0 && room[0] == '.');
     EXPECT(kaori_message(8, KAORI_NUMBER_LITERAL, 45, room, 52) == 0 && room[0] == '.');
     EXPECT(kaori_message(7, KAORI_NUMBER_LITERAL, 0, room, 52) == 0 && room[0] == '.');
+    EXPECT(kaori_message(12, KAORI_NO_KIND, KAORI_NUMBER_LITERAL, room, 52) == 0 && room[0] == '.');
     EXPECT(kaori_message(11, KAORI_NO_KIND, 0, room, 54) == 15 && memcmp(room, "nested too deep.", 16) == 0);
     EXPECT(kaori_message(8, KAORI_NUMBER_LITERAL, KAORI_STRING_LITERAL, room, 52) == 52 && room[52] == '.');
     EXPECT(memcmp(room, "expected <number literal> and found <string literal>", 52) == 0);

@@ -71,7 +71,7 @@ const NO_KIND: u32 = 255;
 /// tokens; what it holds does not matter.
 ///
 /// After a success each room has the script's rows and then zeros, `scratch` zeros alone. After a refusal with code 1 to 7
-/// or 16 all are as they were; after one with code 8 to 12 all are zeros.
+/// or 16 all are as they were; after one with code 8 to 11 all are zeros.
 #[derive(Debug)]
 pub struct Lent<'a> {
     /// Nine numbers a row.
@@ -126,7 +126,7 @@ impl Rooms {
     }
 }
 
-/// Why a script was refused, and where. The first refusal that applies is given.
+/// Why a script was refused, and where. The first refusal that applies is given. 12 is not used.
 ///
 /// | Code | Given when |
 /// |---|---|
@@ -141,19 +141,18 @@ impl Rooms {
 /// | 9 | an operand was required |
 /// | 10 | a statement starts with `for` |
 /// | 11 | an opening would pass the depth limit |
-/// | 12 | a number lexeme without a value |
 /// | 16 | by [`read`]: no token starts at a byte |
 #[derive(Clone, Copy, PartialEq, Eq, Debug)]
 pub struct Refusal {
-    /// From 1 to 12, or 16.
+    /// From 1 to 11, or 16.
     pub code: u32,
-    /// The token's number, for codes 6 to 12; else 0.
+    /// The token's number, for codes 6 to 11; else 0.
     pub at: u32,
     /// The token's place in the text; for codes 5 and 16 a byte's; else 0, 0.
     pub span: Span,
     /// The kind that was required there, for code 8. Kinds are numbered in the order of token.rs's `Token`, from 0.
     pub expected: Option<u32>,
-    /// The kind of the token, for codes 6 to 12.
+    /// The kind of the token, for codes 6 to 11.
     pub found: Option<u32>,
 }
 
@@ -287,6 +286,6 @@ fn tree<'a>(
     }
     let expected = (expected != NO_KIND).then_some(expected);
     let found = (at as usize).checked_mul(3).and_then(|kind| tokens.get(kind)).copied();
-    let found = found.filter(|_| (6..=12).contains(&code));
+    let found = found.filter(|_| (6..=11).contains(&code));
     Err(Refusal { code, at, span: Span { start, end }, expected, found })
 }

@@ -137,7 +137,7 @@ fn anything_at_all() {
             Ok(()) => accepted += 1,
             Err((code, ..)) if *code < 8 || *code == 16 => turned += 1,
             Err((code, ..)) => {
-                assert!((8..=12).contains(code));
+                assert!((8..=11).contains(code));
                 refused += 1;
             }
         }
