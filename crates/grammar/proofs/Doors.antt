@@ -9,7 +9,7 @@ use lib.Dec.{T}
 use lib.ListN.{length, getD}
 use Rattle.grammar.specs.Call.{Call}
 use Rattle.grammar.specs.Derivative.{matches}
-use Rattle.grammar.specs.Door.{Whole, Roomy, Sound, Closed, Admitted, First-without, Wrong, Turned-away}
+use Rattle.grammar.specs.Door.{Whole, Roomy, Ascii, Sound, Closed, Admitted, First-without, Wrong, Turned-away}
 use Rattle.grammar.specs.Kind.{And, Nil, Identifier, Eof}
 use Rattle.grammar.specs.Lexeme.{spelling, pattern, Fits}
 use Rattle.grammar.specs.Pattern.{Pattern, Matches}
@@ -83,8 +83,8 @@ fitting k x =
     (also (implies (decLt k Eof) (matched (pattern k) x)) (implies (ℕ-discrete k Identifier) (each (look-through (No-keyword x) (λ w. implies (decLe And w) (denied (text-is x (spelling w)))) (suc Nil)))))
 
 -- what is asked of each byte and token
-abbrev pub Ascii : List ℕ → ℕ → Type 0
-Ascii text i = getD text i 0 ≤ 127
+abbrev pub Low : List ℕ → ℕ → Type 0
+Low text i = getD text i 0 ≤ 127
 
 unfoldable pub parted : (ts : List ℕ) (i : ℕ) → Dec ((j : ℕ) → suc j ≡ i → end ts j ≤ start ts i)
 parted ts zero = yes (λ j e. absurd (omega arith))
@@ -102,8 +102,8 @@ closes ts i =
     (also (implies (ℕ-discrete (kind ts i) Eof) (ℕ-discrete (i + 1) (count ts))) (implies (ℕ-discrete (i + 1) (count ts)) (ℕ-discrete (kind ts i) Eof)))
 
 module _ (c : Call) where
-  unfoldable pub in-bytes : Search (Ascii (c .text)) (length (c .text))
-  in-bytes = look-through (Ascii (c .text)) (λ i. decLe (getD (c .text) i 0) 127) (length (c .text))
+  unfoldable pub in-bytes : Search (Low (c .text)) (length (c .text))
+  in-bytes = look-through (Low (c .text)) (λ i. decLe (getD (c .text) i 0) 127) (length (c .text))
 
   unfoldable pub in-tokens : Search (Sound (c .text) (c .tokens)) (count (c .tokens))
   in-tokens = look-through (Sound (c .text) (c .tokens)) (sounds (c .text) (c .tokens)) (count (c .tokens))
@@ -118,7 +118,7 @@ module _ (c : Call) where
   Asked (suc (suc zero)) = length (c .text) ≤ 65536
   Asked (suc (suc (suc zero))) = (1 ≤ c .limit) × (c .limit ≤ 64)
   Asked (suc (suc (suc (suc zero)))) = Roomy c
-  Asked (suc (suc (suc (suc (suc zero))))) = (i : ℕ) → i < length (c .text) → Ascii (c .text) i
+  Asked (suc (suc (suc (suc (suc zero))))) = Ascii (c .text)
   Asked (suc (suc (suc (suc (suc (suc zero)))))) = (i : ℕ) → i < count (c .tokens) → Sound (c .text) (c .tokens) i
   Asked (suc (suc (suc (suc (suc (suc (suc zero))))))) = (i : ℕ) → i < count (c .tokens) → Closed (c .tokens) i
   Asked (suc (suc (suc (suc (suc (suc (suc (suc k)))))))) = Unit {0}

@@ -1,10 +1,10 @@
 -- Every number that check 6 lets through is one that Rust's f64 reading takes: document 002's pattern (Lexeme.antt) against the Rust library's grammar (Float.antt).
 use Prim.Native.Nat.{ℕ, _<_}
-use mathlib.Core.Bool.{Bool, true, false, _||_}
+use mathlib.Core.Bool.{or-false}
 use mathlib.Core.List.{List, _++_, append-assoc, append-nil}
 use mathlib.Core.Path.{_≡_, refl, _∙_}
 use native.Mathlib.Omega.{arith}
-use lib.Dec.{T, eqb}
+use lib.Dec.{eqb}
 use Rattle.grammar.specs.Call.{Call}
 use Rattle.grammar.specs.Door.{Admitted}
 use Rattle.grammar.specs.Float.{caseless, float, mantissa, point}
@@ -13,14 +13,9 @@ use Rattle.grammar.specs.Lexeme.{number}
 use Rattle.grammar.specs.Pattern.{Pattern, Matches, byte, sequence, many, maybe, some, among, bytes, digit}
 use Rattle.grammar.specs.Token.{kind, start, end, lexeme, count}
 
-either-case : (a b : Bool) → T (a || (b || false)) → T (a || b)
-either-case true b h = tt
-either-case false true h = tt
-either-case false false h = h
-
 letter-e : {x : List ℕ} → Matches (byte (among (bytes "eE"))) x → Matches (caseless (bytes "e")) x
 unfolding caseless
-letter-e (Matches.byte {x = x} t) = Matches.sequence (Matches.byte (either-case (eqb x 101) (eqb x 69) t)) Matches.nothing refl
+letter-e (Matches.byte {x = x} t) = Matches.sequence (Matches.byte (rw (or-false (eqb x 69)) at t)) Matches.nothing refl
 
 power : {p : Pattern} {x : List ℕ} → Matches (maybe (sequence (byte (among (bytes "eE"))) p)) x → Matches (maybe (sequence (caseless (bytes "e")) p)) x
 power (Matches.left (Matches.sequence l n e)) = Matches.left (Matches.sequence (letter-e l) n e)

@@ -11,7 +11,7 @@ use Rattle.spelling.proofs.display.Writing.{nothing, joined}
 use Rattle.wire.specs.Lines.{Put-within}
 use Rattle.wire.specs.Number.{decimal}
 use Rattle.wire.proofs.Decimals.{decimal-short}
-use Rattle.wire.specs.Printed.{fields, rows}
+use Rattle.wire.specs.Printed.{fields}
 
 fields-more : (xs : List ℕ) (x : ℕ) → fields (xs ++ (x ∷ [])) ≡ fields xs ++ (32 ∷ decimal x)
 unfolding fields

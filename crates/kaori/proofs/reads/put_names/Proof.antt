@@ -3,7 +3,6 @@ use borrow.Author.Needs.{needs}
 use Prim.Native.Nat.{_-_, _≤_}
 use Rattle.kaori.proofs.reads.put_names.Statement.{statement}
 use Rattle.kaori.proofs.reads.put_names.Tie as tie
-use Rattle.kaori.proofs.reads.put_names.Reads as reads
 
 abbrev Inv-loop : tie.InvT-loop
 Inv-loop text links from count between out₀ at now₀ i₀ out now i = now ≤ 4096
