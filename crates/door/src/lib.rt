@@ -1,6 +1,7 @@
 // The door: checks 1 to 7 of document 01, in order. A call that is let in is one that the readers can read without a test of their own.
 use lexeme::fits;
 use spelling::words;
+use token::kinds;
 use token::list::end_at;
 use token::list::kind_at;
 use token::list::start_at;
@@ -113,7 +114,7 @@ fn sound(words: &[u8], text: &[u8], tokens: &[u32], at: usize) -> bool
     let kind = kind_at(tokens, at);
     let start = start_at(tokens, at);
     let end = end_at(tokens, at);
-    if 44 < kind {
+    if kinds::EOF < kind {
         return false;
     }
     if end < start {
@@ -156,11 +157,11 @@ fn first_unclosed(tokens: &[u32]) -> usize
     while i < count {
         let kind = kind_at(tokens, i);
         if i + 1 < count {
-            if kind == 44 {
+            if kind == kinds::EOF {
                 return i;
             }
         } else {
-            if kind != 44 {
+            if kind != kinds::EOF {
                 return i;
             }
         }

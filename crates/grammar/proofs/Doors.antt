@@ -14,7 +14,7 @@ use Rattle.grammar.specs.Kind.{And, Nil, Identifier, Eof}
 use Rattle.grammar.specs.Lexeme.{spelling, pattern, Fits}
 use Rattle.grammar.specs.Pattern.{Pattern, Matches}
 use Rattle.grammar.specs.Room.{node-width, link-width, symbol-width, scratch-width}
-use Rattle.grammar.specs.Rows.{same}
+use Rattle.grammar.specs.Symbol.{same}
 use Rattle.grammar.specs.Token.{count, kind, start, end, lexeme}
 use Rattle.grammar.proofs.Patterns.{matches-sound, matches-whole}
 use Rattle.grammar.proofs.Tests.{same-means, same-self}

@@ -11,8 +11,11 @@ pub mod Outcomes
 pub mod Places
 pub mod Answers
 -- rows
+pub mod Symbols
 pub mod Room
+pub mod Halves
 pub mod Handles
+pub mod Words
 pub mod Sizes
 pub mod Order
 pub mod Shapes

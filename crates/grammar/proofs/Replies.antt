@@ -16,8 +16,9 @@ use Rattle.grammar.specs.Pattern.{literal}
 use Rattle.grammar.specs.Refusal.{refused}
 use Rattle.grammar.specs.Replies.{Reply, All-answered, replies}
 use Rattle.grammar.specs.Room.{Rooms}
-use Rattle.grammar.specs.Rows.{same, seek, interned, links-of, numbers, write, fill, put, make, walk, written}
+use Rattle.grammar.specs.Rows.{links-of, numbers, write, fill, put, make, walk, written}
 use Rattle.grammar.specs.Rule.{rule}
+use Rattle.grammar.specs.Symbol.{same, seek, interned, symbol-rows, symbol}
 use Rattle.grammar.specs.Token.{start, end}
 use Rattle.grammar.proofs.Doors.{by-test, carried, also, implies, denied, look-through, each, text-is, matched, fitting, parted, sounds, closes, in-bytes, in-tokens, in-ends, ask, find, Verdict, inside, turned, verdict}
 use Rattle.grammar.proofs.Reader.{reader}
@@ -27,7 +28,7 @@ module _ (c : Call) where
   -- what is answered, of what the door says and what comes of the list
   unfoldable reply : Verdict c → Option Outcome → Option (Answer × Rooms)
   reply (turned code at from upto t) o = some (refuse code at from upto 255, c .rooms)
-  reply (inside d) (some (accepted w)) = some (success w, rooms-filled w (c .rooms))
+  reply (inside d) (some (accepted w ss)) = some (success w ss, rooms-filled w ss (c .rooms))
   reply (inside d) (some (refusal (refused code at expected))) = some (refuse code at (start (c .tokens) at) (end (c .tokens) at) expected, rooms-cleared (c .rooms))
   reply (inside d) none = none
 
@@ -37,7 +38,7 @@ module _ (c : Call) where
   replied : (v : Verdict c) (o : Option Outcome) → ((p : Outcome) → o ≡ some p → Comes (c .text) (c .tokens) (c .limit) p) → {a : Answer} {r : Rooms} → reply v o ≡ some (a, r) → Answers c a r
   unfolding reply
   replied (turned code at from upto t) o f e = said (Answers.turned-away t) e
-  replied (inside d) (some (accepted w)) f e = said (Answers.accepted d (f _ refl)) e
+  replied (inside d) (some (accepted w ss)) f e = said (Answers.accepted d (f _ refl)) e
   replied (inside d) (some (refusal (refused code at expected))) f e = said (Answers.refused d (f _ refl)) e
   replied (inside d) none f e = absurd (let z : _≡_ {A = ℕ} 0 1 = cc in omega arith)
 
@@ -48,5 +49,5 @@ all-answered (r ∷ rs) e =
     (replied (r .call) (verdict (r .call)) (coming (r .call .text) (r .call .tokens) (r .call .limit)) (λ p. right (r .call .text) (r .call .tokens) (r .call .limit) (answer (r .call .text) (r .call .tokens) (r .call .limit)) {o = p}) (cc), all-answered rs (cc))
 
 pub replies-right : All-answered replies
-unfolding reply verdict look-through each ask find by-test also implies denied carried text-is matched fitting parted sounds closes in-bytes in-tokens in-ends decLe literal spelling coming answer outcome-of reader kaori rules above matches after nullable ℕ-discrete decLt written walk make put fill write numbers links-of interned seek same rule block-list block-tail
+unfolding reply verdict look-through each ask find by-test also implies denied carried text-is matched fitting parted sounds closes in-bytes in-tokens in-ends decLe literal spelling coming answer outcome-of reader kaori rules above matches after nullable ℕ-discrete decLt written walk make put fill write numbers links-of symbol symbol-rows interned seek same rule block-list block-tail
 replies-right = all-answered replies refl

@@ -1,21 +1,20 @@
--- A room with a row for each token is enough: each row, link and symbol has a token of its own.
-use Prim.Native.Nat.{ℕ, zero, suc, _+_, _-_, _*_, _/_, _≤_}
+-- A room with a row for each token is enough: each row and link has a token of its own.
+use Prim.Native.Nat.{ℕ, zero, suc, _+_, _-_, _*_, _≤_}
 use mathlib.Core.Bool.{Bool, true, false, cond, _&&_}
 use mathlib.Core.List.{List, [], _∷_, _++_, tail}
 use mathlib.Core.Path.{_≡_, refl}
 use native.Mathlib.Nat.{le-trans}
 use native.Mathlib.Omega.{arith}
-use lib.Dec.{eqb, leb, T, leb→le, le→leb}
+use lib.Dec.{leb, T, leb→le, le→leb}
 use lib.ListN.{length, getD, length-append, length-take, length-replicate}
 use Rattle.grammar.specs.Handle.{Handle, link, head, is-tail, block-list}
 use Rattle.grammar.specs.Kaori.{Table, Form, above, rules, kaori, Script}
 use Rattle.grammar.specs.Label.{Node, Label}
 use Rattle.grammar.specs.Operator.{levels}
 use Rattle.grammar.specs.Phrase.{empty, token, part, nested, node, choice, chain, once, refusal, Tree, none, more, deeper, made, Aim, Reads}
-use Rattle.grammar.specs.Room.{node-width, link-width, symbol-width}
-use Rattle.grammar.specs.Rows.{Rows, blank, seek, interned, links-of, numbers, write, fill, Walked, parts, put, make, walk, written}
-use Rattle.grammar.specs.Rule.{Field, number, child, named, symbol, list, Row, writes, fields, rule}
-use Rattle.grammar.specs.Token.{start, end}
+use Rattle.grammar.specs.Room.{node-width, link-width}
+use Rattle.grammar.specs.Rows.{Rows, blank, links-of, numbers, write, fill, Walked, parts, put, make, walk, written}
+use Rattle.grammar.specs.Rule.{Field, number, child, named, list, Row, writes, fields, rule}
 use Rattle.grammar.proofs.Machine.{asked}
 use Rattle.grammar.proofs.Tables.{each, each-mapped, in-tables}
 use Rattle.grammar.proofs.Tests.{both, all}
@@ -95,24 +94,14 @@ handles r = length (r .first) + length (r .rest)
 pub record Grown (w : Rows) (n k : ℕ) (r : Walked) : Type 0 where
   pub nodes : length (r .rows .nodes) ≤ length (w .nodes) + 9 * k
   pub links : length (r .rows .links) + 3 * handles r ≤ length (w .links) + 3 * (n + k)
-  pub symbols : length (r .rows .symbols) ≤ length (w .symbols) + 2 * k
 
--- link rows and symbol rows that fields may write
+-- link rows that fields write
 pub lists : List Field → ℕ
 lists [] = 0
 lists (number n ∷ fs) = lists fs
 lists (child h ∷ fs) = lists fs
 lists (named h ∷ fs) = lists fs
-lists (symbol s e ∷ fs) = lists fs
 lists (list hs ∷ fs) = length hs + lists fs
-
-pub words : List Field → ℕ
-words [] = 0
-words (number n ∷ fs) = words fs
-words (child h ∷ fs) = words fs
-words (named h ∷ fs) = words fs
-words (symbol s e ∷ fs) = suc (words fs)
-words (list hs ∷ fs) = words fs
 
 link-length : (h : Handle) → length (link h) ≡ 3
 link-length (Handle.node i s e) = refl
@@ -125,14 +114,6 @@ pub links-length : (hs : List Handle) → length (links-of hs) ≡ 3 * length hs
 unfolding links-of
 links-length [] = refl
 links-length (h ∷ hs) = simp (length-append, link-length, links-length hs) (omega arith)
-
-interned-length : (text : List ℕ) (s e : ℕ) (ss : List ℕ) → length (interned text s e ss) ≤ length ss + 2
-unfolding interned
-interned-length text s e ss = either (eqb (seek text _ ss) (length ss / 2))
-  where
-    either : (b : Bool) → length (cond b (ss ++ (s ∷ e ∷ [])) ss) ≤ length ss + 2
-    either true = simp length-append (omega arith)
-    either false = omega arith
 
 tail-length : (hs : List Handle) → length (tail hs) ≤ length hs
 tail-length [] = omega arith
@@ -148,82 +129,80 @@ block-list-length (h ∷ []) = either (is-tail h)
     either false = omega arith
 block-list-length (h ∷ g ∷ hs) = omega (arith, block-list-length (g ∷ hs))
 
--- rows from w to v: one node row, l link rows, and at most s symbol rows
-pub record Filled (l s : ℕ) (w v : Rows) : Type 0 where
+-- rows from w to v: one node row, and l link rows
+pub record Filled (l : ℕ) (w v : Rows) : Type 0 where
   pub nodes : length (v .nodes) ≡ length (w .nodes) + 9
   pub links : length (v .links) ≡ length (w .links) + 3 * l
-  pub symbols : length (v .symbols) ≤ length (w .symbols) + 2 * s
 
-pub filled : (text : List ℕ) (fs : List Field) (xs : List ℕ) (w : Rows) → Filled (lists fs) (words fs) w (fill text fs xs w)
-unfolding fill write lists words
-filled text [] xs w = record { nodes = simp (length-append, length-take, length-replicate) (omega arith); links = omega arith; symbols = omega arith }
-filled text (number n ∷ fs) xs w = filled text fs _ w
-filled text (child g ∷ fs) xs w = filled text fs _ w
-filled text (named g ∷ fs) xs w = filled text fs _ w
-filled text (symbol s e ∷ fs) xs w = let h = filled text fs (xs ++ numbers text (symbol s e) w) (write text (symbol s e) w) in omega (arith, interned-length text s e (w .symbols))
-filled text (list hs ∷ fs) xs w = let h = filled text fs (xs ++ numbers text (list hs) w) (write text (list hs) w) in omega (arith, length-append (w .links) (links-of hs), links-length hs)
+pub filled : (fs : List Field) (xs : List ℕ) (w : Rows) → Filled (lists fs) w (fill fs xs w)
+unfolding fill write lists
+filled [] xs w = record { nodes = simp (length-append, length-take, length-replicate) (omega arith); links = omega arith }
+filled (number n ∷ fs) xs w = filled fs _ w
+filled (child g ∷ fs) xs w = filled fs _ w
+filled (named g ∷ fs) xs w = filled fs _ w
+filled (list hs ∷ fs) xs w = let h = filled fs (xs ++ numbers (list hs) w) (write (list hs) w) in omega (arith, length-append (w .links) (links-of hs), links-length hs)
 
-put-grown : (text : List ℕ) (k : ℕ) (r : Row) (w : Rows) (n : ℕ) → lists (fields r) ≤ n → words (fields r) ≤ 1 → Grown w n 1 (put text k r w)
+put-grown : (k : ℕ) (r : Row) (w : Rows) (n : ℕ) → lists (fields r) ≤ n → Grown w n 1 (put k r w)
 unfolding put
-put-grown text k (writes s e fs) w n h i = let z = filled text fs (k ∷ s ∷ e ∷ []) w in omega arith
+put-grown k (writes s e fs) w n h = let z = filled fs (k ∷ s ∷ e ∷ []) w in omega arith
 
--- a rule links no more than was made, and has one symbol at most
-modest : (ts : List ℕ) (f : Node) (a b : ℕ) (xs ys : List Handle) (x y : Handle) → (lists (fields (rule ts f a b xs ys x y)) ≤ length xs + length ys) × (words (fields (rule ts f a b xs ys x y)) ≤ 1)
-unfolding rule lists words
-modest ts Node.Binary a b xs ys x y = omega arith
-modest ts Node.LogicalAnd a b xs ys x y = omega arith
-modest ts Node.LogicalOr a b xs ys x y = omega arith
-modest ts Node.LogicalNot a b xs ys x y = omega arith
-modest ts Node.Unary a b xs ys x y = omega arith
-modest ts Node.Assign a b xs ys x y = omega arith
-modest ts Node.Variable a b xs ys x y = omega arith
-modest ts Node.Constant a b xs ys x y = omega arith
-modest ts Node.Ref a b xs ys x y = omega arith
-modest ts Node.Identifier a b xs ys x y = omega arith
-modest ts Node.String a b xs ys x y = omega arith
-modest ts Node.Number a b xs ys x y = omega arith
-modest ts Node.Boolean a b xs ys x y = omega arith
-modest ts Node.Nil a b xs ys x y = omega arith
-modest ts Node.FunctionCall a b xs ys x y = omega arith
-modest ts Node.PropertyAccess a b xs ys x y = omega arith
-modest ts Node.Map a b xs ys x y = omega arith
-modest ts Node.Function a b xs ys x y = omega (arith, tail-length xs)
-modest ts Node.Lambda a b xs ys x y = omega arith
-modest ts Node.Block a b xs ys x y = omega (arith, block-list-length xs)
-modest ts Node.If a b xs ys x y = omega arith
-modest ts Node.WhileLoop a b xs ys x y = omega arith
-modest ts Node.Return a b xs ys x y = omega arith
-modest ts Node.Break a b xs ys x y = omega arith
-modest ts Node.Continue a b xs ys x y = omega arith
-modest ts Node.Import a b xs ys x y = omega arith
+-- a rule links no more than was made
+modest : (ts : List ℕ) (symbol : ℕ → ℕ) (f : Node) (a b : ℕ) (xs ys : List Handle) (x y : Handle) → lists (fields (rule ts symbol f a b xs ys x y)) ≤ length xs + length ys
+unfolding rule lists
+modest ts σ Node.Binary a b xs ys x y = omega arith
+modest ts σ Node.LogicalAnd a b xs ys x y = omega arith
+modest ts σ Node.LogicalOr a b xs ys x y = omega arith
+modest ts σ Node.LogicalNot a b xs ys x y = omega arith
+modest ts σ Node.Unary a b xs ys x y = omega arith
+modest ts σ Node.Assign a b xs ys x y = omega arith
+modest ts σ Node.Variable a b xs ys x y = omega arith
+modest ts σ Node.Constant a b xs ys x y = omega arith
+modest ts σ Node.Ref a b xs ys x y = omega arith
+modest ts σ Node.Identifier a b xs ys x y = omega arith
+modest ts σ Node.String a b xs ys x y = omega arith
+modest ts σ Node.Number a b xs ys x y = omega arith
+modest ts σ Node.Boolean a b xs ys x y = omega arith
+modest ts σ Node.Nil a b xs ys x y = omega arith
+modest ts σ Node.FunctionCall a b xs ys x y = omega arith
+modest ts σ Node.PropertyAccess a b xs ys x y = omega arith
+modest ts σ Node.Map a b xs ys x y = omega arith
+modest ts σ Node.Function a b xs ys x y = omega (arith, tail-length xs)
+modest ts σ Node.Lambda a b xs ys x y = omega arith
+modest ts σ Node.Block a b xs ys x y = omega (arith, block-list-length xs)
+modest ts σ Node.If a b xs ys x y = omega arith
+modest ts σ Node.WhileLoop a b xs ys x y = omega arith
+modest ts σ Node.Return a b xs ys x y = omega arith
+modest ts σ Node.Break a b xs ys x y = omega arith
+modest ts σ Node.Continue a b xs ys x y = omega arith
+modest ts σ Node.Import a b xs ys x y = omega arith
 
-module _ (text ts : List ℕ) where
-  pub make-grown : (f : Label) (a b : ℕ) (w : Rows) (xs ys : List Handle) → Grown w (length xs + length ys) (cost f) (make text ts f a b w xs ys)
-  unfolding make write lists words
-  make-grown (Label.Row f) a b w xs ys = let (h, i) = modest ts f a b xs ys (head xs) (head ys) in put-grown text _ _ w _ h i
-  make-grown Label.Script a b w xs ys = put-grown text _ _ w _ (omega arith) (omega arith)
+module _ (ts : List ℕ) (symbol : ℕ → ℕ) where
+  pub make-grown : (f : Label) (a b : ℕ) (w : Rows) (xs ys : List Handle) → Grown w (length xs + length ys) (cost f) (make ts symbol f a b w xs ys)
+  unfolding make lists
+  make-grown (Label.Row f) a b w xs ys = put-grown _ _ w _ (modest ts symbol f a b xs ys (head xs) (head ys))
+  make-grown Label.Script a b w xs ys = put-grown _ _ w _ (omega arith)
   make-grown Label.Ended a b w xs ys = omega arith
   make-grown Label.Item a b w xs ys = omega (arith, length-append xs ys)
   make-grown Label.Entry a b w [] ys = omega arith
   make-grown Label.Entry a b w (x ∷ xs) ys = omega arith
-  make-grown Label.Name a b w xs ys = omega (arith, interned-length text (start ts a) (end ts a) (w .symbols))
+  make-grown Label.Name a b w xs ys = omega arith
 
   joined : {w : Rows} {k l : ℕ} {r s : Walked} → Grown w 0 k r → Grown (r .rows) 0 l s → Grown w 0 (k + l) (parts r s)
   joined {r = r} {s = s} g h = omega (arith, length-append (r .first) (r .rest), length-append (s .first) (s .rest))
 
-  labelled : {w : Rows} {k : ℕ} {r : Walked} (f : Label) (a b : ℕ) → Grown w 0 k r → Grown w 0 (k + cost f) (make text ts f a b (r .rows) (r .first) (r .rest))
+  labelled : {w : Rows} {k : ℕ} {r : Walked} (f : Label) (a b : ℕ) → Grown w 0 k r → Grown w 0 (k + cost f) (make ts symbol f a b (r .rows) (r .first) (r .rest))
   labelled {r = r} f a b g = let h = make-grown f a b (r .rows) (r .first) (r .rest) in omega arith
 
   -- the tokens from a up to b, but for s of them, pay for what t writes
   pub record Pays (a s b : ℕ) (t : Tree Label) : Type 0 where
-    pub pay : (w : Rows) → (k : ℕ) × (a + s + k ≤ b) × Grown w 0 k (walk text ts t w)
+    pub pay : (w : Rows) → (k : ℕ) × (a + s + k ≤ b) × Grown w 0 k (walk ts symbol t w)
 
   less : {a s c z b : ℕ} {t : Tree Label} → Pays a s b t → c + z ≤ a + s → Pays c z b t
   less g h = record { pay = λ w. let (k, i, x) = g .pay w in (k, omega arith, x) }
 
   pays-both : {a s b z c : ℕ} {t u : Tree Label} → Pays a s b t → Pays b z c u → Pays a (s + z) c (more t u)
   unfolding walk
-  pays-both {t = t} g h = record { pay = λ w. let (k, i, x) = g .pay w in let (l, j, y) = h .pay (walk text ts t w .rows) in (k + l, omega arith, joined x y) }
+  pays-both {t = t} g h = record { pay = λ w. let (k, i, x) = g .pay w in let (l, j, y) = h .pay (walk ts symbol t w .rows) in (k + l, omega arith, joined x y) }
 
   pays-node : {a s b : ℕ} {t : Tree Label} (f : Label) (from upto : ℕ) → cost f ≤ s → Pays a s b t → Pays a (s - cost f) b (made f from upto t)
   unfolding walk
@@ -248,17 +227,17 @@ module _ (text ts : List ℕ) where
   pays (Reads.joined {n = n} {f = f} {q = q} x e y) h = let (u, v) = paid-node f q (paid-entry n _ e) in pays-link (pays x h) (pays y v) u
 
   -- and links are never taken back
-  put-links : (k : ℕ) (r : Row) (w : Rows) → length (w .links) ≤ length (put text k r w .rows .links)
+  put-links : (k : ℕ) (r : Row) (w : Rows) → length (w .links) ≤ length (put k r w .rows .links)
   unfolding put
-  put-links k (writes s e fs) w = let f = filled text fs (k ∷ s ∷ e ∷ []) w in omega arith
+  put-links k (writes s e fs) w = let f = filled fs (k ∷ s ∷ e ∷ []) w in omega arith
 
-  pub links-grow : (t : Tree Label) (w : Rows) → length (w .links) ≤ length (walk text ts t w .rows .links)
-  unfolding walk make write
+  pub links-grow : (t : Tree Label) (w : Rows) → length (w .links) ≤ length (walk ts symbol t w .rows .links)
+  unfolding walk make
   links-grow none w = omega arith
-  links-grow (more t u) w = omega (arith, links-grow t w, links-grow u (walk text ts t w .rows))
+  links-grow (more t u) w = omega (arith, links-grow t w, links-grow u (walk ts symbol t w .rows))
   links-grow (deeper t) w = links-grow t w
-  links-grow (made (Label.Row n) a b t) w = le-trans (links-grow t w) (put-links _ _ (walk text ts t w .rows))
-  links-grow (made Label.Script a b t) w = le-trans (links-grow t w) (put-links _ _ (walk text ts t w .rows))
+  links-grow (made (Label.Row n) a b t) w = le-trans (links-grow t w) (put-links _ _ (walk ts symbol t w .rows))
+  links-grow (made Label.Script a b t) w = le-trans (links-grow t w) (put-links _ _ (walk ts symbol t w .rows))
   links-grow (made Label.Ended a b t) w = links-grow t w
   links-grow (made Label.Item a b t) w = links-grow t w
   links-grow (made Label.Entry a b t) w = links-grow t w
@@ -268,17 +247,15 @@ module _ (text ts : List ℕ) where
   pub record Within (a b : ℕ) (w v : Rows) : Type 0 where
     pub nodes : length (v .nodes) ≤ length (w .nodes) + node-width * (b - a)
     pub links : length (v .links) ≤ length (w .links) + link-width * (b - a)
-    pub symbols : length (v .symbols) ≤ length (w .symbols) + symbol-width * (b - a)
 
-  pub reading-rows : {kind : ℕ → ℕ} {m : Aim Table Label} {a b : ℕ} {t : Tree Label} → Reads kaori kind m a b t → T (paid (asked m)) → (w : Rows) → Within a b w (walk text ts t w .rows)
+  pub reading-rows : {kind : ℕ → ℕ} {m : Aim Table Label} {a b : ℕ} {t : Tree Label} → Reads kaori kind m a b t → T (paid (asked m)) → (w : Rows) → Within a b w (walk ts symbol t w .rows)
   reading-rows x h w = let (k, i, g) = pays x h .pay w in omega arith
 
   -- the rows of a script whose Eof stands at n fit rooms of n + 1 rows
   pub record Room (n : ℕ) (w : Rows) : Type 0 where
     pub nodes : length (w .nodes) ≤ 9 * (n + 1)
     pub links : length (w .links) ≤ 3 * (n + 1)
-    pub symbols : length (w .symbols) ≤ 2 * (n + 1)
 
-  pub script-room : {kind : ℕ → ℕ} {n : ℕ} {t : Tree Label} → Script kind n t → Room n (written text ts t)
+  pub script-room : {kind : ℕ → ℕ} {n : ℕ} {t : Tree Label} → Script kind n t → Room n (written ts symbol t)
   unfolding written walk spare paid
   script-room (Reads.labelled {b = b} x) = let (k, i, g) = pays x tt .pay blank in let h = labelled Label.Script 0 b g in omega arith

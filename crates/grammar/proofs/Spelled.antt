@@ -8,8 +8,8 @@ use Rattle.grammar.specs.Float as numbers
 use Rattle.grammar.specs.Float.{caseless}
 use Rattle.grammar.specs.Lexeme.{spelling}
 use Rattle.grammar.specs.Pattern.{bytes, literal}
-use Rattle.grammar.specs.Rows.{same}
 use Rattle.grammar.specs.Spelled.{Spelled, fits, misfits, float, no-float, Holds, All-hold, lexemes}
+use Rattle.grammar.specs.Symbol.{same}
 use Rattle.grammar.proofs.Doors.{by-test, carried, also, implies, denied, look-through, each, text-is, matched, fitting}
 
 unfoldable holds : (s : Spelled) → Dec (Holds s)

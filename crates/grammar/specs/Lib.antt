@@ -9,6 +9,7 @@ pub mod Phrase
 pub mod Kaori
 pub mod Refusal
 pub mod Room
+pub mod Symbol
 pub mod Handle
 pub mod Rule
 pub mod Rows

@@ -33,7 +33,7 @@ all-links =
 
 -- every kind of row
 abbrev pub all-kinds : Rows
-all-kinds = record { nodes = all-nodes; links = all-links; symbols = [] }
+all-kinds = record { nodes = all-nodes; links = all-links }
 
 -- what they name, row by row
 abbrev pub all-names : List (List ℕ)
@@ -46,7 +46,7 @@ all-names =
     []
 
 abbrev pub rows : (nodes links : List ℕ) → Rows
-rows ns ls = record { nodes = ns; links = ls; symbols = [] }
+rows ns ls = record { nodes = ns; links = ls }
 
 pub record Naming-right : Type 0 where
   pub names : names-from all-kinds 0 (height all-kinds) ≡ all-names

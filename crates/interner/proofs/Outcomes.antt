@@ -8,12 +8,14 @@ use mathlib.Core.List.{List, [], _∷_, _++_, append-assoc}
 use mathlib.Core.Path.{_≡_, refl, sym, ap, _∙_}
 use lib.ListN.{length, drop, set, length-append, length-drop}
 use lib.Seq.{sets-eq, take-at}
-use Rattle.grammar.specs.Rows.{seek, interned}
+use Rattle.grammar.specs.Symbol.{seek, interned}
 use Rattle.grammar.specs.Token.{lexeme}
-use Rattle.interner.specs.Interns.{used, Ready, Outcome, Interns}
+use Rattle.interner.specs.Interns.{used, Ready, Outcome, Interns, Enters}
+use Rattle.interner.specs.Print.{print-of}
 use Rattle.interner.specs.Table.{Holds}
 use Rattle.interner.specs.declared.Interned.{Interned}
-use Rattle.interner.proofs.Grown.{grown-table}
+use Rattle.interner.proofs.Grown.{grown-table, grown-printed}
+use Rattle.interner.proofs.Prints.{printed-behind}
 use Rattle.interner.proofs.Search.{used-length, row-below}
 use Rattle.interner.proofs.Seek.{held-once, seek-held, seek-missing}
 
@@ -29,17 +31,36 @@ stored l count s e h =
     let k : 2 * count + 2 ≡ 2 * (count + 1) = omega arith in
     rw (add-one (2 * count)) (sets-eq (s ∷ e ∷ []) l (2 * count) (omega arith) ∙ rw (k, append-assoc))
 
-module _ {text l : List ℕ} {s e count : ℕ} (p : Ready text s e count l) where
+module _ {text l prints : List ℕ} {s e count : ℕ} (p : Ready text s e count l prints) where
   -- a row has the bytes
-  pub old-name : (i : ℕ) → Holds text (lexeme text s e) (used count l) i → Interns text s e count l l (record { symbol = i; count = count })
+  old-name : (i : ℕ) → Holds text (lexeme text s e) (used count l) i → Interns text s e count l l (record { symbol = i; count = count })
   old-name i h = record { outcome = Outcome.known h refl refl; table = p .table }
 
   -- none has
-  pub new-name : ((i : ℕ) → Holds text (lexeme text s e) (used count l) i → ⊥) → Interns text s e count l (set (set l (2 * count) s) (2 * count + 1) e) (record { symbol = count; count = count + 1 })
+  new-name : ((i : ℕ) → Holds text (lexeme text s e) (used count l) i → ⊥) → Interns text s e count l (set (set l (2 * count) s) (2 * count + 1) e) (record { symbol = count; count = count + 1 })
   new-name none =
       let r = p .room in
       let x = stored l count s e (p .room) in
-      record { outcome = Outcome.new none refl x; table = rw (x, used-more l count s e (p .room)) (grown-table text (used count l) count s e (used-length l count (omega arith)) (p .table) (p .part) none) }
+      record {
+        outcome = Outcome.new none refl x;
+        table = rw (x, used-more l count s e (p .room))
+            (grown-table text (used count l) count s e (used-length l count (omega arith)) (p .table) (p .part) none);
+      }
+
+  -- and the prints are those of the rows then in use
+  module _ {key : ℕ} (k : key ≡ print-of (lexeme text s e)) where
+    pub old-enters : (i : ℕ) → Holds text (lexeme text s e) (used count l) i → Enters text s e count l l prints (set prints count key) (record { symbol = i; count = count })
+    old-enters i h =
+        let size = used-length l count (omega (arith, p .room)) in
+        record { interns = old-name i h; stored = rw k; prints-are = printed-behind count key (omega arith) (p .printed) }
+
+    pub new-enters : ((i : ℕ) → Holds text (lexeme text s e) (used count l) i → ⊥) →
+        Enters text s e count l (set (set l (2 * count) s) (2 * count + 1) e) prints (set prints count key) (record { symbol = count; count = count + 1 })
+    new-enters none =
+        let size = used-length l count (omega (arith, p .room)) in
+        let x = stored l count s e (p .room) in
+        let y = used-more l count s e (p .room) in
+        record { interns = new-name none; stored = rw k; prints-are = rw (x, y, k) (grown-printed text (used count l) count s e size prints (p .printed) (p .print-room)) }
 
   -- the symbol and the rows of the grammar
   pub symbol-is : {m : List ℕ} {r : Interned} → Outcome text s e count l m r → r .symbol ≡ seek text (lexeme text s e) (used count l)
@@ -77,5 +98,5 @@ module _ {text l : List ℕ} {s e count : ℕ} (p : Ready text s e count l) wher
   outcome-once (Outcome.new h x y) (Outcome.known i z w) = absurd (h _ i)
   outcome-once (Outcome.new h x y) (Outcome.new i z w) = (y ∙ sym w, x ∙ sym z)
 
-  pub one-interned : {m n : List ℕ} {r q : Interned} → Interns text s e count l m r → Interns text s e count l n q → (m ≡ n) × (r ≡ q)
-  one-interned x y = outcome-once (x .outcome) (y .outcome)
+  pub one-interned : {m n ps qs : List ℕ} {r q : Interned} → Enters text s e count l m prints ps r → Enters text s e count l n prints qs q → (m ≡ n) × (ps ≡ qs) × (r ≡ q)
+  one-interned x y = let (m, r) = outcome-once (x .interns .outcome) (y .interns .outcome) in (m, x .stored ∙ sym (y .stored), r)

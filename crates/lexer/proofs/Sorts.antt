@@ -13,7 +13,7 @@ use Rattle.grammar.specs.Derivative.{matches, nullable, after}
 use Rattle.grammar.specs.Kind.{NumberLiteral, StringLiteral, Identifier, Eof}
 use Rattle.grammar.specs.Lexeme.{letter, number, string, identifier, spelling, Fits}
 use Rattle.grammar.specs.Pattern.{Pattern, Matches, byte, sequence, bytes, among, from-to, digit}
-use Rattle.grammar.specs.Rows.{same}
+use Rattle.grammar.specs.Symbol.{same}
 use Rattle.grammar.proofs.Patterns.{matches-sound}
 use Rattle.lexeme.specs.Parts.{Keyword, Word}
 use Rattle.lexeme.proofs.Fitting.{spelled-pattern}

@@ -11,7 +11,7 @@ use borrow.Author.Tests.{eqb-true}
 use Rattle.grammar.specs.Kind.{NumberLiteral, Semicolon}
 use Rattle.grammar.specs.Lexeme.{spelling, spellings}
 use Rattle.grammar.specs.Pattern.{bytes}
-use Rattle.grammar.specs.Rows.{same}
+use Rattle.grammar.specs.Symbol.{same}
 use Rattle.grammar.proofs.Lexemes.{part-length}
 use Rattle.grammar.proofs.Tests.{both, passes, same-means, within}
 use Rattle.spelling.specs.Words.{table}

@@ -13,6 +13,7 @@ use Rattle.grammar.specs.Label.{Node, number-of}
 use Rattle.grammar.specs.Outcome.{accepted, Comes}
 use Rattle.grammar.specs.Room.{node-width}
 use Rattle.grammar.specs.Rows.{Rows, padded}
+use Rattle.grammar.specs.Symbol.{symbol}
 use Rattle.grammar.proofs.Calls.{accepted-rows}
 use Rattle.grammar.proofs.Decoding.{Whole}
 use Rattle.grammar.proofs.Trees.{script-whole}
@@ -25,15 +26,15 @@ use Rattle.view.specs.declared.SpanAnswer.{SpanAnswer}
 number-at : (before ys after : List ℕ) (row i : ℕ) → node-width * row ≡ length before → number ((before ++ ys) ++ after) row i ≡ getD (ys ++ after) i 0
 number-at before ys after row i e = rw (e, append-assoc before ys after) (getD-append-add before (ys ++ after) i 0)
 
-accepted-whole : {text ts : List ℕ} {limit : ℕ} {w : Rows} → Comes text ts limit (accepted w) → Whole w
-accepted-whole {text} {ts} (Comes.read x h) = script-whole text ts x
+accepted-whole : {text ts ss : List ℕ} {limit : ℕ} {w : Rows} → Comes text ts limit (accepted w ss) → Whole w
+accepted-whole {text} {ts} (Comes.read x h) = script-whole ts (symbol text ts) x
 
-module _ {c : Call} {w : Rows} (d : Admitted c) (o : Comes (c .text) (c .tokens) (c .limit) (accepted w)) where
+module _ {c : Call} {w : Rows} {ss : List ℕ} (d : Admitted c) (o : Comes (c .text) (c .tokens) (c .limit) (accepted w ss)) where
   abbrev nodes : List ℕ
-  nodes = rooms-filled w (c .rooms) .nodes
+  nodes = rooms-filled w ss (c .rooms) .nodes
 
   abbrev count : ℕ
-  count = success w .nodes
+  count = success w ss .nodes
 
   abbrev root : List ℕ
   root = padded (number-of Node.Block ∷ 0 ∷ 0 ∷ accepted-rows d o .root .1 ∷ accepted-rows d o .root .2 ∷ absent ∷ [])

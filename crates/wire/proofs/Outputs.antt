@@ -74,7 +74,7 @@ whole-rows width xs ys = rw (length-append xs ys) (omega (arith, mul-div-le (len
 
 pub counted : {c : Call} {a : Answer} {r : Rooms} → Answers c a r → Counted a r
 counted (Answers.turned-away x) = record { nodes = omega arith; links = omega arith; symbols = omega arith }
-counted (Answers.accepted {w = w} d x) = record { nodes = whole-rows node-width (w .nodes) _; links = whole-rows link-width (w .links) _; symbols = whole-rows symbol-width (w .symbols) _ }
+counted (Answers.accepted {w = w} {ss = ss} d x) = record { nodes = whole-rows node-width (w .nodes) _; links = whole-rows link-width (w .links) _; symbols = whole-rows symbol-width ss _ }
 counted (Answers.refused d x) = record { nodes = omega arith; links = omega arith; symbols = omega arith }
 
 -- so many zeros are one list

@@ -11,7 +11,7 @@ use borrow.Author.Tests.{ne-eqb}
 use Rattle.grammar.specs.Kind.{NumberLiteral, Semicolon, Eof}
 use Rattle.grammar.specs.Lexeme.{spelling}
 use Rattle.grammar.specs.Pattern.{bytes}
-use Rattle.grammar.specs.Rows.{same}
+use Rattle.grammar.specs.Symbol.{same}
 use Rattle.grammar.proofs.Tests.{same-means, within}
 use Rattle.spelling.specs.Display.{display, names}
 

@@ -1,0 +1,51 @@
+-- The symbols of a token list, from its tokens and the text alone: no reading is needed. Document 01, Rows: 'Symbols: numbered by first appearance, from 0; an
+-- identifier and a string's inside share one table; the row is the first place'.
+use Prim.Native.Nat.{ℕ, zero, suc, _+_, _-_, _/_}
+use mathlib.Core.Bool.{Bool, true, false, cond, _&&_, _||_}
+use mathlib.Core.List.{List, [], _∷_, _++_}
+use lib.Dec.{eqb}
+use lib.ListN.{length}
+use Rattle.grammar.specs.Kind.{StringLiteral, Identifier}
+use Rattle.grammar.specs.Room.{symbol-width}
+use Rattle.grammar.specs.Token.{kind, start, end, lexeme}
+
+unfoldable pub same : List ℕ → List ℕ → Bool
+same [] [] = true
+same [] (y ∷ ys) = false
+same (x ∷ xs) [] = false
+same (x ∷ xs) (y ∷ ys) = eqb x y && same xs ys
+
+-- the symbol that has this text, or the number of all of them: how many stand before it
+unfoldable pub seek : (text word symbols : List ℕ) → ℕ
+seek text x [] = 0
+seek text x (s ∷ []) = 0
+seek text x (s ∷ e ∷ ss) = cond (same x (lexeme text s e)) 0 (suc (seek text x ss))
+
+-- the symbol rows once this part of the text has one: its first place
+unfoldable pub interned : (text : List ℕ) (s e : ℕ) (symbols : List ℕ) → List ℕ
+interned text s e ss = cond (eqb (seek text (lexeme text s e) ss) (length ss / symbol-width)) (ss ++ (s ∷ e ∷ [])) ss
+
+module _ (ts : List ℕ) where
+  -- an identifier and a string have a word
+  abbrev pub is-name : ℕ → Bool
+  is-name i = eqb (kind ts i) Identifier || eqb (kind ts i) StringLiteral
+
+  -- where the word starts and ends: a string's is its inside, between the quotes
+  abbrev pub quote : ℕ → ℕ
+  quote i = cond (eqb (kind ts i) StringLiteral) 1 0
+
+  abbrev pub word-start : ℕ → ℕ
+  word-start i = start ts i + quote i
+
+  abbrev pub word-end : ℕ → ℕ
+  word-end i = end ts i - quote i
+
+module _ (text ts : List ℕ) where
+  -- the symbol rows of the words of the first n tokens
+  unfoldable pub symbol-rows : ℕ → List ℕ
+  symbol-rows zero = []
+  symbol-rows (suc n) = cond (is-name ts n) (interned text (word-start ts n) (word-end ts n) (symbol-rows n)) (symbol-rows n)
+
+  -- the symbol of token i's word: its row among those of the tokens before it, or the next. A token that has no word has 0
+  unfoldable pub symbol : ℕ → ℕ
+  symbol i = cond (is-name ts i) (seek text (lexeme text (word-start ts i) (word-end ts i)) (symbol-rows i)) 0

@@ -1,0 +1,59 @@
+-- What is asked of the pass over the tokens that finds the symbols, and what it leaves. Document 01, Rows: 'Symbols: numbered by first appearance, from 0'.
+use Prim.Native.Nat.{ℕ, suc, _+_, _*_, _≤_, _<_}
+use mathlib.Core.List.{List}
+use mathlib.Core.Path.{_≡_}
+use lib.ListN.{length, getD, take, drop}
+use Rattle.grammar.specs.Door.{Whole, Sound}
+use Rattle.grammar.specs.Room.{symbol-width, scratch-width}
+use Rattle.grammar.specs.Symbol.{symbol-rows, symbol}
+use Rattle.grammar.specs.Token.{count}
+use Rattle.interner.specs.Print.{Printed}
+use Rattle.interner.specs.Table.{Table}
+use Rattle.interner.specs.declared.Interned.{Interned}
+
+-- what the door gives, of the text, the tokens and these two rooms
+pub record Open (text ts symbols scratch : List ℕ) : Type 0 where
+  pub whole : Whole ts
+  pub sound : (i : ℕ) → i < count ts → Sound text ts i
+  pub symbol-room : symbol-width * count ts ≤ length symbols
+  pub scratch-room : scratch-width * count ts ≤ length scratch
+
+-- the words of the first n tokens have their rows, `known` of them, and these are a table of the text
+pub record Entered (text ts : List ℕ) (n known : ℕ) (symbols : List ℕ) : Type 0 where
+  pub rows : take (symbol-width * known) symbols ≡ symbol-rows text ts n
+  pub size : symbol-width * known ≡ length (symbol-rows text ts n)
+  pub table : Table text (symbol-rows text ts n)
+
+-- the symbol of token i, in the top third of the scratch room
+abbrev pub number-at : (ts scratch : List ℕ) → ℕ → ℕ
+number-at ts scratch i = getD scratch (2 * count ts + i) 0
+
+-- there is a token, it is sound, there is room for one row more, and the scratch room starts with the rows' prints
+pub record Before (text ts : List ℕ) (n known : ℕ) (symbols scratch : List ℕ) : Type 0 where
+  pub inside : n < count ts
+  pub few : count ts ≤ 4096
+  pub sound : Sound text ts n
+  pub entered : Entered text ts n known symbols
+  pub room : symbol-width * count ts ≤ length symbols
+  pub printed : Printed text (symbol-rows text ts n) scratch
+  pub print-room : scratch-width * count ts ≤ length scratch
+
+-- the token has its symbol, its word a row and a print, and the rooms are as long as they were, the top third of the scratch room as it was
+pub record Named (text ts : List ℕ) (n : ℕ) (before after scratch₀ scratch : List ℕ) (r : Interned) : Type 0 where
+  pub number : r .symbol ≡ symbol text ts n
+  pub entered : Entered text ts (suc n) (r .count) after
+  pub size : length after ≡ length before
+  pub printed : Printed text (symbol-rows text ts (suc n)) scratch
+  pub numbers : (i : ℕ) → number-at ts scratch i ≡ number-at ts scratch₀ i
+  pub print-size : length scratch ≡ length scratch₀
+
+-- what the readers take for the symbols of the tokens: the numbers of the top third
+unfoldable pub names-of : (ts scratch : List ℕ) → ℕ → ℕ
+names-of ts scratch i = getD (take (count ts) (drop (2 * count ts) scratch)) i 0
+
+-- the words of the first n tokens have their rows, and these tokens their symbols; the rooms are as long as they were. The rest of the rooms is left as it comes
+pub record Resolved (text ts : List ℕ) (n : ℕ) (symbols₀ scratch₀ symbols scratch : List ℕ) (known : ℕ) : Type 0 where
+  pub entered : Entered text ts n known symbols
+  pub numbers : (i : ℕ) → i < n → number-at ts scratch i ≡ symbol text ts i
+  pub symbol-size : length symbols ≡ length symbols₀
+  pub scratch-size : length scratch ≡ length scratch₀
