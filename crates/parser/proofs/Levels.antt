@@ -27,7 +27,8 @@ module _ {k : ℕ → ℕ} where
   tail : {x a b : ℕ} {p : Form} {t : Tree Label} → Reads kaori k (whole (token x p)) a b t → Reads kaori k (whole p) (a + 1) b t
   tail (Reads.taken e r) = r
 
-  last-of : {n a b : ℕ} {t : Tree Label} → n < 6 → ((c : ℕ) (u : Tree Label) → Reads kaori k (whole (above n)) c b u → n ≤ level (k b)) → Reads kaori k (begun (above n) (operators n)) a b t → n ≤ level (k b)
+  last-of : {n a b : ℕ} {t : Tree Label} → n < 6 → ((c : ℕ) (u : Tree Label) → Reads kaori k (whole (above n)) c b u → n ≤ level (k b)) →
+      Reads kaori k (begun (above n) (operators n)) a b t → n ≤ level (k b)
   last-of i h (Reads.first r) = h _ _ r
   last-of {n} i h (Reads.link {b = b} l e r) = h _ _ (tail (rw (link-form n (k b) i e) at r))
 
@@ -40,20 +41,24 @@ module _ {k : ℕ → ℕ} where
       omega (arith, h, apart)
 
 -- a tighter level that is not followed by an operator of it is the next
-module _ {text ts : List ℕ} {limit o : ℕ} {s s₁ : State} {m : Node} where
-  step : {l : ℕ} → l < level (kind ts (s₁ .cursor .at)) → Reading text ts limit (begun (above l) (operators l)) o s (node-of m ∷ []) [] s₁ → Reading text ts limit (whole (above (suc l))) o s (node-of m ∷ []) [] s₁
+module _ {ts : List ℕ} {limit o : ℕ} {s s₁ : State} {m : Node} where
+  step : {l : ℕ} → l < level (kind ts (s₁ .cursor .at)) → Reading ts limit (begun (above l) (operators l)) o s (node-of m ∷ []) [] s₁ →
+      Reading ts limit (whole (above (suc l))) o s (node-of m ∷ []) [] s₁
   unfolding above
   step {l} h r = ended (no-operator l (kind ts (s₁ .cursor .at)) (λ e. omega arith)) r
 
-  climb : (d n : ℕ) {l : ℕ} → n - l ≡ d → l ≤ n → n ≤ level (kind ts (s₁ .cursor .at)) → Reading text ts limit (begun (above l) (operators l)) o s (node-of m ∷ []) [] s₁ → Reading text ts limit (begun (above n) (operators n)) o s (node-of m ∷ []) [] s₁
+  climb : (d n : ℕ) {l : ℕ} → n - l ≡ d → l ≤ n → n ≤ level (kind ts (s₁ .cursor .at)) → Reading ts limit (begun (above l) (operators l)) o s (node-of m ∷ []) [] s₁ →
+      Reading ts limit (begun (above n) (operators n)) o s (node-of m ∷ []) [] s₁
   climb zero n {l} e h z r = let y : l ≡ n = omega arith in rw y at r
   climb (suc d) zero e h z r = absurd (omega arith)
   climb (suc d) (suc n) e h z r = first (step (omega arith) (climb d n (omega arith) (omega arith) (omega arith) r))
 
-  begun-at : {l n : ℕ} → l ≤ n → n ≤ level (kind ts (s₁ .cursor .at)) → Reading text ts limit (begun (above l) (operators l)) o s (node-of m ∷ []) [] s₁ → Reading text ts limit (begun (above n) (operators n)) o s (node-of m ∷ []) [] s₁
+  begun-at : {l n : ℕ} → l ≤ n → n ≤ level (kind ts (s₁ .cursor .at)) → Reading ts limit (begun (above l) (operators l)) o s (node-of m ∷ []) [] s₁ →
+      Reading ts limit (begun (above n) (operators n)) o s (node-of m ∷ []) [] s₁
   begun-at {l} {n} h z r = climb (n - l) n refl h z r
 
-  whole-at : {l n : ℕ} → l < n → n ≤ level (kind ts (s₁ .cursor .at)) → Reading text ts limit (begun (above l) (operators l)) o s (node-of m ∷ []) [] s₁ → Reading text ts limit (whole (above n)) o s (node-of m ∷ []) [] s₁
+  whole-at : {l n : ℕ} → l < n → n ≤ level (kind ts (s₁ .cursor .at)) → Reading ts limit (begun (above l) (operators l)) o s (node-of m ∷ []) [] s₁ →
+      Reading ts limit (whole (above n)) o s (node-of m ∷ []) [] s₁
   whole-at {n = zero} h z r = absurd (omega arith)
   whole-at {n = suc n} h z r = step (omega arith) (begun-at (omega arith) (omega arith) r)
 
@@ -74,32 +79,34 @@ module _ {k : ℕ → ℕ} {limit o a : ℕ} {q : Refused} where
   refused-operand zero h = h
   refused-operand (suc n) h = Refuses.in-start (refused-operand n h)
 
-module _ (text ts : List ℕ) (limit level-asked o : ℕ) where
+module _ (ts : List ℕ) (limit level-asked o : ℕ) where
   -- from s to s₁ stands what the next operator links to, and a whole level where none of its operators comes next
   pub record Standing (s s₁ : State) (m : Node) : Type 0 where
-    pub link : (l : ℕ) → l < level-asked → level (kind ts (s₁ .cursor .at)) ≡ l → Reading text ts limit (begun (above l) (operators l)) o s (node-of m ∷ []) [] s₁
-    pub end : level-asked ≤ level (kind ts (s₁ .cursor .at)) → Reading text ts limit (whole (above level-asked)) o s (node-of m ∷ []) [] s₁
+    pub link : (l : ℕ) → l < level-asked → level (kind ts (s₁ .cursor .at)) ≡ l → Reading ts limit (begun (above l) (operators l)) o s (node-of m ∷ []) [] s₁
+    pub end : level-asked ≤ level (kind ts (s₁ .cursor .at)) → Reading ts limit (whole (above level-asked)) o s (node-of m ∷ []) [] s₁
 
   -- whatever operand stands at s₀ with the node n, from wherever it began, this stands at s₁ with the node m
   pub record Climbing (s₀ : State) (n : Node) (s₁ : State) (m : Node) : Type 0 where
-    pub grown : (s : State) → Reading text ts limit (whole (choice operand)) o s (node-of n ∷ []) [] s₀ → Standing s s₁ m
-    pub within : Within text ts s₁
+    pub grown : (s : State) → Reading ts limit (whole (choice operand)) o s (node-of n ∷ []) [] s₀ → Standing s s₁ m
+    pub within : Within ts s₁
     pub rooms : Rooms s₀ s₁
     pub past : s₀ .cursor .at ≤ s₁ .cursor .at
 
-module _ {text ts : List ℕ} {limit o : ℕ} where
-  unlinked : {s s₁ : State} {m : Node} (n : ℕ) → Reading text ts limit (whole (choice operand)) o s (node-of m ∷ []) [] s₁ → Standing text ts limit n o s s₁ m
+module _ {ts : List ℕ} {limit o : ℕ} where
+  unlinked : {s s₁ : State} {m : Node} (n : ℕ) → Reading ts limit (whole (choice operand)) o s (node-of m ∷ []) [] s₁ → Standing ts limit n o s s₁ m
   unfolding above
   unlinked zero r = record { link = λ l h e. absurd (omega arith); end = λ h. r }
   unlinked (suc n) r = record { link = λ l h e. begun-at {l = 0} {n = l} (omega arith) (omega arith) (first r); end = λ h. whole-at {l = 0} (omega arith) h (first r) }
 
-  pub climbing-none : {n : ℕ} {s₀ : State} {m : Node} → Within text ts s₀ → Climbing text ts limit n o s₀ m s₀ m
+  pub climbing-none : {n : ℕ} {s₀ : State} {m : Node} → Within ts s₀ → Climbing ts limit n o s₀ m s₀ m
   climbing-none w = record { grown = λ s r. unlinked _ r; within = w; rooms = rooms-same; past = omega arith }
 
   -- an operator, and a right operand that leaves only looser ones
-  pub climbing-on : {n l : ℕ} {s₀ s₁ s₂ : State} {first-node m k : Node} → Climbing text ts limit n o s₀ first-node s₁ m → level (kind ts (s₁ .cursor .at)) ≡ l → l < n → l ≤ level (kind ts (s₂ .cursor .at)) →
-      Going text ts limit (above l) (operators l) (begun (above l) (operators l)) o s₁ m s₂ k → Climbing text ts limit n o s₀ first-node s₂ k
-  climbing-on {n} {l} {s₂ = s₂} {k = k} a e h z b = record { grown = λ s r. linked s (b .grown s (a .grown s r .link l h e)); within = b .within; rooms = rooms-on (a .rooms) (b .rooms); past = omega (arith, a .past, b .past) }
+  pub climbing-on : {n l : ℕ} {s₀ s₁ s₂ : State} {first-node m k : Node} → Climbing ts limit n o s₀ first-node s₁ m → level (kind ts (s₁ .cursor .at)) ≡ l → l < n →
+      l ≤ level (kind ts (s₂ .cursor .at)) →
+      Going ts limit (above l) (operators l) (begun (above l) (operators l)) o s₁ m s₂ k → Climbing ts limit n o s₀ first-node s₂ k
+  climbing-on {n} {l} {s₂ = s₂} {k = k} a e h z b =
+      record { grown = λ s r. linked s (b .grown s (a .grown s r .link l h e)); within = b .within; rooms = rooms-on (a .rooms) (b .rooms); past = omega (arith, a .past, b .past) }
     where
-      linked : (s : State) → Reading text ts limit (begun (above l) (operators l)) o s (node-of k ∷ []) [] s₂ → Standing text ts limit n o s s₂ k
+      linked : (s : State) → Reading ts limit (begun (above l) (operators l)) o s (node-of k ∷ []) [] s₂ → Standing ts limit n o s s₂ k
       linked s r = record { link = λ j y x. begun-at {n = j} (omega arith) (omega arith) r; end = λ y. whole-at h y r }

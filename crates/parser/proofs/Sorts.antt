@@ -16,11 +16,12 @@ use Rattle.grammar.proofs.Handles.{Known, All-known, Aligned, walk-sound}
 use Rattle.grammar.proofs.Shapes.{table, shape, ok}
 use Rattle.grammar.proofs.Sizes.{Fits, one}
 use Rattle.grammar.proofs.Trees.{grows}
+use Rattle.names.specs.Resolved.{names-of}
 use Rattle.reading.specs.Reading.{Reading}
 use Rattle.reading.specs.State.{State, written, Within}
 
 -- what is written so far is whole rows
-whole-rows : {text ts : List ℕ} {s : State} → Within text ts s → Whole (written s)
+whole-rows : {ts : List ℕ} {s : State} → Within ts s → Whole (written s)
 whole-rows {s = s} w =
     let n = length-take-le (9 * s .cursor .nodes) (s .nodes) (omega (arith, w .rows, w .at, w .roomy .nodes)) in
     let l = length-take-le (3 * s .cursor .links) (s .links) (omega (arith, w .links, w .at, w .roomy .links)) in
@@ -33,16 +34,17 @@ last-known (All-known.cons k (All-known.cons j ks)) = last-known (All-known.cons
 
 tail-row : {w : Rows} {h : Handle} → Known w h → is-tail h ≡ true → 9 * (row h + 1) ≤ length (w .nodes)
 tail-row (Known.node h p q) e = h
-tail-row (Known.name h) e = absurd (false≢true e)
+tail-row Known.name e = absurd (false≢true e)
 tail-row (Known.entry k v) e = absurd (false≢true e)
 tail-row (Known.ended i) e = absurd (false≢true e)
 tail-row Known.other e = absurd (false≢true e)
 
 -- a tail has a row
-pub tail-present : {text ts : List ℕ} {limit o : ℕ} {g : Aim Table Label} {s s′ : State} {hs ys : List Handle} → s′ .cursor .nodes < absent → Within text ts s → Reading text ts limit g o s hs ys s′ → is-tail (last hs) ≡ true → row (last hs) ≡ absent → ⊥
+pub tail-present : {ts : List ℕ} {limit o : ℕ} {g : Aim Table Label} {s s′ : State} {hs ys : List Handle} → s′ .cursor .nodes < absent → Within ts s → Reading ts limit g o s hs ys s′ →
+    is-tail (last hs) ≡ true → row (last hs) ≡ absent → ⊥
 unfolding Aligned
-tail-present {text} {ts} {s = s} {s′ = s′} {hs = hs} i w r e z =
-    let k : All-known (written s′) hs = rw (r .rows) at (walk-sound text ts (r .tree) (written s) (whole-rows w .nodes) .first) in
+tail-present {ts} {s = s} {s′ = s′} {hs = hs} i w r e z =
+    let k : All-known (written s′) hs = rw (r .rows) at (walk-sound ts (names-of ts (s .scratch)) (r .tree) (written s) (whole-rows w .nodes) .first) in
     omega (arith, tail-row (last-known k) e, length-take (9 * s′ .cursor .nodes) (s′ .nodes))
 
 row-link : (h : Handle) → Fits one (h ∷ []) → link h ≡ row h ∷ 0 ∷ 0 ∷ []
@@ -53,6 +55,6 @@ row-link (Handle.ended i) f = refl
 row-link Handle.other f = absurd (omega (arith, f .least))
 
 -- a statement's link is its row
-pub statement-link : {text ts : List ℕ} {limit o : ℕ} {s s′ : State} {h : Handle} → Within text ts s → Reading text ts limit (whole (choice statement)) o s (h ∷ []) [] s′ → link h ≡ row h ∷ 0 ∷ 0 ∷ []
+pub statement-link : {ts : List ℕ} {limit o : ℕ} {s s′ : State} {h : Handle} → Within ts s → Reading ts limit (whole (choice statement)) o s (h ∷ []) [] s′ → link h ≡ row h ∷ 0 ∷ 0 ∷ []
 unfolding ok shape table
-statement-link {text} {ts} {h = h} w r = row-link h (rw (r .rows) at (grows text ts (r .reads) tt (whole-rows w) .first))
+statement-link {ts} {s = s} {h = h} w r = row-link h (rw (r .rows) at (grows ts (names-of ts (s .scratch)) (r .reads) tt (whole-rows w) .first))

@@ -19,12 +19,13 @@ use Rattle.grammar.specs.Phrase.{empty, node, choice, once, whole, begun}
 use Rattle.grammar.specs.Refusal.{Refused, Refuses}
 use Rattle.grammar.specs.Rows.{links-of, make}
 use Rattle.grammar.specs.Token.{kind, start, end}
+use Rattle.grammar.proofs.Halves.{Lists as List-table}
 use Rattle.grammar.proofs.Room.{links-length}
 use Rattle.grammar.proofs.Tables.{Unlisted, keyed, unkeyed}
 use Rattle.reading.specs.Answers.{next, node-of, tail-of, Answer-case, Answered, Listed, Fill-case, Fills, Stated, State-case, States}
 use Rattle.reading.specs.Parts.{forms, form-of, ending, Ends, Ended, Untailed}
 use Rattle.reading.specs.Reading.{refusal, Success, Refusing}
-use Rattle.reading.specs.State.{State, state, held, Within, Ready}
+use Rattle.reading.specs.State.{State, state, held, Ready, Opened}
 use Rattle.reading.specs.declared.Cursor.{Cursor}
 use Rattle.reading.specs.declared.Read.{Read}
 use Rattle.reading.specs.declared.Refusal.{Refusal}
@@ -34,11 +35,13 @@ use Rattle.reading.proofs.Replies.{after-once}
 use Rattle.parser.proofs.Sorts.{tail-present, statement-link}
 
 -- a table whose entries are made alike
-ended-look : (end : ℕ → Table) (es : List (ℕ × Form)) (p : Form) (x : ℕ) {t : Table} → (Unlisted x es → end x ≡ t) → look (map (λ e. (e .0, once (e .1) (end (e .0)))) es) (once p t) x ≡ once (look es p x) (end x)
+ended-look : (end : ℕ → Table) (es : List (ℕ × Form)) (p : Form) (x : ℕ) {t : Table} → (Unlisted x es → end x ≡ t) →
+    look (map (λ e. (e .0, once (e .1) (end (e .0)))) es) (once p t) x ≡ once (look es p x) (end x)
 ended-look end [] p x h = rw (h tt)
 ended-look end (e ∷ es) p x {t} h = go (eqb x (e .0)) refl (λ n. ended-look end es p x (λ u. h (n, u)))
   where
-    go : (b : Bool) → eqb x (e .0) ≡ b → ((x ≡ e .0 → ⊥) → look (map (λ e. (e .0, once (e .1) (end (e .0)))) es) (once p t) x ≡ once (look es p x) (end x)) → cond (eqb x (e .0)) (once (e .1) (end (e .0))) (look (map (λ e. (e .0, once (e .1) (end (e .0)))) es) (once p t) x) ≡ once (cond (eqb x (e .0)) (e .1) (look es p x)) (end x)
+    go : (b : Bool) → eqb x (e .0) ≡ b → ((x ≡ e .0 → ⊥) → look (map (λ e. (e .0, once (e .1) (end (e .0)))) es) (once p t) x ≡ once (look es p x) (end x)) →
+        cond (eqb x (e .0)) (once (e .1) (end (e .0))) (look (map (λ e. (e .0, once (e .1) (end (e .0)))) es) (once p t) x) ≡ once (cond (eqb x (e .0)) (e .1) (look es p x)) (end x)
     go true z f = let y = eqb-true x (e .0) z in rw (z, y)
     go false z f = rw z (f (eqb-false x (e .0) z))
 
@@ -56,7 +59,8 @@ ending-is : (x : ℕ) → (ending x ≡ may-end) ⊎ (ending x ≡ must-end)
 unfolding ending
 ending-is x = go (eqb x LeftBrace) (eqb x If) (eqb x Function) (eqb x While)
   where
-    go : (a b c d : Bool) → (cond a may-end (cond b may-end (cond c may-end (cond d may-end must-end))) ≡ may-end) ⊎ (cond a may-end (cond b may-end (cond c may-end (cond d may-end must-end))) ≡ must-end)
+    go : (a b c d : Bool) → (cond a may-end (cond b may-end (cond c may-end (cond d may-end must-end))) ≡ may-end) ⊎
+        (cond a may-end (cond b may-end (cond c may-end (cond d may-end must-end))) ≡ must-end)
     go true b c d = inl refl
     go false true b c = inl refl
     go false false true b = inl refl
@@ -84,34 +88,45 @@ module _ (y x : ℕ) where
   lacking-end n z = ap (λ t. kaori t y) z ∙ unkeyed must-end y refl n
 
 -- a statement's form was read, and then its end; or it was refused
-module _ {text ts : List ℕ} {limit o : ℕ} {s : State} {ns ls ys ss : List ℕ} where
-  states-refused : {q : Refusal} → Refusing ts limit (choice statement) o s (refusal q) → States text ts limit o s ns ls ys ss (Read.Refused q)
+module _ {ts : List ℕ} {limit o : ℕ} {s : State} {ns ls ss : List ℕ} where
+  states-refused : {q : Refusal} → Refusing ts limit (choice statement) o s (refusal q) → States ts limit o s ns ls ss (Read.Refused q)
   unfolding State-case
   states-refused h = record { says = h }
 
-  ended-by : {n m : Node} {c d : Cursor} → Ready text ts limit o s → Success text ts limit (whole (form-of (kind ts (s .cursor .at)))) o s (node-of n ∷ []) (state ns ls ys ss c) →
-      (kind ts (c .at) ≡ Semicolon) × (m ≡ record { id = n .id; start = 0; end = absent }) × (d ≡ next c) → States text ts limit o s ns ls ys ss (Read.Node m d)
+  ended-by : {n m : Node} {c d : Cursor} → Ready ts limit o s → Success ts limit (whole (form-of (kind ts (s .cursor .at)))) o s (node-of n ∷ []) (state ns ls ss c) →
+      (kind ts (c .at) ≡ Semicolon) × (m ≡ record { id = n .id; start = 0; end = absent }) × (d ≡ next c) → States ts limit o s ns ls ss (Read.Node m d)
   unfolding State-case make
   ended-by {n} {c = c} r z (k, em, ed) =
-      let made : Made text ts Label.Ended (c .at) (state ns ls ys ss (next c)) (node-of n ∷ []) [] (Handle.ended (n .id) ∷ []) (state ns ls ys ss (next c)) = unwritten refl in
+      let made : Made ts Label.Ended (c .at) (state ns ls ss (next c)) (node-of n ∷ []) [] (Handle.ended (n .id) ∷ []) (state ns ls ss (next c)) = unwritten refl in
       let v = chosen (statement-form (kind ts (s .cursor .at))) (joined (z .reading) (taken-end (kind ts (c .at)) (kind ts (s .cursor .at)) k) (taken k (nothing (r .deep))) made) in
-      rw (em, ed) (record { says = record { handle = Handle.ended (n .id); row-is = refl; start-is = refl; tail-is = refl; success = record { reading = v; within = ready-next (ready-on r (z .within)) k (λ y. omega arith) .within; past = omega (arith, z .past) } } })
+      rw (em, ed)
+      (record {
+        says = record {
+          handle = Handle.ended (n .id);
+          row-is = refl;
+          start-is = refl;
+          tail-is = refl;
+          success = record { reading = v; within = ready-next (ready-on r (z .within)) k (λ y. omega arith) .within; past = omega (arith, z .past) };
+        };
+      })
 
-  alone-by : {n m : Node} {c d : Cursor} → Success text ts limit (whole (form-of (kind ts (s .cursor .at)))) o s (node-of n ∷ []) (state ns ls ys ss c) →
-      (kind ts (c .at) ≡ Semicolon → ⊥) × ((kind ts (c .at) ≡ RightBrace) ⊎ (ending (kind ts (s .cursor .at)) ≡ may-end)) × (m ≡ record { id = n .id; start = 0; end = n .id }) × (d ≡ c) → States text ts limit o s ns ls ys ss (Read.Node m d)
+  alone-by : {n m : Node} {c d : Cursor} → Success ts limit (whole (form-of (kind ts (s .cursor .at)))) o s (node-of n ∷ []) (state ns ls ss c) →
+      (kind ts (c .at) ≡ Semicolon → ⊥) × ((kind ts (c .at) ≡ RightBrace) ⊎ (ending (kind ts (s .cursor .at)) ≡ may-end)) × (m ≡ record { id = n .id; start = 0; end = n .id }) × (d ≡ c) →
+      States ts limit o s ns ls ss (Read.Node m d)
   unfolding State-case
   alone-by {n} {c = c} z (k, b, em, ed) =
       let v = chosen (statement-form (kind ts (s .cursor .at))) (alone (no-end (kind ts (c .at)) (kind ts (s .cursor .at)) k b) (z .reading)) in
       rw (em, ed) (record { says = record { handle = node-of n; row-is = refl; start-is = refl; tail-is = refl; success = record { reading = v; within = z .within; past = z .past } } })
 
-  pub statement-ends : {n : Node} {c : Cursor} {x : ℕ} (r : Read) → Ready text ts limit o s → Success text ts limit (whole (form-of (kind ts (s .cursor .at)))) o s (node-of n ∷ []) (state ns ls ys ss c) → x ≡ kind ts (s .cursor .at) → Ended ts n c x r → States text ts limit o s ns ls ys ss r
+  pub statement-ends : {n : Node} {c : Cursor} {x : ℕ} (r : Read) → Ready ts limit o s →
+      Success ts limit (whole (form-of (kind ts (s .cursor .at)))) o s (node-of n ∷ []) (state ns ls ss c) → x ≡ kind ts (s .cursor .at) → Ended ts n c x r → States ts limit o s ns ls ss r
   unfolding Ends
   statement-ends (Read.Node m d) i z e w = ⊎-elim (ended-by i z) (alone-by z) ((rw e at w) .says)
   statement-ends {c = c} (Read.Refused q) i z e w =
       let (k, b, y, v) = (rw e at w) .says in
       rw v (states-refused (Refuses.in-choice (statement-form (kind ts (s .cursor .at))) (after-once (z .reading) (lacking-end (kind ts (c .at)) (kind ts (s .cursor .at)) b y) (Refuses.missing k))))
 
-  pub statement-refused : {r : Read} {q : Refusal} → r ≡ Read.Refused q → Answered text ts limit node-of (whole (form-of (kind ts (s .cursor .at)))) o s ns ls ys ss r → States text ts limit o s ns ls ys ss r
+  pub statement-refused : {r : Read} {q : Refusal} → r ≡ Read.Refused q → Answered ts limit node-of (whole (form-of (kind ts (s .cursor .at)))) o s ns ls ss r → States ts limit o s ns ls ss r
   unfolding Answer-case
   statement-refused {q = q} e a = rw e (states-refused (Refuses.in-choice (statement-form (kind ts (s .cursor .at))) (Refuses.in-only ((rw e at a) .says))))
 
@@ -151,7 +166,8 @@ shorter n ss xs hs h i e =
     sym (take-take (3 * (n - 1)) (3 * n) ss (omega arith)) ∙ ap (take (3 * (n - 1))) split ∙ take-at (xs ++ links-of hs) (links-of (h ∷ [])) (3 * (n - 1)) m
 
 -- a block's items are read: a tail is held no more
-module _ {text ts : List ℕ} {limit o : ℕ} {s : State} {ns ls ys ss : List ℕ} {c : Cursor} {tail : ℕ} (l : Listed text ts limit (begun empty block-items) o s (state ns ls ys ss c)) (t : tail ≡ row (block-tail (l .items))) where
+module _ {ts : List ℕ} {limit o : ℕ} {s : State} {ns ls ss : List ℕ} {c : Cursor} {tail : ℕ} (l : Listed ts limit (begun empty block-items) o s (state ns ls ss c))
+    (t : tail ≡ row (block-tail (l .items))) where
   pub tail-held : (tail ≡ absent → ⊥) → 1 ≤ c .held
   unfolding block-tail
   tail-held n = go (l .items) t (l .count)
@@ -160,15 +176,28 @@ module _ {text ts : List ℕ} {limit o : ℕ} {s : State} {ns ls ys ss : List �
       go [] e k = absurd (n e)
       go (h ∷ hs) e k = omega arith
 
-  pub block-ends : {r : Read} → Ready text ts limit o s → kaori block-items (kind ts (c .at)) ≡ empty → Untailed tail c r → Fills text ts limit o s ns ls ys ss r
+  pub block-ends : {r : Read} → Ready ts limit o s → kaori block-items (kind ts (c .at)) ≡ empty → Untailed tail c r → Fills ts limit o s ns ls ss r
   unfolding Fill-case block-tail
   block-ends {r} i e u = go (is-tail (last (l .items))) refl
     where
-      go : (b : Bool) → is-tail (last (l .items)) ≡ b → Fills text ts limit o s ns ls ys ss r
+      go : (b : Bool) → is-tail (last (l .items)) ≡ b → Fills ts limit o s ns ls ss r
       go false z =
           let y = no-tail (l .items) z in
           let a : tail ≡ absent = t ∙ rw z in
-          rw (u .none a) (record { says = record { items = l .items; reading = ended e (l .reading); tail = t; start-is = refl; end-is = refl; count = rw y (l .count); rows = rw y (l .rows); within = l .within; past = l .past } })
+          rw (u .none a)
+          (record {
+            says = record {
+              items = l .items;
+              reading = ended e (l .reading);
+              tail = t;
+              start-is = refl;
+              end-is = refl;
+              count = rw y (l .count);
+              rows = rw y (l .rows);
+              within = l .within;
+              past = l .past;
+            };
+          })
       go true z =
           let y = one-tail (l .items) z in
           let a : tail ≡ row (last (l .items)) = t ∙ rw z in
@@ -177,7 +206,7 @@ module _ {text ts : List ℕ} {limit o : ℕ} {s : State} {ns ls ys ss : List �
           let n : length (l .items) ≡ length hs + 1 = ap length y ∙ length-append hs (h ∷ []) in
           let w = l .within in
           let room : 3 * c .held ≤ length ss = omega (arith, w .links, w .at, w .roomy .scratch) in
-          let rows : held (state ns ls ys ss c) ≡ held s ++ links-of (hs ++ (h ∷ [])) = l .rows ∙ ap (λ k. held s ++ links-of k) y in
+          let rows : held (state ns ls ss c) ≡ held s ++ links-of (hs ++ (h ∷ [])) = l .rows ∙ ap (λ k. held s ++ links-of k) y in
           let few : c .nodes < absent = omega (arith, w .rows, w .at, i .lent .whole .most) in
           rw (u .one (λ x. tail-present few (i .within) (l .reading) z (sym a ∙ x))) (record {
             says = record {
@@ -188,19 +217,27 @@ module _ {text ts : List ℕ} {limit o : ℕ} {s : State} {ns ls ys ss : List �
               end-is = refl;
               count = omega (arith, l .count);
               rows = shorter (c .held) ss (held s) hs h room rows;
-              within = record { roomy = record { nodes = w .roomy .nodes; links = w .roomy .links; symbols = w .roomy .symbols; scratch = w .roomy .scratch }; at = w .at; rows = w .rows; links = omega (arith, w .links); symbols = w .symbols; table = w .table };
+              within =
+                  record {
+                    roomy = record { nodes = w .roomy .nodes; links = w .roomy .links; scratch = w .roomy .scratch };
+                    at = w .at;
+                    rows = w .rows;
+                    links = omega (arith, w .links);
+                    stack = omega (arith, w .stack);
+                  };
               past = l .past;
             };
           })
 
 -- what the loop over a block's statements keeps: at its start, and after one more
-module _ {text ts : List ℕ} {limit o : ℕ} {s : State} where
-  pub statements-none : o ≤ limit → Within text ts s → Statements text ts limit o s s absent
-  statements-none h w = record { listing = listing-none h w; last = sym (ap (λ k. row (block-tail k)) (none-items block-items h w) ∙ tail-none) }
+module _ {ts : List ℕ} {limit o : ℕ} {s : State} where
+  pub statements-none : Opened ts limit o s → Statements ts limit o s s absent
+  statements-none r = record { listing = listing-none List-table.block r; last = sym (ap (λ k. row (block-tail k)) (none-items List-table.block r) ∙ tail-none) }
 
-  pub statements-more : {s₁ : State} {tail : ℕ} {n : Node} {ns ls ys ss ss′ : List ℕ} {c : Cursor} → Statements text ts limit o s s₁ tail → kaori block-items (kind ts (s₁ .cursor .at)) ≡ node Label.Item (choice statement) → Stated text ts limit o s₁ n (state ns ls ys ss c) →
-      Written (3 * c .held) (3 * (c .held + 1)) (n .id ∷ 0 ∷ 0 ∷ []) ss ss′ → Statements text ts limit o s (state ns ls ys ss′ (pushed c)) (n .end)
+  pub statements-more : {s₁ : State} {tail : ℕ} {n : Node} {ns ls ss ss′ : List ℕ} {c : Cursor} → Statements ts limit o s s₁ tail →
+      kaori block-items (kind ts (s₁ .cursor .at)) ≡ node Label.Item (choice statement) → Stated ts limit o s₁ n (state ns ls ss c) →
+      Written (3 * c .held) (3 * (c .held + 1)) (n .id ∷ 0 ∷ 0 ∷ []) ss ss′ → Statements ts limit o s (state ns ls ss′ (pushed c)) (n .end)
   statements-more {n = n} x e z w =
       let l = x .listing in
-      let f : n .id ∷ 0 ∷ 0 ∷ [] ≡ link (z .handle) = sym (statement-link (l .within) (z .success .reading) ∙ ap (λ i. i ∷ 0 ∷ 0 ∷ []) (z .row-is)) in
-      record { listing = listing-more l e (z .success) w f; last = sym (ap (λ k. row (block-tail k)) (more-items l e (z .success) w f) ∙ tail-next (l .items) (z .handle) ∙ z .tail-is) }
+      let f : n .id ∷ 0 ∷ 0 ∷ [] ≡ link (z .handle) = sym (statement-link (l .listed .within) (z .success .reading) ∙ ap (λ i. i ∷ 0 ∷ 0 ∷ []) (z .row-is)) in
+      record { listing = listing-more l e (z .success) w f; last = sym (ap (λ k. row (block-tail k)) (more-items l e (z .success) w f) ∙ tail-next (l .listed .items) (z .handle) ∙ z .tail-is) }

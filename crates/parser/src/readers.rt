@@ -4,6 +4,7 @@ use ast::room::push;
 use reading::Cursor;
 use reading::Read;
 use reading::Refusal;
+use reading::codes;
 use reading::leaves::identifier;
 use reading::leaves::property_access;
 use reading::leaves::single;
@@ -16,57 +17,46 @@ use reading::lists::name;
 use reading::lists::names;
 use reading::pieces::bound;
 use reading::pieces::joined;
+use reading::pieces::made;
 use reading::pieces::semicolon;
 use reading::pieces::untailed;
+use token::kinds;
 use token::list::kind_at;
 use token::ops::level_of;
 use token::ops::sign_of;
 ghost use mathlib.Core.Path.{_≡_};
 ghost use Prim.Native.Nat.{_+_, _≤_};
 ghost use Rattle.grammar.specs.Kaori as form;
-ghost use Rattle.grammar.specs.Kind.{LeftParen, RightParen, RightBrace, Identifier};
-ghost use Rattle.grammar.specs.Label.{Node as Label, Label as Labels};
-ghost use Rattle.grammar.specs.Phrase.{part, node, choice, chain, empty, whole, begun};
+ghost use Rattle.grammar.specs.Kind.{LeftParen, RightParen, RightBrace};
+ghost use Rattle.grammar.specs.Label.{Label};
+ghost use Rattle.grammar.specs.Phrase.{part, node, choice, chain, empty, whole};
 ghost use Rattle.grammar.specs.Token.{kind};
-ghost use Rattle.reading.specs.Answers.{node-of, entry-of, Answered, Lists, Fills, States};
-ghost use Rattle.reading.specs.Chains.{Onward};
+ghost use Rattle.reading.specs.Answers.{node-of, entry-of};
+ghost use Rattle.reading.specs.Clauses.{ready, opened, answered, lists, fills, states, called, onward};
 ghost use Rattle.reading.specs.Parts.{Binder, Sign, Other, form-of, binding-node};
-ghost use Rattle.reading.specs.State.{state, Ready};
 
 // No row.
 const ABSENT: u32 = 4294967295;
 
 // A statement: its row, and at its node's end the row once more if it may be a tail, or else absent; the node's start is 0.
-// It asks for a text and a list that the door lets in, a cursor at a token of it, room in each room for a row of each token, no more rows so far than tokens
-// before the cursor, symbols that are a table of the text, and a depth no more than the limit. It is public for crate syntax.
+// It asks for a list that the door lets in, a cursor at a token of it, room in each room for a row of each token, no more rows so far than tokens before the
+// cursor, items that are held below the symbols, and a depth no more than the limit. It is public for crate syntax.
 // Ruled out: a call whose span starts at its callee; a `not` whose operand ends at the first operator.
 pub fn statement(
-    text: &[u8],
     tokens: &[u32],
     nodes: &mut [u32],
     links: &mut [u32],
-    symbols: &mut [u32],
     scratch: &mut [u32],
     limit: u32,
     depth: u32,
     cur: Cursor,
 ) -> Read
-    requires { ⌜ Ready (now text) (now tokens) limit depth (state (now nodes) (now links) (now symbols) (now scratch) cur) ⌝ }
-    ensures { λ r. ⌜ States (now (text .entry)) (now (tokens .entry)) limit depth (state (now (nodes .entry)) (now (links .entry)) (now (symbols .entry)) (now (scratch .entry)) cur) (now (nodes .exit)) (now (links .exit)) (now (symbols .exit)) (now (scratch .exit)) r ⌝ }
+    requires { ⌜ ready tokens nodes links scratch limit depth cur ⌝ }
+    ensures { λ r. ⌜ states tokens nodes links scratch limit depth cur r ⌝ }
 {
     let at = cur.at;
     let kind = kind_at(tokens, at);
-    let read = form(
-        text,
-        tokens,
-        nodes,
-        links,
-        symbols,
-        scratch,
-        limit,
-        depth,
-        cur,
-    );
+    let read = form(tokens, nodes, links, scratch, limit, depth, cur);
     let Read::Node(node, end) = read else {
         return read;
     };
@@ -75,266 +65,135 @@ pub fn statement(
 
 // Which token starts a statement decides its form.
 fn form(
-    text: &[u8],
     tokens: &[u32],
     nodes: &mut [u32],
     links: &mut [u32],
-    symbols: &mut [u32],
     scratch: &mut [u32],
     limit: u32,
     depth: u32,
     cur: Cursor,
 ) -> Read
-    requires { ⌜ Ready (now text) (now tokens) limit depth (state (now nodes) (now links) (now symbols) (now scratch) cur) ⌝ }
-    ensures { λ r. ⌜ Answered (now (text .entry)) (now (tokens .entry)) limit node-of (whole (form-of (kind (now (tokens .entry)) (cur .at)))) depth (state (now (nodes .entry)) (now (links .entry)) (now (symbols .entry)) (now (scratch .entry)) cur) (now (nodes .exit)) (now (links .exit)) (now (symbols .exit)) (now (scratch .exit)) r ⌝ }
+    requires { ⌜ ready tokens nodes links scratch limit depth cur ⌝ }
+    ensures { λ r. ⌜ answered node-of (whole (form-of (kind (now (tokens .entry)) (cur .at)))) tokens nodes links scratch limit depth cur r ⌝ }
 {
     let at = cur.at;
     let kind = kind_at(tokens, at);
     match kind {
-        20 => block(
-            text,
-            tokens,
-            nodes,
-            links,
-            symbols,
-            scratch,
-            limit,
-            depth,
-            cur,
-        ),
-        25..=27 => bind(
-            text,
-            tokens,
-            nodes,
-            links,
-            symbols,
-            scratch,
-            limit,
-            depth,
-            cur,
-            kind,
-        ),
-        28 => function(
-            text,
-            tokens,
-            nodes,
-            links,
-            symbols,
-            scratch,
-            limit,
-            depth,
-            cur,
-        ),
-        29 => Read::Refused(Refusal {
-            code: 10,
+        kinds::LEFT_BRACE => block(tokens, nodes, links, scratch, limit, depth, cur),
+        kinds::LET..=kinds::REF => bind(tokens, nodes, links, scratch, limit, depth, cur, kind),
+        kinds::FUNCTION => function(tokens, nodes, links, scratch, limit, depth, cur),
+        kinds::FOR => Read::Refused(Refusal {
+            code: codes::STARTS_WITH_FOR,
             at: at,
-            expected: 255,
+            expected: codes::NO_KIND,
         }),
-        30 => while_(
-            text,
+        kinds::WHILE => while_(tokens, nodes, links, scratch, limit, depth, cur),
+        kinds::BREAK..=kinds::CONTINUE => single(
             tokens,
             nodes,
             links,
-            symbols,
-            scratch,
-            limit,
-            depth,
-            cur,
-        ),
-        31..=32 => single(
-            text,
-            tokens,
-            nodes,
-            links,
-            symbols,
             scratch,
             limit,
             depth,
             cur,
             kind,
         ),
-        33 => if_(
-            text,
-            tokens,
-            nodes,
-            links,
-            symbols,
-            scratch,
-            limit,
-            depth,
-            cur,
-        ),
-        35 => return_(
-            text,
-            tokens,
-            nodes,
-            links,
-            symbols,
-            scratch,
-            limit,
-            depth,
-            cur,
-        ),
-        36 => import(
-            text,
-            tokens,
-            nodes,
-            links,
-            symbols,
-            scratch,
-            limit,
-            depth,
-            cur,
-        ),
-        _ => assign(
-            text,
-            tokens,
-            nodes,
-            links,
-            symbols,
-            scratch,
-            limit,
-            depth,
-            cur,
-        ),
+        kinds::IF => if_(tokens, nodes, links, scratch, limit, depth, cur),
+        kinds::RETURN => return_(tokens, nodes, links, scratch, limit, depth, cur),
+        kinds::IMPORT => import(tokens, nodes, links, scratch, limit, depth, cur),
+        _ => assign(tokens, nodes, links, scratch, limit, depth, cur),
     }
 }
 
 // An expression, or an assignment to one.
 fn assign(
-    text: &[u8],
     tokens: &[u32],
     nodes: &mut [u32],
     links: &mut [u32],
-    symbols: &mut [u32],
     scratch: &mut [u32],
     limit: u32,
     depth: u32,
     cur: Cursor,
 ) -> Read
-    requires { ⌜ Ready (now text) (now tokens) limit depth (state (now nodes) (now links) (now symbols) (now scratch) cur) ⌝ }
-    ensures { λ r. ⌜ Answered (now (text .entry)) (now (tokens .entry)) limit node-of (whole form.assignment) depth (state (now (nodes .entry)) (now (links .entry)) (now (symbols .entry)) (now (scratch .entry)) cur) (now (nodes .exit)) (now (links .exit)) (now (symbols .exit)) (now (scratch .exit)) r ⌝ }
+    requires { ⌜ ready tokens nodes links scratch limit depth cur ⌝ }
+    ensures { λ r. ⌜ answered node-of (whole form.assignment) tokens nodes links scratch limit depth cur r ⌝ }
 {
-    let read = expression(
-        text,
-        tokens,
-        nodes,
-        links,
-        symbols,
-        scratch,
-        limit,
-        depth,
-        cur,
-    );
+    let read = expression(tokens, nodes, links, scratch, limit, depth, cur);
     let Read::Node(left, middle) = read else {
         return read;
     };
     let at = middle.at;
-    if kind_at(tokens, at) != 0 {
+    if kind_at(tokens, at) != kinds::ASSIGN {
         return read;
     }
-    let mut next = middle;
-    next.at = at + 1;
-    let turn = expression(
-        text,
-        tokens,
-        nodes,
-        links,
-        symbols,
-        scratch,
-        limit,
-        depth,
-        next,
-    );
+    let next = Cursor {
+        held: middle.held,
+        at: at + 1,
+        links: middle.links,
+        nodes: middle.nodes,
+    };
+    let turn = expression(tokens, nodes, links, scratch, limit, depth, next);
     let Read::Node(right, end) = turn else {
         return turn;
     };
     let n = end.nodes;
     let node = ast::assign(nodes, n, left.id, right.id, left.start, right.end);
-    let mut past = end;
-    past.nodes = n + 1;
-    Read::Node(node, past)
+    made(node, end)
 }
 
 fn return_(
-    text: &[u8],
     tokens: &[u32],
     nodes: &mut [u32],
     links: &mut [u32],
-    symbols: &mut [u32],
     scratch: &mut [u32],
     limit: u32,
     depth: u32,
     cur: Cursor,
 ) -> Read
-    requires { ⌜ Ready (now text) (now tokens) limit depth (state (now nodes) (now links) (now symbols) (now scratch) cur) ⌝ }
-    ensures { λ r. ⌜ Answered (now (text .entry)) (now (tokens .entry)) limit node-of (whole form.return) depth (state (now (nodes .entry)) (now (links .entry)) (now (symbols .entry)) (now (scratch .entry)) cur) (now (nodes .exit)) (now (links .exit)) (now (symbols .exit)) (now (scratch .exit)) r ⌝ }
+    requires { ⌜ ready tokens nodes links scratch limit depth cur ⌝ }
+    ensures { λ r. ⌜ answered node-of (whole form.return) tokens nodes links scratch limit depth cur r ⌝ }
 {
-    let read = consume(tokens, cur, 35);
+    let read = consume(tokens, cur, kinds::RETURN);
     let Read::Node(lead, next) = read else {
         return read;
     };
-    let read = expression(
-        text,
-        tokens,
-        nodes,
-        links,
-        symbols,
-        scratch,
-        limit,
-        depth,
-        next,
-    );
+    let read = expression(tokens, nodes, links, scratch, limit, depth, next);
     let Read::Node(child, end) = read else {
         return read;
     };
     let n = end.nodes;
     let node = ast::return_(nodes, n, child.id, lead.start, child.end);
-    let mut past = end;
-    past.nodes = n + 1;
-    Read::Node(node, past)
+    made(node, end)
 }
 
 fn block(
-    text: &[u8],
     tokens: &[u32],
     nodes: &mut [u32],
     links: &mut [u32],
-    symbols: &mut [u32],
     scratch: &mut [u32],
     limit: u32,
     depth: u32,
     cur: Cursor,
 ) -> Read
-    requires { ⌜ Ready (now text) (now tokens) limit depth (state (now nodes) (now links) (now symbols) (now scratch) cur) ⌝ }
-    ensures { λ r. ⌜ Answered (now (text .entry)) (now (tokens .entry)) limit node-of (whole form.block) depth (state (now (nodes .entry)) (now (links .entry)) (now (symbols .entry)) (now (scratch .entry)) cur) (now (nodes .exit)) (now (links .exit)) (now (symbols .exit)) (now (scratch .exit)) r ⌝ }
+    requires { ⌜ ready tokens nodes links scratch limit depth cur ⌝ }
+    ensures { λ r. ⌜ answered node-of (whole form.block) tokens nodes links scratch limit depth cur r ⌝ }
 {
     if limit <= depth {
         return Read::Refused(Refusal {
-            code: 11,
+            code: codes::TOO_DEEP,
             at: cur.at,
-            expected: 255,
+            expected: codes::NO_KIND,
         });
     }
-    let read = consume(tokens, cur, 20);
+    let read = consume(tokens, cur, kinds::LEFT_BRACE);
     let Read::Node(open, next) = read else {
         return read;
     };
-    let read = items(
-        text,
-        tokens,
-        nodes,
-        links,
-        symbols,
-        scratch,
-        limit,
-        depth + 1,
-        next,
-    );
+    let read = items(tokens, nodes, links, scratch, limit, depth + 1, next);
     let Read::Node(tail, last) = read else {
         return read;
     };
-    let read = consume(tokens, last, 21);
+    let read = consume(tokens, last, kinds::RIGHT_BRACE);
     let Read::Node(close, end) = read else {
         return read;
     };
@@ -352,25 +211,21 @@ fn block(
         open.start,
         close.end,
     );
-    let mut past = done;
-    past.nodes = n + 1;
-    Read::Node(node, past)
+    made(node, done)
 }
 
 // The statements of a block: the tail's row, or absent; the others are held.
 fn items(
-    text: &[u8],
     tokens: &[u32],
     nodes: &mut [u32],
     links: &mut [u32],
-    symbols: &mut [u32],
     scratch: &mut [u32],
     limit: u32,
     depth: u32,
     cur: Cursor,
 ) -> Read
-    requires { ⌜ Ready (now text) (now tokens) limit depth (state (now nodes) (now links) (now symbols) (now scratch) cur) ⌝ }
-    ensures { λ r. ⌜ Fills (now (text .entry)) (now (tokens .entry)) limit depth (state (now (nodes .entry)) (now (links .entry)) (now (symbols .entry)) (now (scratch .entry)) cur) (now (nodes .exit)) (now (links .exit)) (now (symbols .exit)) (now (scratch .exit)) r ⌝ }
+    requires { ⌜ opened tokens nodes links scratch limit depth cur ⌝ }
+    ensures { λ r. ⌜ fills tokens nodes links scratch limit depth cur r ⌝ }
 {
     let mut now = cur;
     let mut tail = ABSENT;
@@ -378,87 +233,59 @@ fn items(
         let at = now.at;
         let kind = kind_at(tokens, at);
         match kind {
-            21 | 44 => break 'list,
+            kinds::RIGHT_BRACE | kinds::EOF => break 'list,
             _ => {}
         }
-        let read = statement(
-            text,
-            tokens,
-            nodes,
-            links,
-            symbols,
-            scratch,
-            limit,
-            depth,
-            now,
-        );
+        let read = statement(tokens, nodes, links, scratch, limit, depth, now);
         let Read::Node(item, end) = read else {
             return read;
         };
         let held = end.held;
         push(scratch, held, item.id, 0, 0);
-        now = end;
-        now.held = held + 1;
+        now = Cursor {
+            held: held + 1,
+            at: end.at,
+            links: end.links,
+            nodes: end.nodes,
+        };
         tail = item.end;
     }
     untailed(tail, now)
 }
 
 fn if_(
-    text: &[u8],
     tokens: &[u32],
     nodes: &mut [u32],
     links: &mut [u32],
-    symbols: &mut [u32],
     scratch: &mut [u32],
     limit: u32,
     depth: u32,
     cur: Cursor,
 ) -> Read
-    requires { ⌜ Ready (now text) (now tokens) limit depth (state (now nodes) (now links) (now symbols) (now scratch) cur) ⌝ }
-    ensures { λ r. ⌜ Answered (now (text .entry)) (now (tokens .entry)) limit node-of (whole form.conditional) depth (state (now (nodes .entry)) (now (links .entry)) (now (symbols .entry)) (now (scratch .entry)) cur) (now (nodes .exit)) (now (links .exit)) (now (symbols .exit)) (now (scratch .exit)) r ⌝ }
+    requires { ⌜ ready tokens nodes links scratch limit depth cur ⌝ }
+    ensures { λ r. ⌜ answered node-of (whole form.conditional) tokens nodes links scratch limit depth cur r ⌝ }
 {
     if limit <= depth {
         return Read::Refused(Refusal {
-            code: 11,
+            code: codes::TOO_DEEP,
             at: cur.at,
-            expected: 255,
+            expected: codes::NO_KIND,
         });
     }
-    let read = consume(tokens, cur, 33);
+    let read = consume(tokens, cur, kinds::IF);
     let Read::Node(lead, next) = read else {
         return read;
     };
-    let read = expression(
-        text,
-        tokens,
-        nodes,
-        links,
-        symbols,
-        scratch,
-        limit,
-        depth + 1,
-        next,
-    );
+    let read = expression(tokens, nodes, links, scratch, limit, depth + 1, next);
     let Read::Node(condition, middle) = read else {
         return read;
     };
-    let read = block(
-        text,
-        tokens,
-        nodes,
-        links,
-        symbols,
-        scratch,
-        limit,
-        depth + 1,
-        middle,
-    );
+    let read = block(tokens, nodes, links, scratch, limit, depth + 1, middle);
     let Read::Node(then, end) = read else {
         return read;
     };
     let at = end.at;
-    if kind_at(tokens, at) != 34 {
+    if kind_at(tokens, at) != kinds::ELSE {
         let n = end.nodes;
         let node = ast::if_(
             nodes,
@@ -469,23 +296,15 @@ fn if_(
             lead.start,
             then.end,
         );
-        let mut past = end;
-        past.nodes = n + 1;
-        return Read::Node(node, past);
+        return made(node, end);
     }
-    let mut further = end;
-    further.at = at + 1;
-    let read = else_(
-        text,
-        tokens,
-        nodes,
-        links,
-        symbols,
-        scratch,
-        limit,
-        depth + 1,
-        further,
-    );
+    let further = Cursor {
+        held: end.held,
+        at: at + 1,
+        links: end.links,
+        nodes: end.nodes,
+    };
+    let read = else_(tokens, nodes, links, scratch, limit, depth + 1, further);
     let Read::Node(other, last) = read else {
         return read;
     };
@@ -499,173 +318,93 @@ fn if_(
         lead.start,
         other.end,
     );
-    let mut past = last;
-    past.nodes = n + 1;
-    Read::Node(node, past)
+    made(node, last)
 }
 
 // After `else`: another `if`, or a block.
 fn else_(
-    text: &[u8],
     tokens: &[u32],
     nodes: &mut [u32],
     links: &mut [u32],
-    symbols: &mut [u32],
     scratch: &mut [u32],
     limit: u32,
     depth: u32,
     cur: Cursor,
 ) -> Read
-    requires { ⌜ Ready (now text) (now tokens) limit depth (state (now nodes) (now links) (now symbols) (now scratch) cur) ⌝ }
-    ensures { λ r. ⌜ Answered (now (text .entry)) (now (tokens .entry)) limit node-of (whole (choice form.branch)) depth (state (now (nodes .entry)) (now (links .entry)) (now (symbols .entry)) (now (scratch .entry)) cur) (now (nodes .exit)) (now (links .exit)) (now (symbols .exit)) (now (scratch .exit)) r ⌝ }
+    requires { ⌜ ready tokens nodes links scratch limit depth cur ⌝ }
+    ensures { λ r. ⌜ answered node-of (whole (choice form.branch)) tokens nodes links scratch limit depth cur r ⌝ }
 {
     let at = cur.at;
     let kind = kind_at(tokens, at);
     match kind {
-        33 => if_(
-            text,
-            tokens,
-            nodes,
-            links,
-            symbols,
-            scratch,
-            limit,
-            depth,
-            cur,
-        ),
-        _ => block(
-            text,
-            tokens,
-            nodes,
-            links,
-            symbols,
-            scratch,
-            limit,
-            depth,
-            cur,
-        ),
+        kinds::IF => if_(tokens, nodes, links, scratch, limit, depth, cur),
+        _ => block(tokens, nodes, links, scratch, limit, depth, cur),
     }
 }
 
 fn while_(
-    text: &[u8],
     tokens: &[u32],
     nodes: &mut [u32],
     links: &mut [u32],
-    symbols: &mut [u32],
     scratch: &mut [u32],
     limit: u32,
     depth: u32,
     cur: Cursor,
 ) -> Read
-    requires { ⌜ Ready (now text) (now tokens) limit depth (state (now nodes) (now links) (now symbols) (now scratch) cur) ⌝ }
-    ensures { λ r. ⌜ Answered (now (text .entry)) (now (tokens .entry)) limit node-of (whole form.while-loop) depth (state (now (nodes .entry)) (now (links .entry)) (now (symbols .entry)) (now (scratch .entry)) cur) (now (nodes .exit)) (now (links .exit)) (now (symbols .exit)) (now (scratch .exit)) r ⌝ }
+    requires { ⌜ ready tokens nodes links scratch limit depth cur ⌝ }
+    ensures { λ r. ⌜ answered node-of (whole form.while-loop) tokens nodes links scratch limit depth cur r ⌝ }
 {
-    let read = consume(tokens, cur, 30);
+    let read = consume(tokens, cur, kinds::WHILE);
     let Read::Node(lead, next) = read else {
         return read;
     };
-    let read = expression(
-        text,
-        tokens,
-        nodes,
-        links,
-        symbols,
-        scratch,
-        limit,
-        depth,
-        next,
-    );
+    let read = expression(tokens, nodes, links, scratch, limit, depth, next);
     let Read::Node(condition, middle) = read else {
         return read;
     };
-    let read = block(
-        text,
-        tokens,
-        nodes,
-        links,
-        symbols,
-        scratch,
-        limit,
-        depth,
-        middle,
-    );
+    let read = block(tokens, nodes, links, scratch, limit, depth, middle);
     let Read::Node(body, end) = read else {
         return read;
     };
     let n = end.nodes;
     let node = ast::while_loop(nodes, n, condition.id, body.id, lead.start, body.end);
-    let mut past = end;
-    past.nodes = n + 1;
-    Read::Node(node, past)
+    made(node, end)
 }
 
 fn function(
-    text: &[u8],
     tokens: &[u32],
     nodes: &mut [u32],
     links: &mut [u32],
-    symbols: &mut [u32],
     scratch: &mut [u32],
     limit: u32,
     depth: u32,
     cur: Cursor,
 ) -> Read
-    requires { ⌜ Ready (now text) (now tokens) limit depth (state (now nodes) (now links) (now symbols) (now scratch) cur) ⌝ }
-    ensures { λ r. ⌜ Answered (now (text .entry)) (now (tokens .entry)) limit node-of (whole form.function) depth (state (now (nodes .entry)) (now (links .entry)) (now (symbols .entry)) (now (scratch .entry)) cur) (now (nodes .exit)) (now (links .exit)) (now (symbols .exit)) (now (scratch .exit)) r ⌝ }
+    requires { ⌜ ready tokens nodes links scratch limit depth cur ⌝ }
+    ensures { λ r. ⌜ answered node-of (whole form.function) tokens nodes links scratch limit depth cur r ⌝ }
 {
-    let read = consume(tokens, cur, 28);
+    let read = consume(tokens, cur, kinds::FUNCTION);
     let Read::Node(lead, next) = read else {
         return read;
     };
-    let read = name(
-        text,
-        tokens,
-        nodes,
-        links,
-        symbols,
-        scratch,
-        limit,
-        depth,
-        next,
-    );
+    let read = name(tokens, nodes, links, scratch, limit, depth, next);
     let Read::Node(word, named) = read else {
         return read;
     };
-    let read = consume(tokens, named, 17);
+    let read = consume(tokens, named, kinds::LEFT_PAREN);
     let Read::Node(_, open) = read else {
         return read;
     };
-    let read = names(
-        text,
-        tokens,
-        nodes,
-        links,
-        symbols,
-        scratch,
-        limit,
-        depth,
-        open,
-        18,
-    );
+    let closer = kinds::RIGHT_PAREN;
+    let read = names(tokens, nodes, links, scratch, limit, depth, open, closer);
     let Read::Node(_, listed) = read else {
         return read;
     };
-    let read = consume(tokens, listed, 18);
+    let read = consume(tokens, listed, kinds::RIGHT_PAREN);
     let Read::Node(_, close) = read else {
         return read;
     };
-    let read = block(
-        text,
-        tokens,
-        nodes,
-        links,
-        symbols,
-        scratch,
-        limit,
-        depth,
-        close,
-    );
+    let read = block(tokens, nodes, links, scratch, limit, depth, close);
     let Read::Node(body, end) = read else {
         return read;
     };
@@ -686,18 +425,14 @@ fn function(
         lead.start,
         body.end,
     );
-    let mut past = done;
-    past.nodes = n + 1;
-    Read::Node(node, past)
+    made(node, done)
 }
 
 // `let`, `const` and `ref`.
 fn bind(
-    text: &[u8],
     tokens: &[u32],
     nodes: &mut [u32],
     links: &mut [u32],
-    symbols: &mut [u32],
     scratch: &mut [u32],
     limit: u32,
     depth: u32,
@@ -705,95 +440,58 @@ fn bind(
     kind: u32,
 ) -> Read
     requires { ⌜ Binder kind ⌝ }
-    requires { ⌜ Ready (now text) (now tokens) limit depth (state (now nodes) (now links) (now symbols) (now scratch) cur) ⌝ }
-    ensures { λ r. ⌜ Answered (now (text .entry)) (now (tokens .entry)) limit node-of (whole (form.binding (binding-node kind) kind)) depth (state (now (nodes .entry)) (now (links .entry)) (now (symbols .entry)) (now (scratch .entry)) cur) (now (nodes .exit)) (now (links .exit)) (now (symbols .exit)) (now (scratch .exit)) r ⌝ }
+    requires { ⌜ ready tokens nodes links scratch limit depth cur ⌝ }
+    ensures { λ r. ⌜ answered node-of (whole (form.binding (binding-node kind) kind)) tokens nodes links scratch limit depth cur r ⌝ }
 {
     let read = consume(tokens, cur, kind);
     let Read::Node(lead, next) = read else {
         return read;
     };
-    let read = name(
-        text,
-        tokens,
-        nodes,
-        links,
-        symbols,
-        scratch,
-        limit,
-        depth,
-        next,
-    );
+    let read = name(tokens, nodes, links, scratch, limit, depth, next);
     let Read::Node(word, named) = read else {
         return read;
     };
-    let read = consume(tokens, named, 0);
+    let read = consume(tokens, named, kinds::ASSIGN);
     let Read::Node(_, middle) = read else {
         return read;
     };
-    let read = expression(
-        text,
-        tokens,
-        nodes,
-        links,
-        symbols,
-        scratch,
-        limit,
-        depth,
-        middle,
-    );
+    let read = expression(tokens, nodes, links, scratch, limit, depth, middle);
     let Read::Node(right, end) = read else {
         return read;
     };
     let n = end.nodes;
     let node = bound(nodes, n, kind, word, right.id, lead.start, right.end);
-    let mut past = end;
-    past.nodes = n + 1;
-    Read::Node(node, past)
+    made(node, end)
 }
 
 // An expression is one opening deeper.
 fn expression(
-    text: &[u8],
     tokens: &[u32],
     nodes: &mut [u32],
     links: &mut [u32],
-    symbols: &mut [u32],
     scratch: &mut [u32],
     limit: u32,
     depth: u32,
     cur: Cursor,
 ) -> Read
-    requires { ⌜ Ready (now text) (now tokens) limit depth (state (now nodes) (now links) (now symbols) (now scratch) cur) ⌝ }
-    ensures { λ r. ⌜ Answered (now (text .entry)) (now (tokens .entry)) limit node-of (whole form.expression) depth (state (now (nodes .entry)) (now (links .entry)) (now (symbols .entry)) (now (scratch .entry)) cur) (now (nodes .exit)) (now (links .exit)) (now (symbols .exit)) (now (scratch .exit)) r ⌝ }
+    requires { ⌜ ready tokens nodes links scratch limit depth cur ⌝ }
+    ensures { λ r. ⌜ answered node-of (whole form.expression) tokens nodes links scratch limit depth cur r ⌝ }
 {
     if limit <= depth {
         return Read::Refused(Refusal {
-            code: 11,
+            code: codes::TOO_DEEP,
             at: cur.at,
-            expected: 255,
+            expected: codes::NO_KIND,
         });
     }
-    binary(
-        text,
-        tokens,
-        nodes,
-        links,
-        symbols,
-        scratch,
-        limit,
-        depth + 1,
-        cur,
-        6,
-    )
+    binary(tokens, nodes, links, scratch, limit, depth + 1, cur, 6)
 }
 
 // The levels of binary operators below one, counted from the tightest: an operand, and each operator after it that binds tighter, with its right operand.
 fn binary(
-    text: &[u8],
     tokens: &[u32],
     nodes: &mut [u32],
     links: &mut [u32],
-    symbols: &mut [u32],
     scratch: &mut [u32],
     limit: u32,
     depth: u32,
@@ -801,20 +499,10 @@ fn binary(
     level: u32,
 ) -> Read
     requires { ⌜ level ≤ 6 ⌝ }
-    requires { ⌜ Ready (now text) (now tokens) limit depth (state (now nodes) (now links) (now symbols) (now scratch) cur) ⌝ }
-    ensures { λ r. ⌜ Answered (now (text .entry)) (now (tokens .entry)) limit node-of (whole (form.above level)) depth (state (now (nodes .entry)) (now (links .entry)) (now (symbols .entry)) (now (scratch .entry)) cur) (now (nodes .exit)) (now (links .exit)) (now (symbols .exit)) (now (scratch .exit)) r ⌝ }
+    requires { ⌜ ready tokens nodes links scratch limit depth cur ⌝ }
+    ensures { λ r. ⌜ answered node-of (whole (form.above level)) tokens nodes links scratch limit depth cur r ⌝ }
 {
-    let read = prefix(
-        text,
-        tokens,
-        nodes,
-        links,
-        symbols,
-        scratch,
-        limit,
-        depth,
-        cur,
-    );
+    let read = prefix(tokens, nodes, links, scratch, limit, depth, cur);
     let Read::Node(first, past) = read else {
         return read;
     };
@@ -827,188 +515,95 @@ fn binary(
         if level <= tier {
             break Read::Node(node, now);
         }
-        let mut next = now;
-        next.at = at + 1;
-        let turn = binary(
-            text,
-            tokens,
-            nodes,
-            links,
-            symbols,
-            scratch,
-            limit,
-            depth,
-            next,
-            tier,
-        );
+        let next = Cursor {
+            held: now.held,
+            at: at + 1,
+            links: now.links,
+            nodes: now.nodes,
+        };
+        let turn = binary(tokens, nodes, links, scratch, limit, depth, next, tier);
         let Read::Node(right, end) = turn else {
             return turn;
         };
         let n = end.nodes;
         node = joined(nodes, n, kind, node.id, right.id, node.start, right.end);
-        now = end;
-        now.nodes = n + 1;
+        now = Cursor {
+            held: end.held,
+            at: end.at,
+            links: end.links,
+            nodes: n + 1,
+        };
     }
 }
 
 // The kind of its first token picks an operand's form. What most operands are stands here, and the rest in `primary`.
 fn prefix(
-    text: &[u8],
     tokens: &[u32],
     nodes: &mut [u32],
     links: &mut [u32],
-    symbols: &mut [u32],
     scratch: &mut [u32],
     limit: u32,
     depth: u32,
     cur: Cursor,
 ) -> Read
-    requires { ⌜ Ready (now text) (now tokens) limit depth (state (now nodes) (now links) (now symbols) (now scratch) cur) ⌝ }
-    ensures { λ r. ⌜ Answered (now (text .entry)) (now (tokens .entry)) limit node-of (whole (choice form.operand)) depth (state (now (nodes .entry)) (now (links .entry)) (now (symbols .entry)) (now (scratch .entry)) cur) (now (nodes .exit)) (now (links .exit)) (now (symbols .exit)) (now (scratch .exit)) r ⌝ }
+    requires { ⌜ ready tokens nodes links scratch limit depth cur ⌝ }
+    ensures { λ r. ⌜ answered node-of (whole (choice form.operand)) tokens nodes links scratch limit depth cur r ⌝ }
 {
     let at = cur.at;
     let kind = kind_at(tokens, at);
     match kind {
-        1 => plus(
-            text,
+        kinds::PLUS => plus(tokens, nodes, links, scratch, limit, depth, cur),
+        kinds::MINUS | kinds::CARET => unary(
             tokens,
             nodes,
             links,
-            symbols,
-            scratch,
-            limit,
-            depth,
-            cur,
-        ),
-        2 | 4 => unary(
-            text,
-            tokens,
-            nodes,
-            links,
-            symbols,
             scratch,
             limit,
             depth,
             cur,
             kind,
         ),
-        17 => group(
-            text,
-            tokens,
-            nodes,
-            links,
-            symbols,
-            scratch,
-            limit,
-            depth,
-            cur,
-        ),
-        24 => not_(
-            text,
-            tokens,
-            nodes,
-            links,
-            symbols,
-            scratch,
-            limit,
-            depth,
-            cur,
-        ),
-        40 => single(
-            text,
-            tokens,
-            nodes,
-            links,
-            symbols,
-            scratch,
-            limit,
-            depth,
-            cur,
-            40,
-        ),
-        42 => string(
-            text,
-            tokens,
-            nodes,
-            links,
-            symbols,
-            scratch,
-            limit,
-            depth,
-            cur,
-        ),
-        43 => chained(
-            text,
-            tokens,
-            nodes,
-            links,
-            symbols,
-            scratch,
-            limit,
-            depth,
-            cur,
-        ),
-        _ => primary(
-            text,
-            tokens,
-            nodes,
-            links,
-            symbols,
-            scratch,
-            limit,
-            depth,
-            cur,
-        ),
+        kinds::LEFT_PAREN => group(tokens, nodes, links, scratch, limit, depth, cur),
+        kinds::NOT => not_(tokens, nodes, links, scratch, limit, depth, cur),
+        kinds::NUMBER_LITERAL => single(tokens, nodes, links, scratch, limit, depth, cur, kind),
+        kinds::STRING_LITERAL => string(tokens, nodes, links, scratch, limit, depth, cur),
+        kinds::IDENTIFIER => chained(tokens, nodes, links, scratch, limit, depth, cur),
+        _ => primary(tokens, nodes, links, scratch, limit, depth, cur),
     }
 }
 
 // A `+` makes nothing. What follows is an operand: the tightest level.
 fn plus(
-    text: &[u8],
     tokens: &[u32],
     nodes: &mut [u32],
     links: &mut [u32],
-    symbols: &mut [u32],
     scratch: &mut [u32],
     limit: u32,
     depth: u32,
     cur: Cursor,
 ) -> Read
-    requires { ⌜ Ready (now text) (now tokens) limit depth (state (now nodes) (now links) (now symbols) (now scratch) cur) ⌝ }
-    ensures { λ r. ⌜ Answered (now (text .entry)) (now (tokens .entry)) limit node-of (whole form.plus) depth (state (now (nodes .entry)) (now (links .entry)) (now (symbols .entry)) (now (scratch .entry)) cur) (now (nodes .exit)) (now (links .exit)) (now (symbols .exit)) (now (scratch .exit)) r ⌝ }
+    requires { ⌜ ready tokens nodes links scratch limit depth cur ⌝ }
+    ensures { λ r. ⌜ answered node-of (whole form.plus) tokens nodes links scratch limit depth cur r ⌝ }
 {
     if limit <= depth {
         return Read::Refused(Refusal {
-            code: 11,
+            code: codes::TOO_DEEP,
             at: cur.at,
-            expected: 255,
+            expected: codes::NO_KIND,
         });
     }
-    let read = consume(tokens, cur, 1);
+    let read = consume(tokens, cur, kinds::PLUS);
     let Read::Node(_, next) = read else {
         return read;
     };
-    binary(
-        text,
-        tokens,
-        nodes,
-        links,
-        symbols,
-        scratch,
-        limit,
-        depth + 1,
-        next,
-        0,
-    )
+    binary(tokens, nodes, links, scratch, limit, depth + 1, next, 0)
 }
 
 // `-` and `^`.
 fn unary(
-    text: &[u8],
     tokens: &[u32],
     nodes: &mut [u32],
     links: &mut [u32],
-    symbols: &mut [u32],
     scratch: &mut [u32],
     limit: u32,
     depth: u32,
@@ -1016,208 +611,115 @@ fn unary(
     kind: u32,
 ) -> Read
     requires { ⌜ Sign kind ⌝ }
-    requires { ⌜ Ready (now text) (now tokens) limit depth (state (now nodes) (now links) (now symbols) (now scratch) cur) ⌝ }
-    ensures { λ r. ⌜ Answered (now (text .entry)) (now (tokens .entry)) limit node-of (whole (form.unary kind)) depth (state (now (nodes .entry)) (now (links .entry)) (now (symbols .entry)) (now (scratch .entry)) cur) (now (nodes .exit)) (now (links .exit)) (now (symbols .exit)) (now (scratch .exit)) r ⌝ }
+    requires { ⌜ ready tokens nodes links scratch limit depth cur ⌝ }
+    ensures { λ r. ⌜ answered node-of (whole (form.unary kind)) tokens nodes links scratch limit depth cur r ⌝ }
 {
     if limit <= depth {
         return Read::Refused(Refusal {
-            code: 11,
+            code: codes::TOO_DEEP,
             at: cur.at,
-            expected: 255,
+            expected: codes::NO_KIND,
         });
     }
     let read = consume(tokens, cur, kind);
     let Read::Node(lead, next) = read else {
         return read;
     };
-    let read = binary(
-        text,
-        tokens,
-        nodes,
-        links,
-        symbols,
-        scratch,
-        limit,
-        depth + 1,
-        next,
-        0,
-    );
+    let read = binary(tokens, nodes, links, scratch, limit, depth + 1, next, 0);
     let Read::Node(child, end) = read else {
         return read;
     };
     let n = end.nodes;
     let node = ast::unary(nodes, n, sign_of(kind), child.id, lead.start, child.end);
-    let mut past = end;
-    past.nodes = n + 1;
-    Read::Node(node, past)
+    made(node, end)
 }
 
 // `not` takes a whole expression, which is one opening deeper and has every level; its span is that of its own token.
 fn not_(
-    text: &[u8],
     tokens: &[u32],
     nodes: &mut [u32],
     links: &mut [u32],
-    symbols: &mut [u32],
     scratch: &mut [u32],
     limit: u32,
     depth: u32,
     cur: Cursor,
 ) -> Read
-    requires { ⌜ Ready (now text) (now tokens) limit depth (state (now nodes) (now links) (now symbols) (now scratch) cur) ⌝ }
-    ensures { λ r. ⌜ Answered (now (text .entry)) (now (tokens .entry)) limit node-of (whole form.denial) depth (state (now (nodes .entry)) (now (links .entry)) (now (symbols .entry)) (now (scratch .entry)) cur) (now (nodes .exit)) (now (links .exit)) (now (symbols .exit)) (now (scratch .exit)) r ⌝ }
+    requires { ⌜ ready tokens nodes links scratch limit depth cur ⌝ }
+    ensures { λ r. ⌜ answered node-of (whole form.denial) tokens nodes links scratch limit depth cur r ⌝ }
 {
-    let read = consume(tokens, cur, 24);
+    let read = consume(tokens, cur, kinds::NOT);
     let Read::Node(lead, next) = read else {
         return read;
     };
     if limit <= depth {
         return Read::Refused(Refusal {
-            code: 11,
+            code: codes::TOO_DEEP,
             at: next.at,
-            expected: 255,
+            expected: codes::NO_KIND,
         });
     }
-    let loosest = 6;
-    let read = binary(
-        text,
-        tokens,
-        nodes,
-        links,
-        symbols,
-        scratch,
-        limit,
-        depth + 1,
-        next,
-        loosest,
-    );
+    let level = 6;
+    let read = binary(tokens, nodes, links, scratch, limit, depth + 1, next, level);
     let Read::Node(child, end) = read else {
         return read;
     };
     let n = end.nodes;
     let node = ast::logical_not(nodes, n, child.id, lead.start, lead.end);
-    let mut past = end;
-    past.nodes = n + 1;
-    Read::Node(node, past)
+    made(node, end)
 }
 
 // The forms of operands that are rarer.
 fn primary(
-    text: &[u8],
     tokens: &[u32],
     nodes: &mut [u32],
     links: &mut [u32],
-    symbols: &mut [u32],
     scratch: &mut [u32],
     limit: u32,
     depth: u32,
     cur: Cursor,
 ) -> Read
     requires { ⌜ Other (kind (now tokens) (cur .at)) ⌝ }
-    requires { ⌜ Ready (now text) (now tokens) limit depth (state (now nodes) (now links) (now symbols) (now scratch) cur) ⌝ }
-    ensures { λ r. ⌜ Answered (now (text .entry)) (now (tokens .entry)) limit node-of (whole (choice form.operand)) depth (state (now (nodes .entry)) (now (links .entry)) (now (symbols .entry)) (now (scratch .entry)) cur) (now (nodes .exit)) (now (links .exit)) (now (symbols .exit)) (now (scratch .exit)) r ⌝ }
+    requires { ⌜ ready tokens nodes links scratch limit depth cur ⌝ }
+    ensures { λ r. ⌜ answered node-of (whole (choice form.operand)) tokens nodes links scratch limit depth cur r ⌝ }
 {
     let at = cur.at;
     let kind = kind_at(tokens, at);
     match kind {
-        16 => lambda(
-            text,
-            tokens,
-            nodes,
-            links,
-            symbols,
-            scratch,
-            limit,
-            depth,
-            cur,
-        ),
-        19 => map_(
-            text,
-            tokens,
-            nodes,
-            links,
-            symbols,
-            scratch,
-            limit,
-            depth,
-            cur,
-        ),
-        20 => block(
-            text,
-            tokens,
-            nodes,
-            links,
-            symbols,
-            scratch,
-            limit,
-            depth,
-            cur,
-        ),
-        33 => if_(
-            text,
-            tokens,
-            nodes,
-            links,
-            symbols,
-            scratch,
-            limit,
-            depth,
-            cur,
-        ),
-        37..=39 => single(
-            text,
-            tokens,
-            nodes,
-            links,
-            symbols,
-            scratch,
-            limit,
-            depth,
-            cur,
-            kind,
-        ),
+        kinds::PIPE => lambda(tokens, nodes, links, scratch, limit, depth, cur),
+        kinds::HASH => map_(tokens, nodes, links, scratch, limit, depth, cur),
+        kinds::LEFT_BRACE => block(tokens, nodes, links, scratch, limit, depth, cur),
+        kinds::IF => if_(tokens, nodes, links, scratch, limit, depth, cur),
+        kinds::TRUE..=kinds::NIL => single(tokens, nodes, links, scratch, limit, depth, cur, kind),
         _ => Read::Refused(Refusal {
-            code: 9,
+            code: codes::OPERAND_REQUIRED,
             at: at,
-            expected: 255,
+            expected: codes::NO_KIND,
         }),
     }
 }
 
 // Parentheses make nothing.
 fn group(
-    text: &[u8],
     tokens: &[u32],
     nodes: &mut [u32],
     links: &mut [u32],
-    symbols: &mut [u32],
     scratch: &mut [u32],
     limit: u32,
     depth: u32,
     cur: Cursor,
 ) -> Read
-    requires { ⌜ Ready (now text) (now tokens) limit depth (state (now nodes) (now links) (now symbols) (now scratch) cur) ⌝ }
-    ensures { λ r. ⌜ Answered (now (text .entry)) (now (tokens .entry)) limit node-of (whole form.group) depth (state (now (nodes .entry)) (now (links .entry)) (now (symbols .entry)) (now (scratch .entry)) cur) (now (nodes .exit)) (now (links .exit)) (now (symbols .exit)) (now (scratch .exit)) r ⌝ }
+    requires { ⌜ ready tokens nodes links scratch limit depth cur ⌝ }
+    ensures { λ r. ⌜ answered node-of (whole form.group) tokens nodes links scratch limit depth cur r ⌝ }
 {
-    let read = consume(tokens, cur, 17);
+    let read = consume(tokens, cur, kinds::LEFT_PAREN);
     let Read::Node(_, next) = read else {
         return read;
     };
-    let read = expression(
-        text,
-        tokens,
-        nodes,
-        links,
-        symbols,
-        scratch,
-        limit,
-        depth,
-        next,
-    );
+    let read = expression(tokens, nodes, links, scratch, limit, depth, next);
     let Read::Node(inner, last) = read else {
         return read;
     };
-    let read = consume(tokens, last, 18);
+    let read = consume(tokens, last, kinds::RIGHT_PAREN);
     let Read::Node(_, end) = read else {
         return read;
     };
@@ -1225,42 +727,30 @@ fn group(
 }
 
 fn map_(
-    text: &[u8],
     tokens: &[u32],
     nodes: &mut [u32],
     links: &mut [u32],
-    symbols: &mut [u32],
     scratch: &mut [u32],
     limit: u32,
     depth: u32,
     cur: Cursor,
 ) -> Read
-    requires { ⌜ Ready (now text) (now tokens) limit depth (state (now nodes) (now links) (now symbols) (now scratch) cur) ⌝ }
-    ensures { λ r. ⌜ Answered (now (text .entry)) (now (tokens .entry)) limit node-of (whole form.map-literal) depth (state (now (nodes .entry)) (now (links .entry)) (now (symbols .entry)) (now (scratch .entry)) cur) (now (nodes .exit)) (now (links .exit)) (now (symbols .exit)) (now (scratch .exit)) r ⌝ }
+    requires { ⌜ ready tokens nodes links scratch limit depth cur ⌝ }
+    ensures { λ r. ⌜ answered node-of (whole form.map-literal) tokens nodes links scratch limit depth cur r ⌝ }
 {
-    let read = consume(tokens, cur, 19);
+    let read = consume(tokens, cur, kinds::HASH);
     let Read::Node(lead, hash) = read else {
         return read;
     };
-    let read = consume(tokens, hash, 20);
+    let read = consume(tokens, hash, kinds::LEFT_BRACE);
     let Read::Node(_, open) = read else {
         return read;
     };
-    let read = pairs(
-        text,
-        tokens,
-        nodes,
-        links,
-        symbols,
-        scratch,
-        limit,
-        depth,
-        open,
-    );
+    let read = pairs(tokens, nodes, links, scratch, limit, depth, open);
     let Read::Node(_, last) = read else {
         return read;
     };
-    let read = consume(tokens, last, 21);
+    let read = consume(tokens, last, kinds::RIGHT_BRACE);
     let Read::Node(close, end) = read else {
         return read;
     };
@@ -1270,52 +760,42 @@ fn map_(
     let done = gather(links, scratch, base, end);
     let n = done.nodes;
     let node = ast::map(nodes, n, first as u32, count as u32, lead.start, close.end);
-    let mut past = done;
-    past.nodes = n + 1;
-    Read::Node(node, past)
+    made(node, done)
 }
 
 // The entries of a map, up to what ends them.
 fn pairs(
-    text: &[u8],
     tokens: &[u32],
     nodes: &mut [u32],
     links: &mut [u32],
-    symbols: &mut [u32],
     scratch: &mut [u32],
     limit: u32,
     depth: u32,
     cur: Cursor,
 ) -> Read
-    requires { ⌜ Ready (now text) (now tokens) limit depth (state (now nodes) (now links) (now symbols) (now scratch) cur) ⌝ }
-    ensures { λ r. ⌜ Lists (now (text .entry)) (now (tokens .entry)) limit (whole (chain empty form.entries)) depth (state (now (nodes .entry)) (now (links .entry)) (now (symbols .entry)) (now (scratch .entry)) cur) (now (nodes .exit)) (now (links .exit)) (now (symbols .exit)) (now (scratch .exit)) r ⌝ }
+    requires { ⌜ opened tokens nodes links scratch limit depth cur ⌝ }
+    ensures { λ r. ⌜ lists (whole (chain empty form.entries)) tokens nodes links scratch limit depth cur r ⌝ }
 {
     let mut now = cur;
     'list: loop {
         let at = now.at;
         let kind = kind_at(tokens, at);
         match kind {
-            21 | 44 => break 'list,
+            kinds::RIGHT_BRACE | kinds::EOF => break 'list,
             _ => {}
         }
-        let read = pair(
-            text,
-            tokens,
-            nodes,
-            links,
-            symbols,
-            scratch,
-            limit,
-            depth,
-            now,
-        );
+        let read = pair(tokens, nodes, links, scratch, limit, depth, now);
         let Read::Node(item, end) = read else {
             return read;
         };
         let held = end.held;
         push(scratch, held, item.id, item.start, 0);
-        now = end;
-        now.held = held + 1;
+        now = Cursor {
+            held: held + 1,
+            at: end.at,
+            links: end.links,
+            nodes: end.nodes,
+        };
     }
     Read::Node(
         Node {
@@ -1329,55 +809,37 @@ fn pairs(
 
 // A key, and its value if it has one: their rows, and the comma after them.
 fn pair(
-    text: &[u8],
     tokens: &[u32],
     nodes: &mut [u32],
     links: &mut [u32],
-    symbols: &mut [u32],
     scratch: &mut [u32],
     limit: u32,
     depth: u32,
     cur: Cursor,
 ) -> Read
-    requires { ⌜ Ready (now text) (now tokens) limit depth (state (now nodes) (now links) (now symbols) (now scratch) cur) ⌝ }
-    ensures { λ r. ⌜ Answered (now (text .entry)) (now (tokens .entry)) limit entry-of (whole (part (node Labels.Entry (part form.expression (choice form.value))) (choice (form.comma RightBrace)))) depth (state (now (nodes .entry)) (now (links .entry)) (now (symbols .entry)) (now (scratch .entry)) cur) (now (nodes .exit)) (now (links .exit)) (now (symbols .exit)) (now (scratch .exit)) r ⌝ }
+    requires { ⌜ ready tokens nodes links scratch limit depth cur ⌝ }
+    ensures { λ r. ⌜ answered entry-of (whole (part (node Label.Entry (part form.expression (choice form.value))) (choice (form.comma RightBrace)))) tokens nodes links scratch limit depth cur r ⌝ }
 {
-    let read = expression(
-        text,
-        tokens,
-        nodes,
-        links,
-        symbols,
-        scratch,
-        limit,
-        depth,
-        cur,
-    );
+    let read = expression(tokens, nodes, links, scratch, limit, depth, cur);
     let Read::Node(key, middle) = read else {
         return read;
     };
     let at = middle.at;
-    if kind_at(tokens, at) != 14 {
+    if kind_at(tokens, at) != kinds::COLON {
         let lone = Node {
             id: key.id,
             start: ABSENT,
             end: 0,
         };
-        return comma(tokens, lone, middle, 21);
+        return comma(tokens, lone, middle, kinds::RIGHT_BRACE);
     }
-    let mut next = middle;
-    next.at = at + 1;
-    let turn = expression(
-        text,
-        tokens,
-        nodes,
-        links,
-        symbols,
-        scratch,
-        limit,
-        depth,
-        next,
-    );
+    let next = Cursor {
+        held: middle.held,
+        at: at + 1,
+        links: middle.links,
+        nodes: middle.nodes,
+    };
+    let turn = expression(tokens, nodes, links, scratch, limit, depth, next);
     let Read::Node(value, end) = turn else {
         return turn;
     };
@@ -1386,57 +848,35 @@ fn pair(
         start: value.id,
         end: 0,
     };
-    comma(tokens, pair, end, 21)
+    comma(tokens, pair, end, kinds::RIGHT_BRACE)
 }
 
 fn lambda(
-    text: &[u8],
     tokens: &[u32],
     nodes: &mut [u32],
     links: &mut [u32],
-    symbols: &mut [u32],
     scratch: &mut [u32],
     limit: u32,
     depth: u32,
     cur: Cursor,
 ) -> Read
-    requires { ⌜ Ready (now text) (now tokens) limit depth (state (now nodes) (now links) (now symbols) (now scratch) cur) ⌝ }
-    ensures { λ r. ⌜ Answered (now (text .entry)) (now (tokens .entry)) limit node-of (whole form.lambda) depth (state (now (nodes .entry)) (now (links .entry)) (now (symbols .entry)) (now (scratch .entry)) cur) (now (nodes .exit)) (now (links .exit)) (now (symbols .exit)) (now (scratch .exit)) r ⌝ }
+    requires { ⌜ ready tokens nodes links scratch limit depth cur ⌝ }
+    ensures { λ r. ⌜ answered node-of (whole form.lambda) tokens nodes links scratch limit depth cur r ⌝ }
 {
-    let read = consume(tokens, cur, 16);
+    let read = consume(tokens, cur, kinds::PIPE);
     let Read::Node(lead, next) = read else {
         return read;
     };
-    let read = names(
-        text,
-        tokens,
-        nodes,
-        links,
-        symbols,
-        scratch,
-        limit,
-        depth,
-        next,
-        16,
-    );
+    let closer = kinds::PIPE;
+    let read = names(tokens, nodes, links, scratch, limit, depth, next, closer);
     let Read::Node(_, listed) = read else {
         return read;
     };
-    let read = consume(tokens, listed, 16);
+    let read = consume(tokens, listed, kinds::PIPE);
     let Read::Node(_, middle) = read else {
         return read;
     };
-    let read = body(
-        text,
-        tokens,
-        nodes,
-        links,
-        symbols,
-        scratch,
-        limit,
-        depth,
-        middle,
-    );
+    let read = body(tokens, nodes, links, scratch, limit, depth, middle);
     let Read::Node(body, end) = read else {
         return read;
     };
@@ -1454,118 +894,69 @@ fn lambda(
         lead.start,
         body.end,
     );
-    let mut past = done;
-    past.nodes = n + 1;
-    Read::Node(node, past)
+    made(node, done)
 }
 
 // A lambda's: a block, or a whole expression.
 fn body(
-    text: &[u8],
     tokens: &[u32],
     nodes: &mut [u32],
     links: &mut [u32],
-    symbols: &mut [u32],
     scratch: &mut [u32],
     limit: u32,
     depth: u32,
     cur: Cursor,
 ) -> Read
-    requires { ⌜ Ready (now text) (now tokens) limit depth (state (now nodes) (now links) (now symbols) (now scratch) cur) ⌝ }
-    ensures { λ r. ⌜ Answered (now (text .entry)) (now (tokens .entry)) limit node-of (whole (choice form.body)) depth (state (now (nodes .entry)) (now (links .entry)) (now (symbols .entry)) (now (scratch .entry)) cur) (now (nodes .exit)) (now (links .exit)) (now (symbols .exit)) (now (scratch .exit)) r ⌝ }
+    requires { ⌜ ready tokens nodes links scratch limit depth cur ⌝ }
+    ensures { λ r. ⌜ answered node-of (whole (choice form.body)) tokens nodes links scratch limit depth cur r ⌝ }
 {
     let at = cur.at;
     let kind = kind_at(tokens, at);
     match kind {
-        20 => block(
-            text,
-            tokens,
-            nodes,
-            links,
-            symbols,
-            scratch,
-            limit,
-            depth,
-            cur,
-        ),
-        _ => expression(
-            text,
-            tokens,
-            nodes,
-            links,
-            symbols,
-            scratch,
-            limit,
-            depth,
-            cur,
-        ),
+        kinds::LEFT_BRACE => block(tokens, nodes, links, scratch, limit, depth, cur),
+        _ => expression(tokens, nodes, links, scratch, limit, depth, cur),
     }
 }
 
 // An identifier, with the calls and dots after it.
 fn chained(
-    text: &[u8],
     tokens: &[u32],
     nodes: &mut [u32],
     links: &mut [u32],
-    symbols: &mut [u32],
     scratch: &mut [u32],
     limit: u32,
     depth: u32,
     cur: Cursor,
 ) -> Read
-    requires { ⌜ Ready (now text) (now tokens) limit depth (state (now nodes) (now links) (now symbols) (now scratch) cur) ⌝ }
-    ensures { λ r. ⌜ Answered (now (text .entry)) (now (tokens .entry)) limit node-of (whole form.reference) depth (state (now (nodes .entry)) (now (links .entry)) (now (symbols .entry)) (now (scratch .entry)) cur) (now (nodes .exit)) (now (links .exit)) (now (symbols .exit)) (now (scratch .exit)) r ⌝ }
+    requires { ⌜ ready tokens nodes links scratch limit depth cur ⌝ }
+    ensures { λ r. ⌜ answered node-of (whole form.reference) tokens nodes links scratch limit depth cur r ⌝ }
 {
-    let read = identifier(
-        text,
-        tokens,
-        nodes,
-        links,
-        symbols,
-        scratch,
-        limit,
-        depth,
-        cur,
-    );
+    let read = identifier(tokens, nodes, links, scratch, limit, depth, cur);
     let Read::Node(node, end) = read else {
         return read;
     };
     let at = end.at;
     let kind = kind_at(tokens, at);
     match kind {
-        15 | 17 => {}
+        kinds::DOT | kinds::LEFT_PAREN => {}
         _ => return Read::Node(node, end),
     }
-    postfix(
-        text,
-        tokens,
-        nodes,
-        links,
-        symbols,
-        scratch,
-        limit,
-        depth,
-        end,
-        node,
-    )
+    postfix(tokens, nodes, links, scratch, limit, depth, end, node)
 }
 
 // The calls and dots after an identifier: the outermost node is the chain's.
 fn postfix(
-    text: &[u8],
     tokens: &[u32],
     nodes: &mut [u32],
     links: &mut [u32],
-    symbols: &mut [u32],
     scratch: &mut [u32],
     limit: u32,
     depth: u32,
     cur: Cursor,
     first: Node,
 ) -> Read
-    requires { ⌜ Ready (now text) (now tokens) limit depth (state (now nodes) (now links) (now symbols) (now scratch) cur) ⌝ }
-    ensures { λ r. ⌜ Onward (now (text .entry)) (now (tokens .entry)) limit (form.leaf Label.Identifier Identifier) form.calls (whole form.reference) depth (state (now (nodes .entry)) (now (links .entry)) (now (symbols .entry)) (now (scratch .entry)) cur) first (cur .at) (now (nodes .exit)) (now (links .exit)) (now (symbols .exit)) (now (scratch .exit)) r ⌝ }
+    requires { ⌜ ready tokens nodes links scratch limit depth cur ⌝ }
+    ensures { λ r. ⌜ onward (whole form.reference) first (cur .at) tokens nodes links scratch limit depth cur r ⌝ }
 {
     let mut node = first;
     let mut now = cur;
@@ -1573,38 +964,16 @@ fn postfix(
         let at = now.at;
         let kind = kind_at(tokens, at);
         match kind {
-            15 => {
-                let read = property_access(
-                    text,
-                    tokens,
-                    nodes,
-                    links,
-                    symbols,
-                    scratch,
-                    limit,
-                    depth,
-                    now,
-                    node,
-                );
+            kinds::DOT => {
+                let read = property_access(tokens, nodes, links, scratch, limit, depth, now, node);
                 let Read::Node(outer, end) = read else {
                     return read;
                 };
                 node = outer;
                 now = end;
             }
-            17 => {
-                let read = call(
-                    text,
-                    tokens,
-                    nodes,
-                    links,
-                    symbols,
-                    scratch,
-                    limit,
-                    depth,
-                    now,
-                    node,
-                );
+            kinds::LEFT_PAREN => {
+                let read = call(tokens, nodes, links, scratch, limit, depth, now, node);
                 let Read::Node(outer, end) = read else {
                     return read;
                 };
@@ -1618,11 +987,9 @@ fn postfix(
 
 // A call of what stands before it.
 fn call(
-    text: &[u8],
     tokens: &[u32],
     nodes: &mut [u32],
     links: &mut [u32],
-    symbols: &mut [u32],
     scratch: &mut [u32],
     limit: u32,
     depth: u32,
@@ -1630,28 +997,18 @@ fn call(
     callee: Node,
 ) -> Read
     requires { ⌜ kind (now tokens) (cur .at) ≡ LeftParen ⌝ }
-    requires { ⌜ Ready (now text) (now tokens) limit depth (state (now nodes) (now links) (now symbols) (now scratch) cur) ⌝ }
-    ensures { λ r. ⌜ Onward (now (text .entry)) (now (tokens .entry)) limit (form.leaf Label.Identifier Identifier) form.calls (begun (form.leaf Label.Identifier Identifier) form.calls) depth (state (now (nodes .entry)) (now (links .entry)) (now (symbols .entry)) (now (scratch .entry)) cur) callee (cur .at + 1) (now (nodes .exit)) (now (links .exit)) (now (symbols .exit)) (now (scratch .exit)) r ⌝ }
+    requires { ⌜ ready tokens nodes links scratch limit depth cur ⌝ }
+    ensures { λ r. ⌜ onward called callee (cur .at + 1) tokens nodes links scratch limit depth cur r ⌝ }
 {
-    let read = consume(tokens, cur, 17);
+    let read = consume(tokens, cur, kinds::LEFT_PAREN);
     let Read::Node(paren, next) = read else {
         return read;
     };
-    let read = arguments(
-        text,
-        tokens,
-        nodes,
-        links,
-        symbols,
-        scratch,
-        limit,
-        depth,
-        next,
-    );
+    let read = arguments(tokens, nodes, links, scratch, limit, depth, next);
     let Read::Node(_, last) = read else {
         return read;
     };
-    let read = consume(tokens, last, 18);
+    let read = consume(tokens, last, kinds::RIGHT_PAREN);
     let Read::Node(close, end) = read else {
         return read;
     };
@@ -1669,52 +1026,42 @@ fn call(
         paren.start,
         close.end,
     );
-    let mut past = done;
-    past.nodes = n + 1;
-    Read::Node(node, past)
+    made(node, done)
 }
 
 // The arguments of a call, up to what ends them.
 fn arguments(
-    text: &[u8],
     tokens: &[u32],
     nodes: &mut [u32],
     links: &mut [u32],
-    symbols: &mut [u32],
     scratch: &mut [u32],
     limit: u32,
     depth: u32,
     cur: Cursor,
 ) -> Read
-    requires { ⌜ Ready (now text) (now tokens) limit depth (state (now nodes) (now links) (now symbols) (now scratch) cur) ⌝ }
-    ensures { λ r. ⌜ Lists (now (text .entry)) (now (tokens .entry)) limit (whole (chain empty form.arguments)) depth (state (now (nodes .entry)) (now (links .entry)) (now (symbols .entry)) (now (scratch .entry)) cur) (now (nodes .exit)) (now (links .exit)) (now (symbols .exit)) (now (scratch .exit)) r ⌝ }
+    requires { ⌜ opened tokens nodes links scratch limit depth cur ⌝ }
+    ensures { λ r. ⌜ lists (whole (chain empty form.arguments)) tokens nodes links scratch limit depth cur r ⌝ }
 {
     let mut now = cur;
     'list: loop {
         let at = now.at;
         let kind = kind_at(tokens, at);
         match kind {
-            18 | 44 => break 'list,
+            kinds::RIGHT_PAREN | kinds::EOF => break 'list,
             _ => {}
         }
-        let read = arg(
-            text,
-            tokens,
-            nodes,
-            links,
-            symbols,
-            scratch,
-            limit,
-            depth,
-            now,
-        );
+        let read = arg(tokens, nodes, links, scratch, limit, depth, now);
         let Read::Node(item, end) = read else {
             return read;
         };
         let held = end.held;
         push(scratch, held, item.id, 0, 0);
-        now = end;
-        now.held = held + 1;
+        now = Cursor {
+            held: held + 1,
+            at: end.at,
+            links: end.links,
+            nodes: end.nodes,
+        };
     }
     Read::Node(
         Node {
@@ -1728,32 +1075,20 @@ fn arguments(
 
 // An argument, and the comma after it.
 fn arg(
-    text: &[u8],
     tokens: &[u32],
     nodes: &mut [u32],
     links: &mut [u32],
-    symbols: &mut [u32],
     scratch: &mut [u32],
     limit: u32,
     depth: u32,
     cur: Cursor,
 ) -> Read
-    requires { ⌜ Ready (now text) (now tokens) limit depth (state (now nodes) (now links) (now symbols) (now scratch) cur) ⌝ }
-    ensures { λ r. ⌜ Answered (now (text .entry)) (now (tokens .entry)) limit node-of (whole (part form.expression (choice (form.comma RightParen)))) depth (state (now (nodes .entry)) (now (links .entry)) (now (symbols .entry)) (now (scratch .entry)) cur) (now (nodes .exit)) (now (links .exit)) (now (symbols .exit)) (now (scratch .exit)) r ⌝ }
+    requires { ⌜ ready tokens nodes links scratch limit depth cur ⌝ }
+    ensures { λ r. ⌜ answered node-of (whole (part form.expression (choice (form.comma RightParen)))) tokens nodes links scratch limit depth cur r ⌝ }
 {
-    let read = expression(
-        text,
-        tokens,
-        nodes,
-        links,
-        symbols,
-        scratch,
-        limit,
-        depth,
-        cur,
-    );
+    let read = expression(tokens, nodes, links, scratch, limit, depth, cur);
     let Read::Node(item, end) = read else {
         return read;
     };
-    comma(tokens, item, end, 18)
+    comma(tokens, item, end, kinds::RIGHT_PAREN)
 }

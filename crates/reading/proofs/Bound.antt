@@ -13,7 +13,7 @@ use Rattle.grammar.specs.Rows.{Walked}
 use Rattle.grammar.specs.Token.{count}
 use Rattle.grammar.proofs.Machine.{asked}
 use Rattle.grammar.proofs.Room.{spare, paid, paid-node, paid-entry, Grown, make-grown, links-grow, pays}
-use Rattle.interner.specs.Table.{Table as Symbols}
+use Rattle.names.specs.Resolved.{names-of}
 use Rattle.reading.specs.Reading.{form, Reading}
 use Rattle.reading.specs.State.{State, written, Roomy, Within}
 use Rattle.reading.proofs.Laws.{roomy-on, Made}
@@ -37,48 +37,56 @@ asked-form (Aim.begun p n) = refl
 pub record Counts (s s′ : State) (h extra : ℕ) : Type 0 where
   pub nodes : s′ .cursor .nodes + extra + s .cursor .at ≤ s .cursor .nodes + s′ .cursor .at
   pub links : s′ .cursor .links + h + extra + s .cursor .at ≤ s .cursor .links + s′ .cursor .at
-  pub symbols : s′ .cursor .symbols + extra + s .cursor .at ≤ s .cursor .symbols + s′ .cursor .at
   pub past : s .cursor .at ≤ s′ .cursor .at
   pub grows : s .cursor .links ≤ s′ .cursor .links
 
 -- numbers of whole rows in rooms that have a row for each token
-module _ {text ts : List ℕ} where
-  pub counted : {s s′ : State} {k h extra : ℕ} {w : Walked} → Within text ts s → Roomy ts s′ → s′ .cursor .at < count ts → s .cursor .at + extra + k ≤ s′ .cursor .at → w .rows ≡ written s′ → length (w .first) + length (w .rest) ≡ h →
+module _ {ts : List ℕ} where
+  pub counted : {s s′ : State} {k h extra : ℕ} {w : Walked} → Within ts s → Roomy ts s′ → s′ .cursor .at < count ts → s .cursor .at + extra + k ≤ s′ .cursor .at → w .rows ≡ written s′ →
+      length (w .first) + length (w .rest) ≡ h →
       Grown (written s) 0 k w → length (written s .links) ≤ length (w .rows .links) → Counts s s′ h extra
   counted {s} {s′} i r a e z y g l =
       let gn = rw z at (g .nodes) in
       let gl = rw z at (g .links) in
-      let gs = rw z at (g .symbols) in
       let ll = rw z at l in
       let n = length-take (9 * s .cursor .nodes) (s .nodes) in
       let n′ = length-take (9 * s′ .cursor .nodes) (s′ .nodes) in
       let m = length-take (3 * s .cursor .links) (s .links) in
       let m′ = length-take (3 * s′ .cursor .links) (s′ .links) in
-      let q = length-take (2 * s .cursor .symbols) (s .symbols) in
-      let q′ = length-take (2 * s′ .cursor .symbols) (s′ .symbols) in
       let rs = i .roomy in
-      record { nodes = omega (arith, rs .nodes, r .nodes, i .rows); links = omega (arith, rs .links, r .links, i .links); symbols = omega (arith, rs .symbols, r .symbols, i .symbols); past = omega arith; grows = omega (arith, rs .links, r .links, i .links) }
+      record { nodes = omega (arith, rs .nodes, r .nodes, i .rows); links = omega (arith, rs .links, r .links, i .links); past = omega arith; grows = omega (arith, rs .links, r .links, i .links) }
 
-module _ {text ts : List ℕ} {limit : ℕ} where
-  pub bound : {g : Aim Table Label} {o : ℕ} {s s′ : State} {xs ys : List Handle} → Within text ts s → Paid (form g) → s′ .cursor .at < count ts → Reading text ts limit g o s xs ys s′ → Counts s s′ (length xs + length ys) (spare (form g))
+module _ {ts : List ℕ} {limit : ℕ} where
+  pub bound : {g : Aim Table Label} {o : ℕ} {s s′ : State} {xs ys : List Handle} → Within ts s → Paid (form g) → s′ .cursor .at < count ts → Reading ts limit g o s xs ys s′ →
+      Counts s s′ (length xs + length ys) (spare (form g))
   bound {g} {s = s} {s′ = s′} i p a r =
-      let paying = pays text ts (r .reads) (rw (asked-form g) (p .pays)) .pay (written s) in
+      let paying = pays ts (names-of ts (s .scratch)) (r .reads) (rw (asked-form g) (p .pays)) .pay (written s) in
       let (k, e, grown) = paying in
-      counted i (roomy-on (i .roomy) (r .rooms)) a (rw (asked-form g) at e) (ap (λ w. w .rows) (r .rows)) (ap (λ w. length (w .first) + length (w .rest)) (r .rows)) grown (links-grow text ts (r .tree) (written s))
+      counted i (roomy-on (i .roomy) (r .rooms)) a (rw (asked-form g) at e) (ap (λ w. w .rows) (r .rows)) (ap (λ w. length (w .first) + length (w .rest)) (r .rows)) grown
+      (links-grow ts (names-of ts (s .scratch)) (r .tree) (written s))
 
   -- what makes a handle takes a token at least
-  pub strictly : {g : Aim Table Label} {o : ℕ} {s s′ : State} {h : Handle} {hs ys : List Handle} → Within text ts s → Paid (form g) → s′ .cursor .at < count ts → Reading text ts limit g o s (h ∷ hs) ys s′ → s .cursor .at < s′ .cursor .at
+  pub strictly : {g : Aim Table Label} {o : ℕ} {s s′ : State} {h : Handle} {hs ys : List Handle} → Within ts s → Paid (form g) → s′ .cursor .at < count ts →
+      Reading ts limit g o s (h ∷ hs) ys s′ → s .cursor .at < s′ .cursor .at
   strictly i p a r = let b = bound i p a r in omega arith
 
-  pub arrived : {g : Aim Table Label} {o : ℕ} {s s′ : State} {xs ys : List Handle} → Within text ts s → Paid (form g) → s′ .cursor .at < count ts → Symbols text (written s′ .symbols) → Reading text ts limit g o s xs ys s′ → Within text ts s′
-  arrived i p a t r = let b = bound i p a r in record { roomy = roomy-on (i .roomy) (r .rooms); at = a; rows = omega (arith, i .rows); links = omega (arith, i .links, r .holds); symbols = omega (arith, i .symbols); table = t }
+  pub arrived : {g : Aim Table Label} {o : ℕ} {s s′ : State} {xs ys : List Handle} → Within ts s → Paid (form g) → s′ .cursor .at < count ts → Reading ts limit g o s xs ys s′ → Within ts s′
+  arrived i p a r =
+      let b = bound i p a r in record {
+        roomy = roomy-on (i .roomy) (r .rooms);
+        at = a;
+        rows = omega (arith, i .rows);
+        links = omega (arith, i .links, r .holds);
+        stack = omega (arith, i .stack, r .holds);
+      }
 
   -- a link of a chain, from where the chain stands: its node has a token of its own
-  pub link-within : {f : Label} {q : Form} {o : ℕ} {s₀ s₁ s₂ : State} {h g : Handle} {ys : List Handle} → Within text ts s₀ → Paid (node f q) → s₁ .cursor .at < count ts → Symbols text (written s₂ .symbols) → Reading text ts limit (whole q) o s₀ ys [] s₁ → Made text ts f (s₀ .cursor .at) s₁ (h ∷ []) ys (g ∷ []) s₂ → Within text ts s₂
-  link-within {f} {q} {s₀ = s₀} {s₁ = s₁} {s₂ = s₂} {h = h} {ys = ys} i p a t r m =
+  pub link-within : {f : Label} {q : Form} {o : ℕ} {s₀ s₁ s₂ : State} {h g : Handle} {ys : List Handle} → Within ts s₀ → Paid (node f q) → s₁ .cursor .at < count ts →
+      Reading ts limit (whole q) o s₀ ys [] s₁ → Made ts f (s₀ .cursor .at) s₁ (h ∷ []) ys (g ∷ []) s₂ → Within ts s₂
+  link-within {f} {q} {s₀ = s₀} {s₁ = s₁} {s₂ = s₂} {h = h} {ys = ys} i p a r m =
       let (c, u) = paid-node f q (p .pays) in
       let b = bound i (record { pays = u }) a r in
-      let y = rw (m .makes) at (make-grown text ts f (s₀ .cursor .at) (s₁ .cursor .at) (written s₁) (h ∷ []) ys) in
+      let y = rw (m .makes) at (make-grown ts (names-of ts (s₁ .scratch)) f (s₀ .cursor .at) (s₁ .cursor .at) (written s₁) (h ∷ []) ys) in
       let roomy₁ = roomy-on (i .roomy) (r .rooms) in
       let roomy₂ = roomy-on roomy₁ (m .rooms) in
       let at₂ = m .at in
@@ -86,6 +94,10 @@ module _ {text ts : List ℕ} {limit : ℕ} where
       let n′ = length-take (9 * s₂ .cursor .nodes) (s₂ .nodes) in
       let l = length-take (3 * s₁ .cursor .links) (s₁ .links) in
       let l′ = length-take (3 * s₂ .cursor .links) (s₂ .links) in
-      let q = length-take (2 * s₁ .cursor .symbols) (s₁ .symbols) in
-      let q′ = length-take (2 * s₂ .cursor .symbols) (s₂ .symbols) in
-      record { roomy = roomy₂; at = omega arith; rows = omega (arith, i .rows, y .nodes, roomy₁ .nodes, roomy₂ .nodes); links = omega (arith, i .links, y .links, roomy₁ .links, roomy₂ .links, r .holds, m .holds); symbols = omega (arith, i .symbols, y .symbols, roomy₁ .symbols, roomy₂ .symbols); table = t }
+      record {
+        roomy = roomy₂;
+        at = omega arith;
+        rows = omega (arith, i .rows, y .nodes, roomy₁ .nodes, roomy₂ .nodes);
+        links = omega (arith, i .links, y .links, roomy₁ .links, roomy₂ .links, r .holds, m .holds);
+        stack = omega (arith, i .stack, r .holds, m .holds);
+      }

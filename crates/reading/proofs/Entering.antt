@@ -11,7 +11,9 @@ use Rattle.ast.specs.declared.Node.{Node}
 use Rattle.grammar.specs.Handle.{Handle}
 use Rattle.grammar.specs.Label.{Label}
 use Rattle.grammar.specs.Rows.{Walked, padded, make, keep}
+use Rattle.names.specs.Resolved.{names-of}
 use Rattle.reading.specs.Answers.{node-of}
+use Rattle.reading.specs.Parts.{grown}
 use Rattle.reading.specs.State.{state, written}
 use Rattle.reading.specs.declared.Cursor.{Cursor}
 use Rattle.reading.proofs.Laws.{Made}
@@ -23,23 +25,42 @@ row-number n ns h = let e = length-take-le (9 * n) ns h in omega arith
 pub link-number : (n : ℕ) (ls : List ℕ) → 3 * n ≤ length ls → length (take (3 * n) ls) / 3 ≡ n
 link-number n ls h = let e = length-take-le (3 * n) ls h in omega arith
 
--- one node row more, and that with so many links
-abbrev pub grown : Cursor → Cursor
-grown c = record { at = c .at; nodes = c .nodes + 1; links = c .links; symbols = c .symbols; held = c .held }
-
+-- one node row more, with so many links
 abbrev pub grown-by : Cursor → ℕ → Cursor
-grown-by c n = record { at = c .at; nodes = c .nodes + 1; links = c .links + n; symbols = c .symbols; held = c .held }
+grown-by c n = record { at = c .at; nodes = c .nodes + 1; links = c .links + n; held = c .held }
 
 -- what a node writes: these numbers as its row, and these links
-abbrev pub entered : (c : Cursor) (ns ls ys : List ℕ) (k st en : ℕ) (fields links : List ℕ) → Walked
-entered c ns ls ys k st en fields links = keep (record { nodes = take (9 * c .nodes) ns ++ padded (k ∷ st ∷ en ∷ fields); links = take (3 * c .links) ls ++ links; symbols = take (2 * c .symbols) ys }) (Handle.node (length (take (9 * c .nodes) ns) / 9) st en ∷ [])
+abbrev pub entered : (c : Cursor) (ns ls : List ℕ) (k st en : ℕ) (fields links : List ℕ) → Walked
+entered c ns ls k st en fields links =
+    keep (record { nodes = take (9 * c .nodes) ns ++ padded (k ∷ st ∷ en ∷ fields); links = take (3 * c .links) ls ++ links }) (Handle.node (length (take (9 * c .nodes) ns) / 9) st en ∷ [])
 
-abbrev pub entered-alone : (c : Cursor) (ns ls ys : List ℕ) (k st en : ℕ) (fields : List ℕ) → Walked
-entered-alone c ns ls ys k st en fields = keep (record { nodes = take (9 * c .nodes) ns ++ padded (k ∷ st ∷ en ∷ fields); links = take (3 * c .links) ls; symbols = take (2 * c .symbols) ys }) (Handle.node (length (take (9 * c .nodes) ns) / 9) st en ∷ [])
+abbrev pub entered-alone : (c : Cursor) (ns ls : List ℕ) (k st en : ℕ) (fields : List ℕ) → Walked
+entered-alone c ns ls k st en fields =
+    keep (record { nodes = take (9 * c .nodes) ns ++ padded (k ∷ st ∷ en ∷ fields); links = take (3 * c .links) ls }) (Handle.node (length (take (9 * c .nodes) ns) / 9) st en ∷ [])
 
-module _ {text ts : List ℕ} {f : Label} {a : ℕ} {xs zs : List Handle} {ns ns′ ls ys ss : List ℕ} {c : Cursor} {k st en : ℕ} {fields : List ℕ} {n : Node} where
-  pub row-made : Inserted (c .nodes) k st en fields ns ns′ n → 9 * c .nodes ≤ length ns → make text ts f a (c .at) (written (state ns ls ys ss c)) xs zs ≡ entered-alone c ns ls ys k st en fields → Made text ts f a (state ns ls ys ss c) xs zs (node-of n ∷ []) (state ns′ ls ys ss (grown c))
-  row-made i h e = record { makes = e ∙ rw (row-number (c .nodes) ns h, i .row .rows, i .handle); at = refl; holds = refl; same = refl; rooms = record { nodes = i .row .size; links = refl; symbols = refl; scratch = refl } }
+module _ {ts : List ℕ} {f : Label} {a : ℕ} {xs zs : List Handle} {ns ns′ ls ss : List ℕ} {c : Cursor} {k st en : ℕ} {fields : List ℕ} {n : Node} where
+  pub row-made : Inserted (c .nodes) k st en fields ns ns′ n → 9 * c .nodes ≤ length ns →
+      make ts (names-of ts ss) f a (c .at) (written (state ns ls ss c)) xs zs ≡ entered-alone c ns ls k st en fields →
+      Made ts f a (state ns ls ss c) xs zs (node-of n ∷ []) (state ns′ ls ss (grown c))
+  row-made i h e =
+      record {
+        makes = e ∙ rw (row-number (c .nodes) ns h, i .row .rows, i .handle);
+        at = refl;
+        holds = refl;
+        same = refl;
+        rooms = record { nodes = i .row .size; links = refl; scratch = refl };
+        kept = refl;
+      }
 
-  pub list-made : {ls′ links : List ℕ} (m : ℕ) → Inserted (c .nodes) k st en fields ns ns′ n → 9 * c .nodes ≤ length ns → Written (3 * c .links) (3 * (c .links + m)) links ls ls′ → make text ts f a (c .at) (written (state ns ls ys ss c)) xs zs ≡ entered c ns ls ys k st en fields links → Made text ts f a (state ns ls ys ss c) xs zs (node-of n ∷ []) (state ns′ ls′ ys ss (grown-by c m))
-  list-made m i h w e = record { makes = e ∙ rw (row-number (c .nodes) ns h, i .row .rows, i .handle, w .rows); at = refl; holds = refl; same = refl; rooms = record { nodes = i .row .size; links = w .size; symbols = refl; scratch = refl } }
+  pub list-made : {ls′ links : List ℕ} (m : ℕ) → Inserted (c .nodes) k st en fields ns ns′ n → 9 * c .nodes ≤ length ns → Written (3 * c .links) (3 * (c .links + m)) links ls ls′ →
+      make ts (names-of ts ss) f a (c .at) (written (state ns ls ss c)) xs zs ≡ entered c ns ls k st en fields links →
+      Made ts f a (state ns ls ss c) xs zs (node-of n ∷ []) (state ns′ ls′ ss (grown-by c m))
+  list-made m i h w e =
+      record {
+        makes = e ∙ rw (row-number (c .nodes) ns h, i .row .rows, i .handle, w .rows);
+        at = refl;
+        holds = refl;
+        same = refl;
+        rooms = record { nodes = i .row .size; links = w .size; scratch = refl };
+        kept = refl;
+      }

@@ -6,7 +6,6 @@ use mathlib.Core.Path.{_≡_, ap, _∙_}
 use lib.ListN.{length, take, drop}
 use Rattle.ast.specs.Inserted.{Free, Inserted}
 use Rattle.ast.specs.declared.Node.{Node}
-use Rattle.grammar.specs.Door.{Lent}
 use Rattle.grammar.specs.Handle.{Handle, absent, row, block-list, block-tail}
 use Rattle.grammar.specs.Kaori.{Form, Table, block-items}
 use Rattle.grammar.specs.Kind.{Eof}
@@ -15,16 +14,16 @@ use Rattle.grammar.specs.Phrase.{empty, token, part, chain, Aim, whole}
 use Rattle.grammar.specs.Rows.{links-of, numbers, write, fill, put, make}
 use Rattle.grammar.specs.Rule.{rule}
 use Rattle.grammar.specs.Token.{start, end}
-use Rattle.interner.specs.Table.{Table as Symbols}
+use Rattle.names.specs.Resolved.{names-of}
 use Rattle.reading.specs.Answers.{node-of, name-of, holding, Answered, Listed, Filled, Fills}
-use Rattle.reading.specs.Parts.{Gathered}
+use Rattle.reading.specs.Parts.{grown, Gathered}
 use Rattle.reading.specs.Reading.{form, Reading}
-use Rattle.reading.specs.State.{State, state, written, held, Within, Ready}
+use Rattle.reading.specs.State.{State, state, written, held, Lent, Within, Ready}
 use Rattle.reading.specs.declared.Cursor.{Cursor}
 use Rattle.reading.specs.declared.Read.{Read}
 use Rattle.reading.proofs.Bound.{Paid}
 use Rattle.reading.proofs.Laws.{closed, Made}
-use Rattle.reading.proofs.Entering.{link-number, grown, entered, row-made, list-made}
+use Rattle.reading.proofs.Entering.{link-number, entered, row-made, list-made}
 use Rattle.reading.proofs.Listings.{hold-number, held-above, size-held}
 use Rattle.reading.proofs.Replies.{Taken, answer}
 use Rattle.reading.proofs.Taking.{free, ready-led}
@@ -36,32 +35,33 @@ pub record Kept (base : ℕ) (below : List ℕ) (n : ℕ) (ss : List ℕ) (items
   pub rows : take (3 * n) ss ≡ below ++ links-of items
 
 -- what was learnt of a block's statements, and what is asked of a reader at a cursor, named by what it is read from
-module _ {text ts : List ℕ} {limit o : ℕ} {s : State} where
-  abbrev pub Fill-told : {ns ls ys ss : List ℕ} {r : Read} → Fills text ts limit o s ns ls ys ss r → Node → Cursor → Type 0
-  Fill-told {ns} {ls} {ys} {ss} a n c = Filled text ts limit o s n (state ns ls ys ss c)
+module _ {ts : List ℕ} {limit o : ℕ} {s : State} where
+  abbrev pub Fill-told : {ns ls ss : List ℕ} {r : Read} → Fills ts limit o s ns ls ss r → Node → Cursor → Type 0
+  Fill-told {ns} {ls} {ss} a n c = Filled ts limit o s n (state ns ls ss c)
 
   -- the items that are held since s, at a later state
-  abbrev pub Kept-told : {g : Aim Table Label} {s₁ s′ : State} → Listed text ts limit g o s s₁ → ℕ → Within text ts s′ → Type 0
+  abbrev pub Kept-told : {g : Aim Table Label} {s₁ s′ : State} → Listed ts limit g o s s₁ → ℕ → Within ts s′ → Type 0
   Kept-told {s′ = s′} l base w = Kept base (held s) (s′ .cursor .held) (s′ .scratch) (l .items)
 
-  abbrev pub Kept-fill : {n : Node} {s₁ s′ : State} → Filled text ts limit o s n s₁ → ℕ → Within text ts s′ → Type 0
+  abbrev pub Kept-fill : {n : Node} {s₁ s′ : State} → Filled ts limit o s n s₁ → ℕ → Within ts s′ → Type 0
   Kept-fill {s′ = s′} l base w = Kept base (held s) (s′ .cursor .held) (s′ .scratch) (block-list (l .items))
 
-  abbrev pub Ready-at : Ready text ts limit o s → Cursor → Type 0
-  Ready-at a c = Ready text ts limit o (state (s .nodes) (s .links) (s .symbols) (s .scratch) c)
+  abbrev pub Ready-at : Ready ts limit o s → Cursor → Type 0
+  Ready-at a c = Ready ts limit o (state (s .nodes) (s .links) (s .scratch) c)
 
-abbrev pub Within-at : {text ts : List ℕ} {s : State} → Within text ts s → Cursor → Type 0
-Within-at {text} {ts} {s} w c = Within text ts (state (s .nodes) (s .links) (s .symbols) (s .scratch) c)
+abbrev pub Within-at : {ts : List ℕ} {s : State} → Within ts s → Cursor → Type 0
+Within-at {ts} {s} w c = Within ts (state (s .nodes) (s .links) (s .scratch) c)
 
 -- a token that was taken, with so much held
 module _ {ts : List ℕ} {c d : Cursor} {x : ℕ} {n : Node} (k : Taken ts c x n d) where
-  module _ {text : List ℕ} {limit o : ℕ} where
+  module _ {limit o : ℕ} where
     -- a list, and the token that closes it
-    pub token-closes : {s : State} {ns ls ys ss : List ℕ} {base : ℕ} {p : Form} {hs : List Handle} → o ≤ limit → Reading text ts limit (whole p) o s hs [] (holding base (state ns ls ys ss c)) → Reading text ts limit (whole (part p (token x empty))) o s hs [] (holding base (state ns ls ys ss d))
+    pub token-closes : {s : State} {ns ls ss : List ℕ} {base : ℕ} {p : Form} {hs : List Handle} → o ≤ limit → Reading ts limit (whole p) o s hs [] (holding base (state ns ls ss c)) →
+        Reading ts limit (whole (part p (token x empty))) o s hs [] (holding base (state ns ls ss d))
     token-closes h r = rw (k .after) (closed r h (k .kind-is))
 
-  pub token-within : {text ns ls ys ss : List ℕ} → (x ≡ Eof → ⊥) → Lent text ts → Within text ts (state ns ls ys ss c) → Within text ts (state ns ls ys ss d)
-  token-within z l w = let h : Ready _ ts 0 0 _ = record { lent = l; deep = omega arith; within = w } in ready-led h k z .within
+  pub token-within : {ns ls ss : List ℕ} → (x ≡ Eof → ⊥) → Lent ts → Within ts (state ns ls ss c) → Within ts (state ns ls ss d)
+  token-within z l w = let h : Ready ts 0 0 _ = record { lent = l; deep = omega arith; within = w } in ready-led h k z .within
 
   pub token-end : end ts (d .at - 1) ≡ n .end
   token-end = let e : c .at + 1 - 1 ≡ c .at = omega arith in rw (k .node-is, k .after, e)
@@ -70,21 +70,22 @@ module _ {ts : List ℕ} {c d : Cursor} {x : ℕ} {n : Node} (k : Taken ts c x n
   token-held = rw (k .after)
 
 -- of a list that is read from s to s₁, where so much was held at s
-hold-as : {text ts : List ℕ} {limit o k base : ℕ} {g : Aim Table Label} {s : State} {xs ys : List Handle} (s₁ : State) → k ≡ base → Reading text ts limit g o s xs ys (holding k s₁) → Reading text ts limit g o s xs ys (holding base s₁)
+hold-as : {ts : List ℕ} {limit o k base : ℕ} {g : Aim Table Label} {s : State} {xs ys : List Handle} (s₁ : State) → k ≡ base → Reading ts limit g o s xs ys (holding k s₁) →
+    Reading ts limit g o s xs ys (holding base s₁)
 hold-as s₁ h r = rw h at r
 
-module _ {text ts : List ℕ} {limit o base : ℕ} {g : Aim Table Label} {s s₁ : State} (h : s .cursor .held ≡ base) (l : Listed text ts limit g o s s₁) where
-  pub list-kept : Within text ts s → Kept base (held s) (s₁ .cursor .held) (s₁ .scratch) (l .items)
+module _ {ts : List ℕ} {limit o base : ℕ} {g : Aim Table Label} {s s₁ : State} (h : s .cursor .held ≡ base) (l : Listed ts limit g o s s₁) where
+  pub list-kept : Within ts s → Kept base (held s) (s₁ .cursor .held) (s₁ .scratch) (l .items)
   list-kept w = record { size = size-held w h; count = l .count ∙ ap (λ k. k + length (l .items)) h; rows = l .rows }
 
-  pub list-reading : Reading text ts limit g o s (l .items) [] (holding base s₁)
+  pub list-reading : Reading ts limit g o s (l .items) [] (holding base s₁)
   list-reading = hold-as s₁ h (l .reading)
 
-module _ {text ts : List ℕ} {limit o base : ℕ} {s s₁ : State} {n : Node} (h : s .cursor .held ≡ base) (l : Filled text ts limit o s n s₁) where
-  pub fill-kept : Within text ts s → Kept base (held s) (s₁ .cursor .held) (s₁ .scratch) (block-list (l .items))
+module _ {ts : List ℕ} {limit o base : ℕ} {s s₁ : State} {n : Node} (h : s .cursor .held ≡ base) (l : Filled ts limit o s n s₁) where
+  pub fill-kept : Within ts s → Kept base (held s) (s₁ .cursor .held) (s₁ .scratch) (block-list (l .items))
   fill-kept w = record { size = size-held w h; count = l .count ∙ ap (λ k. k + length (block-list (l .items))) h; rows = l .rows }
 
-  pub fill-reading : Reading text ts limit (whole (chain empty block-items)) o s (l .items) [] (holding base s₁)
+  pub fill-reading : Reading ts limit (whole (chain empty block-items)) o s (l .items) [] (holding base s₁)
   fill-reading = hold-as s₁ h (l .reading)
 
 module _ {base n : ℕ} {below ss : List ℕ} {items : List Handle} (k : Kept base below n ss items) where
@@ -103,69 +104,83 @@ module _ {base n : ℕ} {below ss : List ℕ} {items : List Handle} (k : Kept ba
   kept-links h = held-above base n ss below kept-under h (k .size) (k .rows)
 
 -- after another reading
-pub kept-on : {text ts : List ℕ} {limit o base : ℕ} {g : Aim Table Label} {s s′ : State} {below : List ℕ} {items xs ys : List Handle} → Kept base below (s .cursor .held) (s .scratch) items → Reading text ts limit g o s xs ys s′ → Kept base below (s′ .cursor .held) (s′ .scratch) items
+pub kept-on : {ts : List ℕ} {limit o base : ℕ} {g : Aim Table Label} {s s′ : State} {below : List ℕ} {items xs ys : List Handle} → Kept base below (s .cursor .held) (s .scratch) items →
+    Reading ts limit g o s xs ys s′ → Kept base below (s′ .cursor .held) (s′ .scratch) items
 kept-on k r = record { size = k .size; count = r .holds ∙ k .count; rows = r .same ∙ k .rows }
 
 pub gathered-at : {base : ℕ} {ls ls′ ss : List ℕ} {c d : Cursor} → Gathered base c ss ls ls′ d → d .at ≡ c .at
 gathered-at g = rw (g .cursor)
 
-module _ {text ts ns ls ys ss : List ℕ} {c : Cursor} where
+module _ {ts ns ls ss : List ℕ} {c : Cursor} where
   -- what gather asks, and what the row after it asks
-  pub gather-asks : {base : ℕ} → Lent text ts → Within text ts (state ns ls ys ss c) → base ≤ c .held → (base ≤ c .held) × (3 * c .held ≤ length ss) × (3 * (c .links + c .held) ≤ length ls) × (c .links + c .held < absent)
+  pub gather-asks : {base : ℕ} → Lent ts → Within ts (state ns ls ss c) → base ≤ c .held → (base ≤ c .held) × (3 * c .held ≤ length ss) × (3 * (c .links + c .held) ≤ length ls) ×
+      (c .links + c .held < absent)
   gather-asks l w h = (h, omega (arith, w .links, w .at, w .roomy .scratch), omega (arith, w .links, w .at, w .roomy .links), omega (arith, w .links, w .at, l .whole .most))
 
-  pub gathered-free : {base : ℕ} {ls′ : List ℕ} {d : Cursor} → Lent text ts → Within text ts (state ns ls ys ss c) → Gathered base c ss ls ls′ d → Free (d .nodes) ns
+  pub gathered-free : {base : ℕ} {ls′ : List ℕ} {d : Cursor} → Lent ts → Within ts (state ns ls ss c) → Gathered base c ss ls ls′ d → Free (d .nodes) ns
   gathered-free l w g = rw (g .cursor) (free l w)
 
-  pub numbers-fit : Lent text ts → Within text ts (state ns ls ys ss c) → (c .links < absent) × (c .held < absent)
+  pub numbers-fit : Lent ts → Within ts (state ns ls ss c) → (c .links < absent) × (c .held < absent)
   numbers-fit l w = (omega (arith, w .links, w .at, l .whole .most), hold-number w l)
 
-  pub first-link : Within text ts (state ns ls ys ss c) → length (take (3 * c .links) ls) / 3 ≡ c .links
+  pub first-link : Within ts (state ns ls ss c) → length (take (3 * c .links) ls) / 3 ≡ c .links
   first-link w = link-number (c .links) ls (omega (arith, w .links, w .at, w .roomy .links))
 
   -- the row of a node whose items are gathered
-  pub gathered-row : {base : ℕ} {ls′ : List ℕ} {d : Cursor} {f : Label} {a k st en : ℕ} {xs zs items : List Handle} {ns′ below fields : List ℕ} {n : Node} → Within text ts (state ns ls ys ss c) → Gathered base c ss ls ls′ d → Kept base below (c .held) ss items → Inserted (d .nodes) k st en fields ns ns′ n →
-      make text ts f a (c .at) (written (state ns ls ys ss c)) xs zs ≡ entered c ns ls ys k st en fields (links-of items) → Made text ts f a (holding base (state ns ls ys ss c)) xs zs (node-of n ∷ []) (state ns′ ls′ ys ss (grown d))
+  pub gathered-row : {base : ℕ} {ls′ : List ℕ} {d : Cursor} {f : Label} {a k st en : ℕ} {xs zs items : List Handle} {ns′ below fields : List ℕ} {n : Node} → Within ts (state ns ls ss c) →
+      Gathered base c ss ls ls′ d → Kept base below (c .held) ss items → Inserted (d .nodes) k st en fields ns ns′ n →
+      make ts (names-of ts ss) f a (c .at) (written (state ns ls ss c)) xs zs ≡ entered c ns ls k st en fields (links-of items) →
+      Made ts f a (holding base (state ns ls ss c)) xs zs (node-of n ∷ []) (state ns′ ls′ ss (grown d))
   gathered-row {base} w g k i e =
       let j = rw (g .cursor) at i in
       let l = rw (kept-links k (omega (arith, w .links, w .at, w .roomy .scratch))) at (g .links) in
       rw (g .cursor) (list-made (c .held - base) j (omega (arith, w .rows, w .at, w .roomy .nodes)) l e)
 
-  pub gathered-table : {base : ℕ} {ls′ : List ℕ} {d : Cursor} → Within text ts (state ns ls ys ss c) → Gathered base c ss ls ls′ d → Symbols text (take (2 * d .symbols) ys)
-  gathered-table w g = rw (g .cursor) (w .table)
-
   -- the answer after it
-  pub gathered-answer : {base limit o : ℕ} {ls′ : List ℕ} {d : Cursor} {p : Aim Table Label} {s : State} {ns′ : List ℕ} {n : Node} → Ready text ts limit o s → Paid (form p) → Within text ts (state ns ls ys ss c) → Gathered base c ss ls ls′ d → Reading text ts limit p o s (node-of n ∷ []) [] (state ns′ ls′ ys ss (grown d)) → Answered text ts limit node-of p o s ns′ ls′ ys ss (Read.Node n (grown d))
-  gathered-answer r p w g z = answer r p (rw (g .cursor) (w .at)) (gathered-table w g) z
+  pub gathered-answer : {base limit o : ℕ} {ls′ : List ℕ} {d : Cursor} {p : Aim Table Label} {s : State} {ns′ : List ℕ} {n : Node} {r : Read} → r ≡ Read.Node n (grown d) →
+      Ready ts limit o s → Paid (form p) → Within ts (state ns ls ss c) → Gathered base c ss ls ls′ d → Reading ts limit p o s (node-of n ∷ []) [] (state ns′ ls′ ss (grown d)) →
+      Answered ts limit node-of p o s ns′ ls′ ss r
+  gathered-answer m r p w g z = rw m (answer r p (rw (g .cursor) (w .at)) z)
 
 -- the row of an If
-module _ {text ts ns ns′ ls ys ss : List ℕ} {c : Cursor} {a st : ℕ} {n x y : Node} (w : Within text ts (state ns ls ys ss c)) (p : st ≡ start ts a) where
-  pub if-made : Inserted (c .nodes) (number-of Form-of.If) st (y .end) (x .id ∷ y .id ∷ absent ∷ []) ns ns′ n → Made text ts (Label.Row Form-of.If) a (state ns ls ys ss c) (node-of x ∷ []) (node-of y ∷ []) (node-of n ∷ []) (state ns′ ls ys ss (grown c))
+module _ {ts ns ns′ ls ss : List ℕ} {c : Cursor} {a st : ℕ} {n x y : Node} (w : Within ts (state ns ls ss c)) (p : st ≡ start ts a) where
+  pub if-made : Inserted (c .nodes) (number-of Form-of.If) st (y .end) (x .id ∷ y .id ∷ absent ∷ []) ns ns′ n →
+      Made ts (Label.Row Form-of.If) a (state ns ls ss c) (node-of x ∷ []) (node-of y ∷ []) (node-of n ∷ []) (state ns′ ls ss (grown c))
   unfolding make put fill numbers write rule
   if-made i = row-made i (omega (arith, w .rows, w .at, w .roomy .nodes)) (rw p)
 
-  pub else-made : {z : Node} → Inserted (c .nodes) (number-of Form-of.If) st (z .end) (x .id ∷ y .id ∷ z .id ∷ []) ns ns′ n → Made text ts (Label.Row Form-of.If) a (state ns ls ys ss c) (node-of x ∷ []) (node-of y ∷ node-of z ∷ []) (node-of n ∷ []) (state ns′ ls ys ss (grown c))
+  pub else-made : {z : Node} → Inserted (c .nodes) (number-of Form-of.If) st (z .end) (x .id ∷ y .id ∷ z .id ∷ []) ns ns′ n →
+      Made ts (Label.Row Form-of.If) a (state ns ls ss c) (node-of x ∷ []) (node-of y ∷ node-of z ∷ []) (node-of n ∷ []) (state ns′ ls ss (grown c))
   unfolding make put fill numbers write rule
   else-made i = row-made i (omega (arith, w .rows, w .at, w .roomy .nodes)) (rw p)
 
 -- the nodes that have a list, at a the first of its tokens
-module _ {text ts ns ns′ ls ls′ ys ss below : List ℕ} {c d : Cursor} {base a st : ℕ} {n : Node} (w : Within text ts (state ns ls ys ss c)) (g : Gathered base c ss ls ls′ d) (p : st ≡ start ts a) where
-  pub map-made : {en : ℕ} {xs zs : List Handle} → Kept base below (c .held) ss xs → end ts (c .at - 1) ≡ en → Inserted (d .nodes) (number-of Form-of.Map) st en (c .links ∷ (c .held - base) ∷ []) ns ns′ n → Made text ts (Label.Row Form-of.Map) a (holding base (state ns ls ys ss c)) xs zs (node-of n ∷ []) (state ns′ ls′ ys ss (grown d))
+module _ {ts ns ns′ ls ls′ ss below : List ℕ} {c d : Cursor} {base a st : ℕ} {n : Node} (w : Within ts (state ns ls ss c)) (g : Gathered base c ss ls ls′ d) (p : st ≡ start ts a) where
+  pub map-made : {en : ℕ} {xs zs : List Handle} → Kept base below (c .held) ss xs → end ts (c .at - 1) ≡ en →
+      Inserted (d .nodes) (number-of Form-of.Map) st en (c .links ∷ (c .held - base) ∷ []) ns ns′ n →
+      Made ts (Label.Row Form-of.Map) a (holding base (state ns ls ss c)) xs zs (node-of n ∷ []) (state ns′ ls′ ss (grown d))
   unfolding make put fill numbers write rule
   map-made k q i = gathered-row w g k i (rw (p, q, first-link w, kept-count k))
 
-  pub block-made : {en : ℕ} {xs zs : List Handle} {tail : ℕ} → Kept base below (c .held) ss (block-list xs) → end ts (c .at - 1) ≡ en → tail ≡ row (block-tail xs) → Inserted (d .nodes) (number-of Form-of.Block) st en (c .links ∷ (c .held - base) ∷ tail ∷ []) ns ns′ n → Made text ts (Label.Row Form-of.Block) a (holding base (state ns ls ys ss c)) xs zs (node-of n ∷ []) (state ns′ ls′ ys ss (grown d))
+  pub block-made : {en : ℕ} {xs zs : List Handle} {tail : ℕ} → Kept base below (c .held) ss (block-list xs) → end ts (c .at - 1) ≡ en → tail ≡ row (block-tail xs) →
+      Inserted (d .nodes) (number-of Form-of.Block) st en (c .links ∷ (c .held - base) ∷ tail ∷ []) ns ns′ n →
+      Made ts (Label.Row Form-of.Block) a (holding base (state ns ls ss c)) xs zs (node-of n ∷ []) (state ns′ ls′ ss (grown d))
   unfolding make put fill numbers write rule
   block-made k q z i = gathered-row w g k i (rw (p, q, first-link w, kept-count k, z))
 
-  pub call-made : {en : ℕ} {zs : List Handle} {m : Node} → Kept base below (c .held) ss zs → end ts (c .at - 1) ≡ en → Inserted (d .nodes) (number-of Form-of.FunctionCall) st en (m .id ∷ c .links ∷ (c .held - base) ∷ []) ns ns′ n → Made text ts (Label.Row Form-of.FunctionCall) a (holding base (state ns ls ys ss c)) (node-of m ∷ []) zs (node-of n ∷ []) (state ns′ ls′ ys ss (grown d))
+  pub call-made : {en : ℕ} {zs : List Handle} {m : Node} → Kept base below (c .held) ss zs → end ts (c .at - 1) ≡ en →
+      Inserted (d .nodes) (number-of Form-of.FunctionCall) st en (m .id ∷ c .links ∷ (c .held - base) ∷ []) ns ns′ n →
+      Made ts (Label.Row Form-of.FunctionCall) a (holding base (state ns ls ss c)) (node-of m ∷ []) zs (node-of n ∷ []) (state ns′ ls′ ss (grown d))
   unfolding make put fill numbers write rule
   call-made k q i = gathered-row w g k i (rw (p, q, first-link w, kept-count k))
 
-  pub lambda-made : {xs : List Handle} {m : Node} → Kept base below (c .held) ss xs → Inserted (d .nodes) (number-of Form-of.Lambda) st (m .end) (c .links ∷ (c .held - base) ∷ m .id ∷ []) ns ns′ n → Made text ts (Label.Row Form-of.Lambda) a (holding base (state ns ls ys ss c)) xs (node-of m ∷ []) (node-of n ∷ []) (state ns′ ls′ ys ss (grown d))
+  pub lambda-made : {xs : List Handle} {m : Node} → Kept base below (c .held) ss xs → Inserted (d .nodes) (number-of Form-of.Lambda) st (m .end) (c .links ∷ (c .held - base) ∷ m .id ∷ []) ns
+      ns′ n → Made ts (Label.Row Form-of.Lambda) a (holding base (state ns ls ss c)) xs (node-of m ∷ []) (node-of n ∷ []) (state ns′ ls′ ss (grown d))
   unfolding make put fill numbers write rule
   lambda-made k i = gathered-row w g k i (rw (p, first-link w, kept-count k))
 
-  pub function-made : {xs : List Handle} {v m : Node} → Kept base below (c .held) ss xs → Inserted (d .nodes) (number-of Form-of.Function) st (m .end) (v .id ∷ v .start ∷ v .end ∷ c .links ∷ (c .held - base) ∷ m .id ∷ []) ns ns′ n → Made text ts (Label.Row Form-of.Function) a (holding base (state ns ls ys ss c)) (name-of v ∷ xs) (node-of m ∷ []) (node-of n ∷ []) (state ns′ ls′ ys ss (grown d))
+  pub function-made : {xs : List Handle} {v m : Node} → Kept base below (c .held) ss xs →
+      Inserted (d .nodes) (number-of Form-of.Function) st (m .end) (v .id ∷ v .start ∷ v .end ∷ c .links ∷ (c .held - base) ∷ m .id ∷ []) ns ns′ n →
+      Made ts (Label.Row Form-of.Function) a (holding base (state ns ls ss c)) (name-of v ∷ xs) (node-of m ∷ []) (node-of n ∷ []) (state ns′ ls′ ss (grown d))
   unfolding make put fill numbers write rule
   function-made k i = gathered-row w g k i (rw (p, first-link w, kept-count k))

@@ -16,6 +16,7 @@ use Rattle.grammar.specs.Kind.{Eof}
 use Rattle.grammar.specs.Phrase.{whole}
 use Rattle.grammar.specs.Rows.{links-of, walk}
 use Rattle.grammar.proofs.Machine.{one-reading, read-not-refused, one-refusal}
+use Rattle.names.specs.Resolved.{names-of}
 use Rattle.reading.specs.Answers.{node-of, name-of, tail-of, holding, Took, Consumed, Answer-case, Answered, Listed, List-case, Lists, State-case, States}
 use Rattle.reading.specs.Parts.{Separates, Separated, Gathered, Ends, Ended, Untailed}
 use Rattle.reading.specs.Reading.{refusal, Success}
@@ -35,9 +36,10 @@ pub record Alike (hs hs′ : List Handle) (s s′ : State) : Type 0 where
 rows-counted : (w n m : ℕ) (l k : List ℕ) → w * n ≤ length l → w * m ≤ length k → take (w * n) l ≡ take (w * m) k → w * n ≡ w * m
 rows-counted w n m l k h i e = sym (length-take-le (w * n) l h) ∙ ap length e ∙ length-take-le (w * m) k i
 
-cursors : {c d : Cursor} → c .nodes ≡ d .nodes → c .links ≡ d .links → c .symbols ≡ d .symbols → c .held ≡ d .held → c .at ≡ d .at → c ≡ d
-cursors {c} {d} n l y h a =
-    let e : _≡_ {A = Cursor} (record { nodes = c .nodes; links = c .links; symbols = c .symbols; held = c .held; at = c .at }) (record { nodes = d .nodes; links = d .links; symbols = d .symbols; held = d .held; at = d .at }) = rw (n, l, y, h, a) in
+cursors : {c d : Cursor} → c .nodes ≡ d .nodes → c .links ≡ d .links → c .held ≡ d .held → c .at ≡ d .at → c ≡ d
+cursors {c} {d} n l h a =
+    let e : _≡_ {A = Cursor} (record { nodes = c .nodes; links = c .links; held = c .held; at = c .at }) (record { nodes = d .nodes; links = d .links; held = d .held; at = d .at }) = rw
+    (n, l, h, a) in
     e
 
 nodes : {n m : Node} → n .id ≡ m .id → n .start ≡ m .start → n .end ≡ m .end → n ≡ m
@@ -54,25 +56,32 @@ refusals {q} {r} e =
     z
 
 -- two successes of one phrase from one entry
-module _ {text ts : List ℕ} {limit o : ℕ} {p : Form} {s s₁ s₂ : State} {hs hs′ : List Handle} where
-  pub one-success : Success text ts limit (whole p) o s hs s₁ → Success text ts limit (whole p) o s hs′ s₂ → Alike hs hs′ s₁ s₂
+module _ {ts : List ℕ} {limit o : ℕ} {p : Form} {s s₁ s₂ : State} {hs hs′ : List Handle} where
+  pub one-success : Success ts limit (whole p) o s hs s₁ → Success ts limit (whole p) o s hs′ s₂ → Alike hs hs′ s₁ s₂
   one-success x y =
       let (at, tree) = one-reading (x .reading .reads) (y .reading .reads) in
-      let e = sym (x .reading .rows) ∙ ap (λ t. walk text ts t (written s)) tree ∙ y .reading .rows in
+      let e = sym (x .reading .rows) ∙ ap (λ t. walk ts (names-of ts (s .scratch)) t (written s)) tree ∙ y .reading .rows in
       let w : written s₁ ≡ written s₂ = ap (λ v. v .rows) e in
       let v = x .within in
       let u = y .within in
-      let n = rows-counted 9 (s₁ .cursor .nodes) (s₂ .cursor .nodes) (s₁ .nodes) (s₂ .nodes) (omega (arith, v .rows, v .at, v .roomy .nodes)) (omega (arith, u .rows, u .at, u .roomy .nodes)) (ap (λ r. r .nodes) w) in
-      let l = rows-counted 3 (s₁ .cursor .links) (s₂ .cursor .links) (s₁ .links) (s₂ .links) (omega (arith, v .links, v .at, v .roomy .links)) (omega (arith, u .links, u .at, u .roomy .links)) (ap (λ r. r .links) w) in
-      let k = rows-counted 2 (s₁ .cursor .symbols) (s₂ .cursor .symbols) (s₁ .symbols) (s₂ .symbols) (omega (arith, v .symbols, v .at, v .roomy .symbols)) (omega (arith, u .symbols, u .at, u .roomy .symbols)) (ap (λ r. r .symbols) w) in
-      record { handles = ap (λ v. v .first) e; cursor = cursors (omega (arith, n)) (omega (arith, l)) (omega (arith, k)) (x .reading .holds ∙ sym (y .reading .holds)) at; rows = w; stack = x .reading .same ∙ sym (y .reading .same) }
+      let n = rows-counted 9 (s₁ .cursor .nodes) (s₂ .cursor .nodes) (s₁ .nodes) (s₂ .nodes) (omega (arith, v .rows, v .at, v .roomy .nodes)) (omega (arith, u .rows, u .at, u .roomy .nodes))
+      (ap (λ r. r .nodes) w) in
+      let l = rows-counted 3 (s₁ .cursor .links) (s₂ .cursor .links) (s₁ .links) (s₂ .links) (omega (arith, v .links, v .at, v .roomy .links))
+      (omega (arith, u .links, u .at, u .roomy .links)) (ap (λ r. r .links) w) in
+      record {
+        handles = ap (λ v. v .first) e;
+        cursor = cursors (omega (arith, n)) (omega (arith, l)) (x .reading .holds ∙ sym (y .reading .holds)) at;
+        rows = w;
+        stack = x .reading .same ∙
+            sym (y .reading .same);
+      }
 
 -- two outcomes are the same, in the rows that are written and held
-unfoldable pub Same : (nodes links symbols scratch nodes′ links′ symbols′ scratch′ : List ℕ) → Read → Read → Type 0
-Same ns ls ys ss ns′ ls′ ys′ ss′ (Read.Node n c) (Read.Node m d) = (n ≡ m) × (c ≡ d) × (written (state ns ls ys ss c) ≡ written (state ns′ ls′ ys′ ss′ d)) × (held (state ns ls ys ss c) ≡ held (state ns′ ls′ ys′ ss′ d))
-Same ns ls ys ss ns′ ls′ ys′ ss′ (Read.Refused q) (Read.Refused r) = q ≡ r
-Same ns ls ys ss ns′ ls′ ys′ ss′ (Read.Node n c) (Read.Refused r) = ⊥
-Same ns ls ys ss ns′ ls′ ys′ ss′ (Read.Refused q) (Read.Node m d) = ⊥
+unfoldable pub Same : (nodes links scratch nodes′ links′ scratch′ : List ℕ) → Read → Read → Type 0
+Same ns ls ss ns′ ls′ ss′ (Read.Node n c) (Read.Node m d) = (n ≡ m) × (c ≡ d) × (written (state ns ls ss c) ≡ written (state ns′ ls′ ss′ d)) × (held (state ns ls ss c) ≡ held (state ns′ ls′ ss′ d))
+Same ns ls ss ns′ ls′ ss′ (Read.Refused q) (Read.Refused r) = q ≡ r
+Same ns ls ss ns′ ls′ ss′ (Read.Node n c) (Read.Refused r) = ⊥
+Same ns ls ss ns′ ls′ ss′ (Read.Refused q) (Read.Node m d) = ⊥
 
 heads : {h h′ : Handle} → h ∷ [] ≡ h′ ∷ [] → h ≡ h′
 heads e = cc
@@ -85,12 +94,19 @@ pub name-alike : (n m : Node) → name-of n ≡ name-of m → n ≡ m
 name-alike n m e = nodes (cc) (cc) (cc)
 
 -- once a list's items are held no more, the cursor is within the list as before
-let-go : {text ts : List ℕ} {limit o : ℕ} {p : Form} {s s₁ : State} → Listed text ts limit (whole p) o s s₁ → Within text ts (holding (s .cursor .held) s₁)
-let-go l = let w = l .within in record { roomy = record { nodes = w .roomy .nodes; links = w .roomy .links; symbols = w .roomy .symbols; scratch = w .roomy .scratch }; at = w .at; rows = w .rows; links = omega (arith, w .links, l .count); symbols = w .symbols; table = w .table }
+let-go : {ts : List ℕ} {limit o : ℕ} {p : Form} {s s₁ : State} → Listed ts limit (whole p) o s s₁ → Within ts (holding (s .cursor .held) s₁)
+let-go l = let w = l .within in record {
+  roomy = record { nodes = w .roomy .nodes; links = w .roomy .links; scratch = w .roomy .scratch };
+  at = w .at;
+  rows = w .rows;
+  links = omega (arith, w .links, l .count);
+  stack = omega (arith, w .stack, l .count);
+}
 
-module _ {text ts : List ℕ} {limit o : ℕ} {p : Form} {s : State} {ns ls ys ss ns′ ls′ ys′ ss′ : List ℕ} where
+module _ {ts : List ℕ} {limit o : ℕ} {p : Form} {s : State} {ns ls ss ns′ ls′ ss′ : List ℕ} where
   -- of a reader whose node stands for what it read
-  pub one-answered : (h : Node → Handle) → ((n m : Node) → h n ≡ h m → n ≡ m) → (r r′ : Read) → Answered text ts limit h (whole p) o s ns ls ys ss r → Answered text ts limit h (whole p) o s ns′ ls′ ys′ ss′ r′ → Same ns ls ys ss ns′ ls′ ys′ ss′ r r′
+  pub one-answered : (h : Node → Handle) → ((n m : Node) → h n ≡ h m → n ≡ m) → (r r′ : Read) → Answered ts limit h (whole p) o s ns ls ss r →
+      Answered ts limit h (whole p) o s ns′ ls′ ss′ r′ → Same ns ls ss ns′ ls′ ss′ r r′
   unfolding Answer-case Same
   one-answered h alike (Read.Node n c) (Read.Node m d) a b = let e = one-success (a .says) (b .says) in (alike n m (heads (e .handles)), e .cursor, e .rows, e .stack)
   one-answered h alike (Read.Refused q) (Read.Refused r) a b = refusals (one-refusal (a .says) (b .says))
@@ -98,17 +114,17 @@ module _ {text ts : List ℕ} {limit o : ℕ} {p : Form} {s : State} {ns ls ys s
   one-answered h alike (Read.Refused q) (Read.Node m d) a b = let y = b .says .reading in read-not-refused (y .reads) (y .fits) (a .says)
 
   -- of a list's reader: the items that are held are the same too
-  pub one-lists : (r r′ : Read) → Lists text ts limit (whole p) o s ns ls ys ss r → Lists text ts limit (whole p) o s ns′ ls′ ys′ ss′ r′ → Same ns ls ys ss ns′ ls′ ys′ ss′ r r′
+  pub one-lists : (r r′ : Read) → Lists ts limit (whole p) o s ns ls ss r → Lists ts limit (whole p) o s ns′ ls′ ss′ r′ → Same ns ls ss ns′ ls′ ss′ r r′
   unfolding List-case Same
   one-lists (Read.Node n c) (Read.Node m d) a b =
       let x = a .says .1 in
       let y = b .says .1 in
-      let u : Success text ts limit (whole p) o s (x .items) (holding (s .cursor .held) (state ns ls ys ss c)) = record { reading = x .reading; within = let-go x; past = x .past } in
-      let v : Success text ts limit (whole p) o s (y .items) (holding (s .cursor .held) (state ns′ ls′ ys′ ss′ d)) = record { reading = y .reading; within = let-go y; past = y .past } in
+      let u : Success ts limit (whole p) o s (x .items) (holding (s .cursor .held) (state ns ls ss c)) = record { reading = x .reading; within = let-go x; past = x .past } in
+      let v : Success ts limit (whole p) o s (y .items) (holding (s .cursor .held) (state ns′ ls′ ss′ d)) = record { reading = y .reading; within = let-go y; past = y .past } in
       let e = one-success u v in
       let k = e .cursor in
       let h = x .count ∙ ap (λ i. s .cursor .held + length i) (e .handles) ∙ sym (y .count) in
-      (a .says .0 ∙ sym (b .says .0), cursors (ap (λ c. c .nodes) k) (ap (λ c. c .links) k) (ap (λ c. c .symbols) k) h (ap (λ c. c .at) k), e .rows, x .rows ∙ ap (λ i. held s ++ links-of i) (e .handles) ∙ sym (y .rows))
+      (a .says .0 ∙ sym (b .says .0), cursors (ap (λ c. c .nodes) k) (ap (λ c. c .links) k) h (ap (λ c. c .at) k), e .rows, x .rows ∙ ap (λ i. held s ++ links-of i) (e .handles) ∙ sym (y .rows))
   one-lists (Read.Refused q) (Read.Refused r) a b = refusals (one-refusal (a .says) (b .says))
   one-lists (Read.Node n c) (Read.Refused r) a b = let x = a .says .1 .reading in read-not-refused (x .reads) (x .fits) (b .says)
   one-lists (Read.Refused q) (Read.Node m d) a b = let y = b .says .1 .reading in read-not-refused (y .reads) (y .fits) (a .says)
@@ -155,8 +171,8 @@ one-ended (Read.Refused q) (Read.Refused r) a b = ap Read.Refused (a .says .3 �
 one-ended (Read.Node m d) (Read.Refused r) a b = absurd (elim (a .says) [ inl u ↦ b .says .0 (u .0) | inr u ↦ elim (u .1) [ inl v ↦ b .says .1 v | inr v ↦ may-not-must (sym v ∙ b .says .2) ] ])
 one-ended (Read.Refused q) (Read.Node k e) a b = absurd (elim (b .says) [ inl u ↦ a .says .0 (u .0) | inr u ↦ elim (u .1) [ inl v ↦ a .says .1 v | inr v ↦ may-not-must (sym v ∙ a .says .2) ] ])
 
-module _ {text ts : List ℕ} {limit o : ℕ} {s : State} {ns ls ys ss ns′ ls′ ys′ ss′ : List ℕ} where
-  pub one-statement : (r r′ : Read) → States text ts limit o s ns ls ys ss r → States text ts limit o s ns′ ls′ ys′ ss′ r′ → Same ns ls ys ss ns′ ls′ ys′ ss′ r r′
+module _ {ts : List ℕ} {limit o : ℕ} {s : State} {ns ls ss ns′ ls′ ss′ : List ℕ} where
+  pub one-statement : (r r′ : Read) → States ts limit o s ns ls ss r → States ts limit o s ns′ ls′ ss′ r′ → Same ns ls ss ns′ ls′ ss′ r r′
   unfolding State-case Same
   one-statement (Read.Node n c) (Read.Node m d) a b =
       let x = a .says in

@@ -24,17 +24,19 @@ use Rattle.grammar.specs.Token.{kind, start, end}
 use Rattle.grammar.proofs.Tables.{unlisted}
 use Rattle.token.specs.Level.{level}
 use Rattle.token.proofs.Operators.{operator-link}
+use Rattle.names.specs.Resolved.{names-of}
 use Rattle.reading.specs.Answers.{node-of, Answered}
-use Rattle.reading.specs.Parts.{Sign, Other, Single, single-node, joined-fields}
+use Rattle.reading.specs.Parts.{grown, Sign, Other, Single, single-node, joined-fields}
 use Rattle.reading.specs.State.{State, state, written}
 use Rattle.reading.specs.declared.Cursor.{Cursor}
 use Rattle.reading.specs.declared.Read.{Read}
-use Rattle.reading.proofs.Entering.{grown, entered-alone, row-made}
+use Rattle.reading.proofs.Entering.{entered-alone, row-made}
 use Rattle.reading.proofs.Laws.{chosen, Made}
 use Rattle.reading.proofs.Replies.{mapped}
 
 -- an answer of the form that the table has for the next token
-pub picked : {text ts : List ℕ} {limit : ℕ} {h : Node → Handle} {t : Table} {p : Form} {o : ℕ} {s : State} {ns ls ys ss : List ℕ} (r : Read) → kaori t (kind ts (s .cursor .at)) ≡ p → Answered text ts limit h (whole p) o s ns ls ys ss r → Answered text ts limit h (whole (choice t)) o s ns ls ys ss r
+pub picked : {ts : List ℕ} {limit : ℕ} {h : Node → Handle} {t : Table} {p : Form} {o : ℕ} {s : State} {ns ls ss : List ℕ} (r : Read) → kaori t (kind ts (s .cursor .at)) ≡ p →
+    Answered ts limit h (whole p) o s ns ls ss r → Answered ts limit h (whole (choice t)) o s ns ls ss r
 picked r e a = mapped r (omega arith) a (λ n c z. chosen e z) (λ x y. Refuses.in-choice e y)
 
 -- the kinds from `true` to `nil`
@@ -52,6 +54,10 @@ pub one-token : {x : ℕ} → True ≤ x → x < NumberLiteral → kaori operand
 unfolding kaori rules
 one-token {x} h i = spelt x h i (λ e. rw e) (λ e. rw e) (λ e. rw e)
 
+pub one-number : {x : ℕ} → x ≡ NumberLiteral → kaori operand x ≡ leaf (single-node x) x
+unfolding kaori rules
+one-number e = rw e
+
 -- what a table has for a kind that it does not list
 pub no-call : {x : ℕ} → (x ≡ Dot → ⊥) → (x ≡ LeftParen → ⊥) → kaori calls x ≡ empty
 unfolding rules
@@ -60,7 +66,41 @@ no-call {x} h k = unlisted calls x (k, (h, tt))
 -- no operand starts with it: what a `match` over the rarer kinds of operands says of its last arm
 pub no-operand : {x y : ℕ} → x ≡ y → Other y → ((((Unit {0} × (x ≡ Pipe → ⊥)) × (x ≡ Hash → ⊥)) × (x ≡ LeftBrace → ⊥)) × (x ≡ If → ⊥)) → (True ≤ x → NumberLiteral ≤ x) → kaori operand y ≡ refusal 9
 unfolding rules
-no-operand {x} {y} k s r h = unlisted operand y (s .not-plus, (s .not-not, (s .not-minus, (s .not-caret, ((λ e. r .1 (k ∙ e)), ((λ e. r .0 .0 .0 .1 (k ∙ e)), (s .not-paren, ((λ e. r .0 .1 (k ∙ e)), (s .not-number, ((λ e. spelt-out (omega (arith, e, k)) (omega (arith, e, k))), ((λ e. spelt-out (omega (arith, e, k)) (omega (arith, e, k))), ((λ e. spelt-out (omega (arith, e, k)) (omega (arith, e, k))), (s .not-string, (s .not-name, ((λ e. r .0 .0 .1 (k ∙ e)), tt)))))))))))))))
+no-operand {x} {y} k s r h =
+    unlisted operand y (
+      s .not-plus,
+      (
+        s .not-not,
+        (
+          s .not-minus,
+          (
+            s .not-caret,
+            (
+              (λ e. r .1 (k ∙ e)),
+              (
+                (λ e. r .0 .0 .0 .1 (k ∙ e)),
+                (
+                  s .not-paren,
+                  (
+                    (λ e. r .0 .1 (k ∙ e)),
+                    (
+                      s .not-number,
+                      (
+                        (λ e. spelt-out (omega (arith, e, k)) (omega (arith, e, k))),
+                        (
+                          (λ e. spelt-out (omega (arith, e, k)) (omega (arith, e, k))),
+                          ((λ e. spelt-out (omega (arith, e, k)) (omega (arith, e, k))), (s .not-string, (s .not-name, ((λ e. r .0 .0 .1 (k ∙ e)), tt)))),
+                        ),
+                      ),
+                    ),
+                  ),
+                ),
+              ),
+            ),
+          ),
+        ),
+      ),
+    )
   where
     spelt-out : True ≤ x → x < NumberLiteral → ⊥
     spelt-out i j = let d : NumberLiteral ≤ x = h i in omega (arith, d, j)
@@ -80,22 +120,26 @@ pub operator-goes : {x l : ℕ} → l ≡ level x → l < 6 → x ≡ Eof → �
 operator-goes {x} {l} e h d = let z : l ≡ 6 = e ∙ ap level d in omega (arith, z)
 
 -- the kind that was read is one that the table lists
-pub picked-as : {text ts : List ℕ} {limit : ℕ} {h : Node → Handle} {p : Form} {o x k : ℕ} {s : State} {ns ls ys ss : List ℕ} (r : Read) (t : Table) → k ≡ kind ts (s .cursor .at) → k ≡ x → kaori t x ≡ p → Answered text ts limit h (whole p) o s ns ls ys ss r → Answered text ts limit h (whole (choice t)) o s ns ls ys ss r
+pub picked-as : {ts : List ℕ} {limit : ℕ} {h : Node → Handle} {p : Form} {o x k : ℕ} {s : State} {ns ls ss : List ℕ} (r : Read) (t : Table) → k ≡ kind ts (s .cursor .at) → k ≡ x →
+    kaori t x ≡ p → Answered ts limit h (whole p) o s ns ls ss r → Answered ts limit h (whole (choice t)) o s ns ls ss r
 picked-as r t k e z a = picked r (ap (kaori t) (sym k ∙ e) ∙ z) a
 
 -- two operands and the operator between them make what `joined` writes
-joined-row : (text ts : List ℕ) (a b : ℕ) (n m : Node) (c : Cursor) (ns ls ys ss : List ℕ) →
-    make text ts (Label.Row (joining (kind ts a))) a b (written (state ns ls ys ss c)) (node-of n ∷ []) (node-of m ∷ []) ≡ entered-alone c ns ls ys (number-of (joining (kind ts a))) (n .start) (m .end) (joined-fields (kind ts a) (n .id) (m .id))
+joined-row : (ts : List ℕ) (a b : ℕ) (n m : Node) (c : Cursor) (ns ls ss : List ℕ) →
+    make ts (names-of ts ss) (Label.Row (joining (kind ts a))) a b (written (state ns ls ss c)) (node-of n ∷ []) (node-of m ∷ []) ≡ entered-alone c ns ls (number-of (joining (kind ts a)))
+    (n .start) (m .end) (joined-fields (kind ts a) (n .id) (m .id))
 unfolding make put fill numbers write rule
-joined-row text ts a b n m c ns ls ys ss = pick (eqb (kind ts a) And) (eqb (kind ts a) Or)
+joined-row ts a b n m c ns ls ss = pick (eqb (kind ts a) And) (eqb (kind ts a) Or)
   where
     pick : (d e : Bool) →
-        make text ts (Label.Row (cond d label.Node.LogicalAnd (cond e label.Node.LogicalOr label.Node.Binary))) a b (written (state ns ls ys ss c)) (node-of n ∷ []) (node-of m ∷ []) ≡
-        entered-alone c ns ls ys (number-of (cond d label.Node.LogicalAnd (cond e label.Node.LogicalOr label.Node.Binary))) (n .start) (m .end) (cond d (n .id ∷ m .id ∷ []) (cond e (n .id ∷ m .id ∷ []) (place (kind ts a) binary-operators ∷ n .id ∷ m .id ∷ [])))
+        make ts (names-of ts ss) (Label.Row (cond d label.Node.LogicalAnd (cond e label.Node.LogicalOr label.Node.Binary))) a b (written (state ns ls ss c)) (node-of n ∷ []) (node-of m ∷ []) ≡
+        entered-alone c ns ls (number-of (cond d label.Node.LogicalAnd (cond e label.Node.LogicalOr label.Node.Binary))) (n .start) (m .end)
+        (cond d (n .id ∷ m .id ∷ []) (cond e (n .id ∷ m .id ∷ []) (place (kind ts a) binary-operators ∷ n .id ∷ m .id ∷ [])))
     pick true e = refl
     pick false true = refl
     pick false false = refl
 
-pub operator-made : {text ts : List ℕ} {a x : ℕ} {n m k : Node} {c : Cursor} {ns ns′ ls ys ss : List ℕ} → x ≡ kind ts a → Inserted (c .nodes) (number-of (joining x)) (n .start) (m .end) (joined-fields x (n .id) (m .id)) ns ns′ k → 9 * c .nodes ≤ length ns →
-    Made text ts (Label.Row (joining (kind ts a))) a (state ns ls ys ss c) (node-of n ∷ []) (node-of m ∷ []) (node-of k ∷ []) (state ns′ ls ys ss (grown c))
-operator-made {text} {ts} {a} {n = n} {m = m} {c = c} {ns = ns} {ls = ls} {ys = ys} {ss = ss} e i h = row-made (rw e at i) h (joined-row text ts a (c .at) n m c ns ls ys ss)
+pub operator-made : {ts : List ℕ} {a x : ℕ} {n m k : Node} {c : Cursor} {ns ns′ ls ss : List ℕ} → x ≡ kind ts a →
+    Inserted (c .nodes) (number-of (joining x)) (n .start) (m .end) (joined-fields x (n .id) (m .id)) ns ns′ k → 9 * c .nodes ≤ length ns →
+    Made ts (Label.Row (joining (kind ts a))) a (state ns ls ss c) (node-of n ∷ []) (node-of m ∷ []) (node-of k ∷ []) (state ns′ ls ss (grown c))
+operator-made {ts} {a} {n = n} {m = m} {c = c} {ns = ns} {ls = ls} {ss = ss} e i h = row-made (rw e at i) h (joined-row ts a (c .at) n m c ns ls ss)

@@ -1,10 +1,9 @@
 -- Answers of parts make an answer of the whole.
-use Prim.Native.Nat.{ℕ, _+_, _*_, _≤_, _<_}
+use Prim.Native.Nat.{ℕ, _+_, _≤_, _<_}
 use native.Mathlib.Numerals.{add-one}
 use native.Mathlib.Omega.{arith}
 use mathlib.Core.List.{List, [], _∷_}
 use mathlib.Core.Path.{_≡_}
-use lib.ListN.{take}
 use Rattle.ast.specs.declared.Node.{Node}
 use Rattle.grammar.specs.Handle.{Handle}
 use Rattle.grammar.specs.Kaori.{Form, Table, kaori, block-items}
@@ -12,7 +11,6 @@ use Rattle.grammar.specs.Label.{Label}
 use Rattle.grammar.specs.Phrase.{empty, part, nested, node, chain, once, Aim, whole, begun}
 use Rattle.grammar.specs.Refusal.{Refused, refused, Refuses}
 use Rattle.grammar.specs.Token.{kind, start, end, count}
-use Rattle.interner.specs.Table.{Table as Symbols}
 use Rattle.reading.specs.Answers.{next, Took, Consumed, Answer-case, Answered, Listed, List-case, Lists, Filled, Fill-case, Fills, Stated, State-case, States}
 use Rattle.reading.specs.Reading.{form, refusal, Reading, Success, Refusing}
 use Rattle.reading.specs.State.{State, state, Ready}
@@ -33,68 +31,70 @@ module _ {ts : List ℕ} {c : Cursor} {x : ℕ} {r : Read} where
   token-taken e z = let y = (rw e at z) .says in record { kind-is = y .0; node-is = y .1; after = y .2 }
 
 -- what was learnt of a node, named by the answer that it is read from
-module _ {text ts : List ℕ} {limit : ℕ} where
-  module _ {h : Node → Handle} {g : Aim Table Label} {o : ℕ} {s : State} {ns ls ys ss : List ℕ} where
-    pub success : {r : Read} {n : Node} {c : Cursor} → r ≡ Read.Node n c → Answered text ts limit h g o s ns ls ys ss r → Success text ts limit g o s (h n ∷ []) (state ns ls ys ss c)
+module _ {ts : List ℕ} {limit : ℕ} where
+  module _ {h : Node → Handle} {g : Aim Table Label} {o : ℕ} {s : State} {ns ls ss : List ℕ} where
+    pub success : {r : Read} {n : Node} {c : Cursor} → r ≡ Read.Node n c → Answered ts limit h g o s ns ls ss r → Success ts limit g o s (h n ∷ []) (state ns ls ss c)
     unfolding Answer-case
     success e a = (rw e at a) .says
 
-    abbrev pub Told : {r : Read} → Answered text ts limit h g o s ns ls ys ss r → Node → Cursor → Type 0
-    Told a n c = Success text ts limit g o s (h n ∷ []) (state ns ls ys ss c)
+    abbrev pub Told : {r : Read} → Answered ts limit h g o s ns ls ss r → Node → Cursor → Type 0
+    Told a n c = Success ts limit g o s (h n ∷ []) (state ns ls ss c)
 
-    pub refuse : {q : Refusal} → Refusing ts limit (form g) o s (refusal q) → Answered text ts limit h g o s ns ls ys ss (Read.Refused q)
+    pub refuse : {q : Refusal} → Refusing ts limit (form g) o s (refusal q) → Answered ts limit h g o s ns ls ss (Read.Refused q)
     unfolding Answer-case
     refuse z = record { says = z }
 
-    pub answered : {n : Node} {c : Cursor} → Success text ts limit g o s (h n ∷ []) (state ns ls ys ss c) → Answered text ts limit h g o s ns ls ys ss (Read.Node n c)
+    pub answered : {n : Node} {c : Cursor} → Success ts limit g o s (h n ∷ []) (state ns ls ss c) → Answered ts limit h g o s ns ls ss (Read.Node n c)
     unfolding Answer-case
     answered z = record { says = z }
 
     -- a reading that has a token for each of its nodes
-    pub answer : {n : Node} {c : Cursor} → Ready text ts limit o s → Paid (form g) → c .at < count ts → Symbols text (take (2 * c .symbols) ys) → Reading text ts limit g o s (h n ∷ []) [] (state ns ls ys ss c) → Answered text ts limit h g o s ns ls ys ss (Read.Node n c)
-    answer w p a t r = answered (record { reading = r; within = arrived (w .within) p a t r; past = bound (w .within) p a r .past })
+    pub answer : {n : Node} {c : Cursor} → Ready ts limit o s → Paid (form g) → c .at < count ts → Reading ts limit g o s (h n ∷ []) [] (state ns ls ss c) →
+        Answered ts limit h g o s ns ls ss (Read.Node n c)
+    answer w p a r = answered (record { reading = r; within = arrived (w .within) p a r; past = bound (w .within) p a r .past })
 
     -- a required token is missing
     pub lacks : {c : Cursor} {x : ℕ} {r : Read} {q : Refusal} → r ≡ Read.Refused q → Consumed ts c x r →
-        ((kind ts (c .at) ≡ x → ⊥) → Refusing ts limit (form g) o s (refused 8 (c .at) x)) → Answered text ts limit h g o s ns ls ys ss r
+        ((kind ts (c .at) ≡ x → ⊥) → Refusing ts limit (form g) o s (refused 8 (c .at) x)) → Answered ts limit h g o s ns ls ss r
     unfolding Answer-case Took
     lacks {q = q} e z up = let y = (rw e at z) .says in rw (e, y .1) (record { says = up (y .0) })
 
     module _ {h′ : Node → Handle} {g′ : Aim Table Label} {o′ : ℕ} {s′ : State} where
       -- a refusal of a part
-      pub passed : {r : Read} {q : Refusal} → r ≡ Read.Refused q → Answered text ts limit h′ g′ o′ s′ ns ls ys ss r →
-          ((x : Refused) → Refusing ts limit (form g′) o′ s′ x → Refusing ts limit (form g) o s x) → Answered text ts limit h g o s ns ls ys ss r
+      pub passed : {r : Read} {q : Refusal} → r ≡ Read.Refused q → Answered ts limit h′ g′ o′ s′ ns ls ss r →
+          ((x : Refused) → Refusing ts limit (form g′) o′ s′ x → Refusing ts limit (form g) o s x) → Answered ts limit h g o s ns ls ss r
       unfolding Answer-case
       passed {q = q} e a up = rw e (record { says = up (refusal q) ((rw e at a) .says) })
 
     -- of a list
-    pub passed-list : {g′ : Aim Table Label} {o′ : ℕ} {s′ : State} {r : Read} {q : Refusal} → r ≡ Read.Refused q → Lists text ts limit g′ o′ s′ ns ls ys ss r →
-        ((x : Refused) → Refusing ts limit (form g′) o′ s′ x → Refusing ts limit (form g) o s x) → Answered text ts limit h g o s ns ls ys ss r
+    pub passed-list : {g′ : Aim Table Label} {o′ : ℕ} {s′ : State} {r : Read} {q : Refusal} → r ≡ Read.Refused q → Lists ts limit g′ o′ s′ ns ls ss r →
+        ((x : Refused) → Refusing ts limit (form g′) o′ s′ x → Refusing ts limit (form g) o s x) → Answered ts limit h g o s ns ls ss r
     unfolding Answer-case List-case
     passed-list {q = q} e a up = rw e (record { says = up (refusal q) ((rw e at a) .says) })
 
-    pub passed-fill : {o′ : ℕ} {s′ : State} {r : Read} {q : Refusal} → r ≡ Read.Refused q → Fills text ts limit o′ s′ ns ls ys ss r →
-        ((x : Refused) → Refusing ts limit (chain empty block-items) o′ s′ x → Refusing ts limit (form g) o s x) → Answered text ts limit h g o s ns ls ys ss r
+    pub passed-fill : {o′ : ℕ} {s′ : State} {r : Read} {q : Refusal} → r ≡ Read.Refused q → Fills ts limit o′ s′ ns ls ss r →
+        ((x : Refused) → Refusing ts limit (chain empty block-items) o′ s′ x → Refusing ts limit (form g) o s x) → Answered ts limit h g o s ns ls ss r
     unfolding Answer-case Fill-case
     passed-fill {q = q} e a up = rw e (record { says = up (refusal q) ((rw e at a) .says) })
 
     -- an answer of a part that is an answer of the whole, from the same place
-    pub mapped : {g′ : Aim Table Label} {o′ : ℕ} {s′ : State} (r : Read) → s .cursor .at ≤ s′ .cursor .at → Answered text ts limit h g′ o′ s′ ns ls ys ss r →
-        ((n : Node) (c : Cursor) → Reading text ts limit g′ o′ s′ (h n ∷ []) [] (state ns ls ys ss c) → Reading text ts limit g o s (h n ∷ []) [] (state ns ls ys ss c)) →
-        ((x : Refused) → Refusing ts limit (form g′) o′ s′ x → Refusing ts limit (form g) o s x) → Answered text ts limit h g o s ns ls ys ss r
+    pub mapped : {g′ : Aim Table Label} {o′ : ℕ} {s′ : State} (r : Read) → s .cursor .at ≤ s′ .cursor .at → Answered ts limit h g′ o′ s′ ns ls ss r →
+        ((n : Node) (c : Cursor) → Reading ts limit g′ o′ s′ (h n ∷ []) [] (state ns ls ss c) → Reading ts limit g o s (h n ∷ []) [] (state ns ls ss c)) →
+        ((x : Refused) → Refusing ts limit (form g′) o′ s′ x → Refusing ts limit (form g) o s x) → Answered ts limit h g o s ns ls ss r
     unfolding Answer-case
     mapped (Read.Node n c) i a f up = record { says = record { reading = f n c (a .says .reading); within = a .says .within; past = omega (arith, a .says .past) } }
     mapped (Read.Refused q) i a f up = record { says = up (refusal q) (a .says) }
 
-  pub listed : {g : Aim Table Label} {o : ℕ} {s : State} {ns ls ys ss : List ℕ} {r : Read} {n : Node} {c : Cursor} → r ≡ Read.Node n c → Lists text ts limit g o s ns ls ys ss r → Listed text ts limit g o s (state ns ls ys ss c)
+  pub listed : {g : Aim Table Label} {o : ℕ} {s : State} {ns ls ss : List ℕ} {r : Read} {n : Node} {c : Cursor} → r ≡ Read.Node n c → Lists ts limit g o s ns ls ss r →
+      Listed ts limit g o s (state ns ls ss c)
   unfolding List-case
   listed e a = (rw e at a) .says .1
 
-  pub filled : {o : ℕ} {s : State} {ns ls ys ss : List ℕ} {r : Read} {n : Node} {c : Cursor} → r ≡ Read.Node n c → Fills text ts limit o s ns ls ys ss r → Filled text ts limit o s n (state ns ls ys ss c)
+  pub filled : {o : ℕ} {s : State} {ns ls ss : List ℕ} {r : Read} {n : Node} {c : Cursor} → r ≡ Read.Node n c → Fills ts limit o s ns ls ss r → Filled ts limit o s n (state ns ls ss c)
   unfolding Fill-case
   filled e a = (rw e at a) .says
 
-  pub stated : {o : ℕ} {s : State} {ns ls ys ss : List ℕ} {r : Read} {n : Node} {c : Cursor} → r ≡ Read.Node n c → States text ts limit o s ns ls ys ss r → Stated text ts limit o s n (state ns ls ys ss c)
+  pub stated : {o : ℕ} {s : State} {ns ls ss : List ℕ} {r : Read} {n : Node} {c : Cursor} → r ≡ Read.Node n c → States ts limit o s ns ls ss r → Stated ts limit o s n (state ns ls ss c)
   unfolding State-case
   stated e a = (rw e at a) .says
 
@@ -102,12 +102,14 @@ module _ {text ts : List ℕ} {limit : ℕ} where
 pub inside : {k : ℕ → ℕ} {limit o a : ℕ} {p : Form} {q : Refused} → o < limit → Refuses kaori k limit p (o + 1) a q → Refuses kaori k limit (nested p) o a q
 inside h r = Refuses.inside h (rw add-one at r)
 
-module _ {text ts : List ℕ} {limit o : ℕ} {q : Refused} {xs ys : List Handle} {s s′ : State} where
-  pub after : {p r : Form} → Reading text ts limit (whole p) o s xs ys s′ → Refusing ts limit r o s′ q → Refusing ts limit (part p r) o s q
+module _ {ts : List ℕ} {limit o : ℕ} {q : Refused} {xs ys : List Handle} {s s′ : State} where
+  pub after : {p r : Form} → Reading ts limit (whole p) o s xs ys s′ → Refusing ts limit r o s′ q → Refusing ts limit (part p r) o s q
   after r h = Refuses.in-second (r .reads) (r .fits) h
 
-  pub further : {t : Table} {f : Label} {p r : Form} → Reading text ts limit (begun p t) o s xs ys s′ → kaori t (kind ts (s′ .cursor .at)) ≡ node f r → Refusing ts limit r o s′ q → Refusing ts limit (chain p t) o s q
+  pub further : {t : Table} {f : Label} {p r : Form} → Reading ts limit (begun p t) o s xs ys s′ → kaori t (kind ts (s′ .cursor .at)) ≡ node f r → Refusing ts limit r o s′ q →
+      Refusing ts limit (chain p t) o s q
   further b e h = Refuses.in-link (b .reads) (b .fits) e h
 
-  pub after-once : {t : Table} {f : Label} {p r : Form} → Reading text ts limit (whole p) o s xs ys s′ → kaori t (kind ts (s′ .cursor .at)) ≡ node f r → Refusing ts limit r o s′ q → Refusing ts limit (once p t) o s q
+  pub after-once : {t : Table} {f : Label} {p r : Form} → Reading ts limit (whole p) o s xs ys s′ → kaori t (kind ts (s′ .cursor .at)) ≡ node f r → Refusing ts limit r o s′ q →
+      Refusing ts limit (once p t) o s q
   after-once b e h = Refuses.in-joined (b .reads) (b .fits) e h

@@ -19,7 +19,7 @@ use Rattle.reading.specs.declared.Read.{Read}
 
 -- one token further
 abbrev pub next : Cursor → Cursor
-next c = record { at = c .at + 1; nodes = c .nodes; links = c .links; symbols = c .symbols; held = c .held }
+next c = record { at = c .at + 1; nodes = c .nodes; links = c .links; held = c .held }
 
 -- what a reader's node stands for
 abbrev pub node-of : Node → Handle
@@ -41,7 +41,7 @@ tail-of h = cond (is-tail h) h Handle.other
 
 -- a state with so much held
 abbrev pub holding : ℕ → State → State
-holding k s = state (s .nodes) (s .links) (s .symbols) (s .scratch) (record { at = s .cursor .at; nodes = s .cursor .nodes; links = s .cursor .links; symbols = s .cursor .symbols; held = k })
+holding k s = state (s .nodes) (s .links) (s .scratch) (record { at = s .cursor .at; nodes = s .cursor .nodes; links = s .cursor .links; held = k })
 
 -- a token of a certain kind was taken, or it was missing
 unfoldable pub Took : List ℕ → Cursor → ℕ → Read → Type 0
@@ -51,49 +51,49 @@ Took ts c x (Read.Refused q) = (kind ts (c .at) ≡ x → ⊥) × (q ≡ record 
 pub record Consumed (ts : List ℕ) (c : Cursor) (x : ℕ) (r : Read) : Type 0 where
   pub says : Took ts c x r
 
-module _ (text ts : List ℕ) (limit : ℕ) where
-  unfoldable pub Answer-case : (Node → Handle) → Aim Table Label → ℕ → State → (nodes links symbols scratch : List ℕ) → Read → Type 0
-  Answer-case h g o s ns ls ys ss (Read.Node n c) = Success text ts limit g o s (h n ∷ []) (state ns ls ys ss c)
-  Answer-case h g o s ns ls ys ss (Read.Refused q) = Refusing ts limit (form g) o s (refusal q)
+module _ (ts : List ℕ) (limit : ℕ) where
+  unfoldable pub Answer-case : (Node → Handle) → Aim Table Label → ℕ → State → (nodes links scratch : List ℕ) → Read → Type 0
+  Answer-case h g o s ns ls ss (Read.Node n c) = Success ts limit g o s (h n ∷ []) (state ns ls ss c)
+  Answer-case h g o s ns ls ss (Read.Refused q) = Refusing ts limit (form g) o s (refusal q)
 
   -- from s, with o openings taken, the aim is answered by r, and the rooms are these then
-  pub record Answered (h : Node → Handle) (g : Aim Table Label) (o : ℕ) (s : State) (ns ls ys ss : List ℕ) (r : Read) : Type 0 where
-    pub says : Answer-case h g o s ns ls ys ss r
+  pub record Answered (h : Node → Handle) (g : Aim Table Label) (o : ℕ) (s : State) (ns ls ss : List ℕ) (r : Read) : Type 0 where
+    pub says : Answer-case h g o s ns ls ss r
 
   -- items were read, and are held
   pub record Listed (g : Aim Table Label) (o : ℕ) (s s₁ : State) : Type 0 where
     pub items : List Handle
-    pub reading : Reading text ts limit g o s items [] (holding (s .cursor .held) s₁)
+    pub reading : Reading ts limit g o s items [] (holding (s .cursor .held) s₁)
     pub count : s₁ .cursor .held ≡ s .cursor .held + length items
     pub rows : held s₁ ≡ held s ++ links-of items
-    pub within : Within text ts s₁
+    pub within : Within ts s₁
     pub past : s .cursor .at ≤ s₁ .cursor .at
 
-  unfoldable pub List-case : Aim Table Label → ℕ → State → (nodes links symbols scratch : List ℕ) → Read → Type 0
-  List-case g o s ns ls ys ss (Read.Node n c) = (n ≡ blank) × Listed g o s (state ns ls ys ss c)
-  List-case g o s ns ls ys ss (Read.Refused q) = Refusing ts limit (form g) o s (refusal q)
+  unfoldable pub List-case : Aim Table Label → ℕ → State → (nodes links scratch : List ℕ) → Read → Type 0
+  List-case g o s ns ls ss (Read.Node n c) = (n ≡ blank) × Listed g o s (state ns ls ss c)
+  List-case g o s ns ls ss (Read.Refused q) = Refusing ts limit (form g) o s (refusal q)
 
-  pub record Lists (g : Aim Table Label) (o : ℕ) (s : State) (ns ls ys ss : List ℕ) (r : Read) : Type 0 where
-    pub says : List-case g o s ns ls ys ss r
+  pub record Lists (g : Aim Table Label) (o : ℕ) (s : State) (ns ls ss : List ℕ) (r : Read) : Type 0 where
+    pub says : List-case g o s ns ls ss r
 
   -- a block's statements were read: n has the tail's row, or absent, and the others are held
   pub record Filled (o : ℕ) (s : State) (n : Node) (s₁ : State) : Type 0 where
     pub items : List Handle
-    pub reading : Reading text ts limit (whole (chain empty block-items)) o s items [] (holding (s .cursor .held) s₁)
+    pub reading : Reading ts limit (whole (chain empty block-items)) o s items [] (holding (s .cursor .held) s₁)
     pub tail : n .id ≡ row (block-tail items)
     pub start-is : n .start ≡ 0
     pub end-is : n .end ≡ 0
     pub count : s₁ .cursor .held ≡ s .cursor .held + length (block-list items)
     pub rows : held s₁ ≡ held s ++ links-of (block-list items)
-    pub within : Within text ts s₁
+    pub within : Within ts s₁
     pub past : s .cursor .at ≤ s₁ .cursor .at
 
-  unfoldable pub Fill-case : ℕ → State → (nodes links symbols scratch : List ℕ) → Read → Type 0
-  Fill-case o s ns ls ys ss (Read.Node n c) = Filled o s n (state ns ls ys ss c)
-  Fill-case o s ns ls ys ss (Read.Refused q) = Refusing ts limit (chain empty block-items) o s (refusal q)
+  unfoldable pub Fill-case : ℕ → State → (nodes links scratch : List ℕ) → Read → Type 0
+  Fill-case o s ns ls ss (Read.Node n c) = Filled o s n (state ns ls ss c)
+  Fill-case o s ns ls ss (Read.Refused q) = Refusing ts limit (chain empty block-items) o s (refusal q)
 
-  pub record Fills (o : ℕ) (s : State) (ns ls ys ss : List ℕ) (r : Read) : Type 0 where
-    pub says : Fill-case o s ns ls ys ss r
+  pub record Fills (o : ℕ) (s : State) (ns ls ss : List ℕ) (r : Read) : Type 0 where
+    pub says : Fill-case o s ns ls ss r
 
   -- a statement was read: n has its row, and at its end the row once more if it may be a tail
   pub record Stated (o : ℕ) (s : State) (n : Node) (s′ : State) : Type 0 where
@@ -101,11 +101,11 @@ module _ (text ts : List ℕ) (limit : ℕ) where
     pub row-is : row handle ≡ n .id
     pub start-is : n .start ≡ 0
     pub tail-is : row (tail-of handle) ≡ n .end
-    pub success : Success text ts limit (whole (choice statement)) o s (handle ∷ []) s′
+    pub success : Success ts limit (whole (choice statement)) o s (handle ∷ []) s′
 
-  unfoldable pub State-case : ℕ → State → (nodes links symbols scratch : List ℕ) → Read → Type 0
-  State-case o s ns ls ys ss (Read.Node n c) = Stated o s n (state ns ls ys ss c)
-  State-case o s ns ls ys ss (Read.Refused q) = Refusing ts limit (choice statement) o s (refusal q)
+  unfoldable pub State-case : ℕ → State → (nodes links scratch : List ℕ) → Read → Type 0
+  State-case o s ns ls ss (Read.Node n c) = Stated o s n (state ns ls ss c)
+  State-case o s ns ls ss (Read.Refused q) = Refusing ts limit (choice statement) o s (refusal q)
 
-  pub record States (o : ℕ) (s : State) (ns ls ys ss : List ℕ) (r : Read) : Type 0 where
-    pub says : State-case o s ns ls ys ss r
+  pub record States (o : ℕ) (s : State) (ns ls ss : List ℕ) (r : Read) : Type 0 where
+    pub says : State-case o s ns ls ss r

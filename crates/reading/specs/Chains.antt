@@ -10,11 +10,11 @@ use Rattle.reading.specs.Reading.{refusal, Reading, Refusing}
 use Rattle.reading.specs.State.{State, state, Within, Rooms}
 use Rattle.reading.specs.declared.Read.{Read}
 
-module _ (text ts : List ℕ) (limit : ℕ) where
+module _ (ts : List ℕ) (limit : ℕ) where
   -- whatever chain stands at s₀ with the node n stands at s₁ with the node m, as the aim says
   pub record Going (p : Form) (t : Table) (g : Aim Table Label) (o : ℕ) (s₀ : State) (n : Node) (s₁ : State) (m : Node) : Type 0 where
-    pub grown : (s : State) → Reading text ts limit (begun p t) o s (node-of n ∷ []) [] s₀ → Reading text ts limit g o s (node-of m ∷ []) [] s₁
-    pub within : Within text ts s₁
+    pub grown : (s : State) → Reading ts limit (begun p t) o s (node-of n ∷ []) [] s₀ → Reading ts limit g o s (node-of m ∷ []) [] s₁
+    pub within : Within ts s₁
     pub rooms : Rooms s₀ s₁
     pub past : s₀ .cursor .at ≤ s₁ .cursor .at
 
@@ -23,10 +23,10 @@ module _ (text ts : List ℕ) (limit : ℕ) where
     pub going : Going p t g o s₀ n s₁ m
     pub far : a ≤ s₁ .cursor .at
 
-  unfoldable pub Further : Form → Table → Aim Table Label → ℕ → State → Node → ℕ → (nodes links symbols scratch : List ℕ) → Read → Type 0
-  Further p t g o s₀ n a ns ls ys ss (Read.Node m c) = Gone p t g o s₀ n a (state ns ls ys ss c) m
-  Further p t g o s₀ n a ns ls ys ss (Read.Refused q) = (s : State) → Reading text ts limit (begun p t) o s (node-of n ∷ []) [] s₀ → Refusing ts limit (chain p t) o s (refusal q)
+  unfoldable pub Further : Form → Table → Aim Table Label → ℕ → State → Node → ℕ → (nodes links scratch : List ℕ) → Read → Type 0
+  Further p t g o s₀ n a ns ls ss (Read.Node m c) = Gone p t g o s₀ n a (state ns ls ss c) m
+  Further p t g o s₀ n a ns ls ss (Read.Refused q) = (s : State) → Reading ts limit (begun p t) o s (node-of n ∷ []) [] s₀ → Refusing ts limit (chain p t) o s (refusal q)
 
   -- the chain at s₀ goes on as r answers, and the rooms are these then
-  pub record Onward (p : Form) (t : Table) (g : Aim Table Label) (o : ℕ) (s₀ : State) (n : Node) (a : ℕ) (ns ls ys ss : List ℕ) (r : Read) : Type 0 where
-    pub says : Further p t g o s₀ n a ns ls ys ss r
+  pub record Onward (p : Form) (t : Table) (g : Aim Table Label) (o : ℕ) (s₀ : State) (n : Node) (a : ℕ) (ns ls ss : List ℕ) (r : Read) : Type 0 where
+    pub says : Further p t g o s₀ n a ns ls ss r

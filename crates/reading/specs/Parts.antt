@@ -10,7 +10,8 @@ use Rattle.ast.specs.Written.{Written}
 use Rattle.ast.specs.declared.Node.{Node}
 use Rattle.grammar.specs.Handle.{absent}
 use Rattle.grammar.specs.Kaori.{Form, Table, look, import, block, conditional, function, while-loop, leaf, return, binding, assignment, may-end, must-end}
-use Rattle.grammar.specs.Kind.{Plus, Minus, Caret, Comma, Pipe, LeftParen, RightParen, Not, LeftBrace, RightBrace, And, Or, Let, Const, Ref, Function, For, While, Break, Continue, If, Return, Import, True, False, Nil, NumberLiteral, Semicolon, StringLiteral, Identifier}
+use Rattle.grammar.specs.Kind.{Plus, Minus, Caret, Comma, Pipe, LeftParen, RightParen, Not, LeftBrace, RightBrace, And, Or, Let, Const, Ref, Function, For}
+use Rattle.grammar.specs.Kind.{While, Break, Continue, If, Return, Import, True, False, Nil, NumberLiteral, Semicolon, StringLiteral, Identifier}
 use Rattle.grammar.specs.Label.{Node as Form-of}
 use Rattle.grammar.specs.Operator.{place, binary-operators}
 use Rattle.grammar.specs.Phrase.{refusal}
@@ -27,9 +28,13 @@ Separates ts n c z (Read.Refused q) = (kind ts (c .at) ≡ z → ⊥) × (kind t
 pub record Separated (ts : List ℕ) (n : Node) (c : Cursor) (z : ℕ) (r : Read) : Type 0 where
   pub says : Separates ts n c z r
 
+-- one node row more
+abbrev pub grown : Cursor → Cursor
+grown c = record { at = c .at; nodes = c .nodes + 1; links = c .links; held = c .held }
+
 -- the rows held since `base` are links, and are held no more
 pub record Gathered (base : ℕ) (c : Cursor) (scratch before after : List ℕ) (d : Cursor) : Type 0 where
-  pub cursor : d ≡ record { at = c .at; nodes = c .nodes; links = c .links + (c .held - base); symbols = c .symbols; held = base }
+  pub cursor : d ≡ record { at = c .at; nodes = c .nodes; links = c .links + (c .held - base); held = base }
   pub links : Written (3 * c .links) (3 * (c .links + (c .held - base))) (take (3 * (c .held - base)) (drop (3 * base) scratch)) before after
 
 -- the form of a statement that starts with a token of this kind, and what ends it
@@ -57,11 +62,13 @@ pub record Ended (ts : List ℕ) (n : Node) (c : Cursor) (x : ℕ) (r : Read) : 
 -- a tail is not held
 pub record Untailed (tail : ℕ) (c : Cursor) (r : Read) : Type 0 where
   pub none : tail ≡ absent → r ≡ Read.Node (record { id = tail; start = 0; end = 0 }) c
-  pub one : (tail ≡ absent → ⊥) → r ≡ Read.Node (record { id = tail; start = 0; end = 0 }) (record { at = c .at; nodes = c .nodes; links = c .links; symbols = c .symbols; held = c .held - 1 })
+  pub one : (tail ≡ absent → ⊥) → r ≡ Read.Node (record { id = tail; start = 0; end = 0 }) (record { at = c .at; nodes = c .nodes; links = c .links; held = c .held - 1 })
 
 -- the node of a token of this kind alone, and that of a binding
 abbrev pub single-node : ℕ → Form-of
-single-node x = cond (eqb x Break) Form-of.Break (cond (eqb x Continue) Form-of.Continue (cond (eqb x True) Form-of.Boolean (cond (eqb x False) Form-of.Boolean (cond (eqb x Nil) Form-of.Nil Form-of.Number))))
+single-node x =
+    cond (eqb x Break) Form-of.Break
+    (cond (eqb x Continue) Form-of.Continue (cond (eqb x True) Form-of.Boolean (cond (eqb x False) Form-of.Boolean (cond (eqb x Nil) Form-of.Nil Form-of.Number))))
 
 abbrev pub single-fields : ℕ → List ℕ
 single-fields x = cond (eqb x True) (1 ∷ []) (cond (eqb x False) (0 ∷ []) [])

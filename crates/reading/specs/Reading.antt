@@ -1,4 +1,5 @@
--- What was read: from one state to another the tokens read as a phrase says, no deeper than the limit, and the rooms have just the rows of that reading.
+-- What was read: from one state to another the tokens read as a phrase says, no deeper than the limit, and the rooms have just the rows of that reading. The
+-- symbols are the numbers in the top third of the scratch room, which stay.
 use Prim.Native.Nat.{ℕ, _+_, _≤_}
 use mathlib.Core.List.{List, []}
 use mathlib.Core.Path.{_≡_}
@@ -9,6 +10,7 @@ use Rattle.grammar.specs.Phrase.{chain, Tree, Aim, whole, begun, Reads, depth}
 use Rattle.grammar.specs.Refusal.{Refused, refused, Refuses}
 use Rattle.grammar.specs.Rows.{walk}
 use Rattle.grammar.specs.Token.{kind}
+use Rattle.names.specs.Resolved.{names-of}
 use Rattle.reading.specs.State.{State, written, held, Within, Rooms}
 use Rattle.reading.specs.declared.Refusal.{Refusal}
 
@@ -24,19 +26,20 @@ refusal q = refused (q .code) (q .at) (q .expected)
 abbrev pub Refusing : (ts : List ℕ) (limit : ℕ) → Form → ℕ → State → Refused → Type 0
 Refusing ts limit p o s q = Refuses kaori (kind ts) limit p o (s .cursor .at) q
 
-module _ (text ts : List ℕ) (limit : ℕ) where
+module _ (ts : List ℕ) (limit : ℕ) where
   -- from s to s′, with o openings taken before: the first part made xs, and the rest ys
   pub record Reading (g : Aim Table Label) (o : ℕ) (s : State) (xs ys : List Handle) (s′ : State) : Type 0 where
     pub tree : Tree Label
     pub reads : Reads kaori (kind ts) g (s .cursor .at) (s′ .cursor .at) tree
     pub fits : o + depth tree ≤ limit
-    pub rows : walk text ts tree (written s) ≡ record { rows = written s′; first = xs; rest = ys }
+    pub rows : walk ts (names-of ts (s .scratch)) tree (written s) ≡ record { rows = written s′; first = xs; rest = ys }
     pub holds : s′ .cursor .held ≡ s .cursor .held
     pub same : held s′ ≡ held s
     pub rooms : Rooms s s′
+    pub kept : names-of ts (s′ .scratch) ≡ names-of ts (s .scratch)
 
   -- and what the next reader may count on
   pub record Success (g : Aim Table Label) (o : ℕ) (s : State) (hs : List Handle) (s′ : State) : Type 0 where
     pub reading : Reading g o s hs [] s′
-    pub within : Within text ts s′
+    pub within : Within ts s′
     pub past : s .cursor .at ≤ s′ .cursor .at

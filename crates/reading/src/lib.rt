@@ -1,5 +1,6 @@
 // What the readers stand on: where a reading is, what a reader answers, and the readers that call no other form: tokens, names, lists of names, leaves. A port of the
 // part of parser.rs that needs no recursion. Each reader asks `Ready`: a list that the door let in, a place in it, and rooms with a row for each token.
+pub mod codes;
 pub mod leaves;
 pub mod lists;
 pub mod pieces;
@@ -8,11 +9,10 @@ use ast::Node;
 
 // Where a reading is: the next token, and how many rows each room holds. Lists that are not whole wait on the scratch room as on a stack.
 pub struct Cursor {
-    pub nodes: usize,
-    pub links: usize,
-    pub symbols: usize,
     pub held: usize,
     pub at: usize,
+    pub links: usize,
+    pub nodes: usize,
 }
 
 // Why the reading ends: the code, the token, and the kind that was required there (255: no certain kind).

@@ -2,10 +2,13 @@
 use crate::Cursor;
 use crate::Read;
 use crate::Refusal;
+use crate::codes;
+use crate::pieces::made;
 use ast::Node;
 use ast::room::link;
 use ast::room::push;
-use interner::get_or_intern;
+use names::symbol_at;
+use token::kinds;
 use token::list::end_at;
 use token::list::kind_at;
 use token::list::start_at;
@@ -15,9 +18,9 @@ ghost use Rattle.grammar.specs.Handle.{absent};
 ghost use Rattle.grammar.specs.Kaori as form;
 ghost use Rattle.grammar.specs.Phrase.{part, choice, chain, empty, whole};
 ghost use Rattle.grammar.specs.Token.{count};
-ghost use Rattle.reading.specs.Answers.{node-of, name-of, Consumed, Answered, Lists};
+ghost use Rattle.reading.specs.Answers.{node-of, name-of, Consumed};
+ghost use Rattle.reading.specs.Clauses.{ready, opened, answered, lists};
 ghost use Rattle.reading.specs.Parts.{Closer, Separated, Gathered};
-ghost use Rattle.reading.specs.State.{state, Ready};
 
 // A token of one certain kind: its span. It asks that there is a token.
 // Ruled out: another kind let through; a refusal at the token after it.
@@ -28,15 +31,19 @@ pub fn consume(tokens: &[u32], cur: Cursor, expected: u32) -> Read
     let at = cur.at;
     if kind_at(tokens, at) != expected {
         return Read::Refused(Refusal {
-            code: 8,
+            code: codes::KIND_REQUIRED,
             at: at,
             expected: expected,
         });
     }
     let start = start_at(tokens, at);
     let end = end_at(tokens, at);
-    let mut past = cur;
-    past.at = at + 1;
+    let past = Cursor {
+        held: cur.held,
+        at: at + 1,
+        links: cur.links,
+        nodes: cur.nodes,
+    };
     Read::Node(
         Node {
             id: 0,
@@ -57,7 +64,7 @@ pub fn comma(tokens: &[u32], item: Node, cur: Cursor, closer: u32) -> Read
     if kind_at(tokens, at) == closer {
         return Read::Node(item, cur);
     }
-    let read = consume(tokens, cur, 13);
+    let read = consume(tokens, cur, kinds::COMMA);
     let Read::Node(_, past) = read else {
         return read;
     };
@@ -73,53 +80,46 @@ pub fn gather(links: &mut [u32], scratch: &[u32], base: usize, cur: Cursor) -> C
     let used = cur.links;
     let count = cur.held - base;
     link(links, used, scratch, base, count);
-    let mut past = cur;
-    past.links = used + count;
-    past.held = base;
-    past
+    Cursor {
+        held: base,
+        at: cur.at,
+        links: used + count,
+        nodes: cur.nodes,
+    }
 }
 
 // A name: its symbol and its place. It asks `Ready`.
 // Ruled out: a keyword taken for a name; the symbol of another name.
 pub fn name(
-    text: &[u8],
     tokens: &[u32],
     nodes: &mut [u32],
     links: &mut [u32],
-    symbols: &mut [u32],
     scratch: &mut [u32],
     limit: u32,
     depth: u32,
     cur: Cursor,
 ) -> Read
-    requires { ⌜ Ready (now text) (now tokens) limit depth (state (now nodes) (now links) (now symbols) (now scratch) cur) ⌝ }
-    ensures { λ r. ⌜ Answered (now (text .entry)) (now (tokens .entry)) limit name-of (whole form.name) depth (state (now (nodes .entry)) (now (links .entry)) (now (symbols .entry)) (now (scratch .entry)) cur) (now (nodes .exit)) (now (links .exit)) (now (symbols .exit)) (now (scratch .exit)) r ⌝ }
+    requires { ⌜ ready tokens nodes links scratch limit depth cur ⌝ }
+    ensures { λ r. ⌜ answered name-of (whole form.name) tokens nodes links scratch limit depth cur r ⌝ }
 {
-    let read = consume(tokens, cur, 43);
+    let read = consume(tokens, cur, kinds::IDENTIFIER);
     let Read::Node(place, next) = read else {
         return read;
     };
-    let known = next.symbols;
-    let found = get_or_intern(text, symbols, known, place.start, place.end);
-    let mut past = next;
-    past.symbols = found.count;
-    Read::Node(
-        Node {
-            id: found.symbol,
-            start: place.start,
-            end: place.end,
-        },
-        past,
-    )
+    let at = cur.at;
+    let word = Node {
+        id: symbol_at(tokens, scratch, at),
+        start: place.start,
+        end: place.end,
+    };
+    Read::Node(word, next)
 }
 
 // A name, and the comma after it.
 fn listed(
-    text: &[u8],
     tokens: &[u32],
     nodes: &mut [u32],
     links: &mut [u32],
-    symbols: &mut [u32],
     scratch: &mut [u32],
     limit: u32,
     depth: u32,
@@ -127,20 +127,10 @@ fn listed(
     closer: u32,
 ) -> Read
     requires { ⌜ Closer closer ⌝ }
-    requires { ⌜ Ready (now text) (now tokens) limit depth (state (now nodes) (now links) (now symbols) (now scratch) cur) ⌝ }
-    ensures { λ r. ⌜ Answered (now (text .entry)) (now (tokens .entry)) limit name-of (whole (part form.name (choice (form.comma closer)))) depth (state (now (nodes .entry)) (now (links .entry)) (now (symbols .entry)) (now (scratch .entry)) cur) (now (nodes .exit)) (now (links .exit)) (now (symbols .exit)) (now (scratch .exit)) r ⌝ }
+    requires { ⌜ ready tokens nodes links scratch limit depth cur ⌝ }
+    ensures { λ r. ⌜ answered name-of (whole (part form.name (choice (form.comma closer)))) tokens nodes links scratch limit depth cur r ⌝ }
 {
-    let read = name(
-        text,
-        tokens,
-        nodes,
-        links,
-        symbols,
-        scratch,
-        limit,
-        depth,
-        cur,
-    );
+    let read = name(tokens, nodes, links, scratch, limit, depth, cur);
     let Read::Node(item, end) = read else {
         return read;
     };
@@ -150,11 +140,9 @@ fn listed(
 // Names up to a closer, held as a list. It asks `Ready`, and `|`, `)` or `;` for the closer.
 // Ruled out: a name after which neither the closer nor a comma stands; a second comma after the last name.
 pub fn names(
-    text: &[u8],
     tokens: &[u32],
     nodes: &mut [u32],
     links: &mut [u32],
-    symbols: &mut [u32],
     scratch: &mut [u32],
     limit: u32,
     depth: u32,
@@ -162,35 +150,28 @@ pub fn names(
     closer: u32,
 ) -> Read
     requires { ⌜ Closer closer ⌝ }
-    requires { ⌜ Ready (now text) (now tokens) limit depth (state (now nodes) (now links) (now symbols) (now scratch) cur) ⌝ }
-    ensures { λ r. ⌜ Lists (now (text .entry)) (now (tokens .entry)) limit (whole (chain empty (form.names closer))) depth (state (now (nodes .entry)) (now (links .entry)) (now (symbols .entry)) (now (scratch .entry)) cur) (now (nodes .exit)) (now (links .exit)) (now (symbols .exit)) (now (scratch .exit)) r ⌝ }
+    requires { ⌜ opened tokens nodes links scratch limit depth cur ⌝ }
+    ensures { λ r. ⌜ lists (whole (chain empty (form.names closer))) tokens nodes links scratch limit depth cur r ⌝ }
 {
     let mut now = cur;
     'list: loop {
         let at = now.at;
         let kind = kind_at(tokens, at);
-        if kind == closer || kind == 44 {
+        if kind == closer || kind == kinds::EOF {
             break 'list;
         }
-        let read = listed(
-            text,
-            tokens,
-            nodes,
-            links,
-            symbols,
-            scratch,
-            limit,
-            depth,
-            now,
-            closer,
-        );
+        let read = listed(tokens, nodes, links, scratch, limit, depth, now, closer);
         let Read::Node(item, end) = read else {
             return read;
         };
         let held = end.held;
         push(scratch, held, item.id, item.start, item.end);
-        now = end;
-        now.held = held + 1;
+        now = Cursor {
+            held: held + 1,
+            at: end.at,
+            links: end.links,
+            nodes: end.nodes,
+        };
     }
     Read::Node(
         Node {
@@ -204,21 +185,19 @@ pub fn names(
 
 // A name of an import's path, or nothing at Eof.
 fn step(
-    text: &[u8],
     tokens: &[u32],
     nodes: &mut [u32],
     links: &mut [u32],
-    symbols: &mut [u32],
     scratch: &mut [u32],
     limit: u32,
     depth: u32,
     cur: Cursor,
 ) -> Read
-    requires { ⌜ Ready (now text) (now tokens) limit depth (state (now nodes) (now links) (now symbols) (now scratch) cur) ⌝ }
-    ensures { λ r. ⌜ Lists (now (text .entry)) (now (tokens .entry)) limit (whole (choice form.path-name)) depth (state (now (nodes .entry)) (now (links .entry)) (now (symbols .entry)) (now (scratch .entry)) cur) (now (nodes .exit)) (now (links .exit)) (now (symbols .exit)) (now (scratch .exit)) r ⌝ }
+    requires { ⌜ opened tokens nodes links scratch limit depth cur ⌝ }
+    ensures { λ r. ⌜ lists (whole (choice form.path-name)) tokens nodes links scratch limit depth cur r ⌝ }
 {
     let at = cur.at;
-    if kind_at(tokens, at) == 44 {
+    if kind_at(tokens, at) == kinds::EOF {
         return Read::Node(
             Node {
                 id: 0,
@@ -228,24 +207,18 @@ fn step(
             cur,
         );
     }
-    let read = name(
-        text,
-        tokens,
-        nodes,
-        links,
-        symbols,
-        scratch,
-        limit,
-        depth,
-        cur,
-    );
+    let read = name(tokens, nodes, links, scratch, limit, depth, cur);
     let Read::Node(item, end) = read else {
         return read;
     };
     let held = end.held;
     push(scratch, held, item.id, item.start, item.end);
-    let mut past = end;
-    past.held = held + 1;
+    let past = Cursor {
+        held: held + 1,
+        at: end.at,
+        links: end.links,
+        nodes: end.nodes,
+    };
     Read::Node(
         Node {
             id: 0,
@@ -258,52 +231,34 @@ fn step(
 
 // The names of an import's path, joined by dots.
 fn path(
-    text: &[u8],
     tokens: &[u32],
     nodes: &mut [u32],
     links: &mut [u32],
-    symbols: &mut [u32],
     scratch: &mut [u32],
     limit: u32,
     depth: u32,
     cur: Cursor,
 ) -> Read
-    requires { ⌜ Ready (now text) (now tokens) limit depth (state (now nodes) (now links) (now symbols) (now scratch) cur) ⌝ }
-    ensures { λ r. ⌜ Lists (now (text .entry)) (now (tokens .entry)) limit (whole (chain (choice form.path-name) form.dots)) depth (state (now (nodes .entry)) (now (links .entry)) (now (symbols .entry)) (now (scratch .entry)) cur) (now (nodes .exit)) (now (links .exit)) (now (symbols .exit)) (now (scratch .exit)) r ⌝ }
+    requires { ⌜ opened tokens nodes links scratch limit depth cur ⌝ }
+    ensures { λ r. ⌜ lists (whole (chain (choice form.path-name) form.dots)) tokens nodes links scratch limit depth cur r ⌝ }
 {
-    let read = step(
-        text,
-        tokens,
-        nodes,
-        links,
-        symbols,
-        scratch,
-        limit,
-        depth,
-        cur,
-    );
+    let read = step(tokens, nodes, links, scratch, limit, depth, cur);
     let Read::Node(_, first) = read else {
         return read;
     };
     let mut now = first;
     'path: loop {
         let at = now.at;
-        if kind_at(tokens, at) != 15 {
+        if kind_at(tokens, at) != kinds::DOT {
             break 'path;
         }
-        let mut next = now;
-        next.at = at + 1;
-        let turn = step(
-            text,
-            tokens,
-            nodes,
-            links,
-            symbols,
-            scratch,
-            limit,
-            depth,
-            next,
-        );
+        let next = Cursor {
+            held: now.held,
+            at: at + 1,
+            links: now.links,
+            nodes: now.nodes,
+        };
+        let turn = step(tokens, nodes, links, scratch, limit, depth, next);
         let Read::Node(_, end) = turn else {
             return turn;
         };
@@ -321,21 +276,19 @@ fn path(
 
 // The names after an import's colon, if there is one.
 fn bindings(
-    text: &[u8],
     tokens: &[u32],
     nodes: &mut [u32],
     links: &mut [u32],
-    symbols: &mut [u32],
     scratch: &mut [u32],
     limit: u32,
     depth: u32,
     cur: Cursor,
 ) -> Read
-    requires { ⌜ Ready (now text) (now tokens) limit depth (state (now nodes) (now links) (now symbols) (now scratch) cur) ⌝ }
-    ensures { λ r. ⌜ Lists (now (text .entry)) (now (tokens .entry)) limit (whole (choice form.bindings)) depth (state (now (nodes .entry)) (now (links .entry)) (now (symbols .entry)) (now (scratch .entry)) cur) (now (nodes .exit)) (now (links .exit)) (now (symbols .exit)) (now (scratch .exit)) r ⌝ }
+    requires { ⌜ ready tokens nodes links scratch limit depth cur ⌝ }
+    ensures { λ r. ⌜ lists (whole (choice form.bindings)) tokens nodes links scratch limit depth cur r ⌝ }
 {
     let at = cur.at;
-    if kind_at(tokens, at) != 14 {
+    if kind_at(tokens, at) != kinds::COLON {
         return Read::Node(
             Node {
                 id: 0,
@@ -345,67 +298,39 @@ fn bindings(
             cur,
         );
     }
-    let mut next = cur;
-    next.at = at + 1;
-    names(
-        text,
-        tokens,
-        nodes,
-        links,
-        symbols,
-        scratch,
-        limit,
-        depth,
-        next,
-        41,
-    )
+    let next = Cursor {
+        held: cur.held,
+        at: at + 1,
+        links: cur.links,
+        nodes: cur.nodes,
+    };
+    let closer = kinds::SEMICOLON;
+    names(tokens, nodes, links, scratch, limit, depth, next, closer)
 }
 
 // An import: its span ends with the token after it. It asks `Ready`.
 // Ruled out: bindings among the path's links; a span that ends with its last name.
 pub fn import(
-    text: &[u8],
     tokens: &[u32],
     nodes: &mut [u32],
     links: &mut [u32],
-    symbols: &mut [u32],
     scratch: &mut [u32],
     limit: u32,
     depth: u32,
     cur: Cursor,
 ) -> Read
-    requires { ⌜ Ready (now text) (now tokens) limit depth (state (now nodes) (now links) (now symbols) (now scratch) cur) ⌝ }
-    ensures { λ r. ⌜ Answered (now (text .entry)) (now (tokens .entry)) limit node-of (whole form.import) depth (state (now (nodes .entry)) (now (links .entry)) (now (symbols .entry)) (now (scratch .entry)) cur) (now (nodes .exit)) (now (links .exit)) (now (symbols .exit)) (now (scratch .exit)) r ⌝ }
+    requires { ⌜ ready tokens nodes links scratch limit depth cur ⌝ }
+    ensures { λ r. ⌜ answered node-of (whole form.import) tokens nodes links scratch limit depth cur r ⌝ }
 {
-    let read = consume(tokens, cur, 36);
+    let read = consume(tokens, cur, kinds::IMPORT);
     let Read::Node(lead, next) = read else {
         return read;
     };
-    let read = path(
-        text,
-        tokens,
-        nodes,
-        links,
-        symbols,
-        scratch,
-        limit,
-        depth,
-        next,
-    );
+    let read = path(tokens, nodes, links, scratch, limit, depth, next);
     let Read::Node(_, middle) = read else {
         return read;
     };
-    let read = bindings(
-        text,
-        tokens,
-        nodes,
-        links,
-        symbols,
-        scratch,
-        limit,
-        depth,
-        middle,
-    );
+    let read = bindings(tokens, nodes, links, scratch, limit, depth, middle);
     let Read::Node(_, end) = read else {
         return read;
     };
@@ -427,7 +352,5 @@ pub fn import(
         lead.start,
         upto,
     );
-    let mut done = past;
-    done.nodes = n + 1;
-    Read::Node(node, done)
+    made(node, past)
 }

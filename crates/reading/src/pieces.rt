@@ -2,7 +2,9 @@
 use crate::Cursor;
 use crate::Read;
 use crate::Refusal;
+use crate::codes;
 use ast::Node;
+use token::kinds;
 use token::list::kind_at;
 use token::ops::operator_of;
 ghost use mathlib.Core.List.{_∷_, []};
@@ -13,7 +15,8 @@ ghost use Rattle.grammar.specs.Handle.{absent};
 ghost use Rattle.grammar.specs.Label.{number-of};
 ghost use Rattle.grammar.specs.Operator.{joining};
 ghost use Rattle.grammar.specs.Token.{count};
-ghost use Rattle.reading.specs.Parts.{Ended, Untailed, binding-node, joined-fields};
+ghost use Rattle.reading.specs.Parts.{grown, Ended, Untailed, binding-node, joined-fields};
+ghost use Rattle.reading.specs.declared.Read.{Read};
 
 // No row.
 const ABSENT: u32 = 4294967295;
@@ -33,8 +36,8 @@ pub fn joined(
     ensures { λ r. ⌜ Inserted n (number-of (joining kind)) start end (joined-fields kind left right) (now (nodes .entry)) (now (nodes .exit)) r ⌝ }
 {
     match kind {
-        22 => ast::logical_and(nodes, n, left, right, start, end),
-        23 => ast::logical_or(nodes, n, left, right, start, end),
+        kinds::AND => ast::logical_and(nodes, n, left, right, start, end),
+        kinds::OR => ast::logical_or(nodes, n, left, right, start, end),
         _ => ast::binary(nodes, n, operator_of(kind), left, right, start, end),
     }
 }
@@ -54,10 +57,25 @@ pub fn bound(
     ensures { λ r. ⌜ Inserted n (number-of (binding-node kind)) start end (word .id ∷ word .start ∷ word .end ∷ right ∷ []) (now (nodes .entry)) (now (nodes .exit)) r ⌝ }
 {
     match kind {
-        25 => ast::variable(nodes, n, word.id, word.start, word.end, right, start, end),
-        26 => ast::constant(nodes, n, word.id, word.start, word.end, right, start, end),
+        kinds::LET => ast::variable(nodes, n, word.id, word.start, word.end, right, start, end),
+        kinds::CONST => ast::constant(nodes, n, word.id, word.start, word.end, right, start, end),
         _ => ast::ref_(nodes, n, word.id, word.start, word.end, right, start, end),
     }
+}
+
+// The answer of a reader that wrote one row more: its node, and the cursor past that row. It asks that the number of rows stays below absent.
+// Ruled out: a cursor that does not count the row; another node.
+pub fn made(node: Node, cur: Cursor) -> Read
+    requires { ⌜ cur .nodes < absent ⌝ }
+    ensures { λ r. ⌜ r ≡ Read.Node node (grown cur) ⌝ }
+{
+    let past = Cursor {
+        held: cur.held,
+        at: cur.at,
+        links: cur.links,
+        nodes: cur.nodes + 1,
+    };
+    Read::Node(node, past)
 }
 
 // After a statement that began with a token of kind `first`: a `;` is taken. If there is none, the statement may be a tail, unless the `;` is required. It asks that
@@ -68,9 +86,13 @@ pub fn semicolon(tokens: &[u32], node: Node, cur: Cursor, first: u32) -> Read
 {
     let at = cur.at;
     let kind = kind_at(tokens, at);
-    if kind == 41 {
-        let mut past = cur;
-        past.at = at + 1;
+    if kind == kinds::SEMICOLON {
+        let past = Cursor {
+            held: cur.held,
+            at: at + 1,
+            links: cur.links,
+            nodes: cur.nodes,
+        };
         let ended = Node {
             id: node.id,
             start: 0,
@@ -83,15 +105,15 @@ pub fn semicolon(tokens: &[u32], node: Node, cur: Cursor, first: u32) -> Read
         start: 0,
         end: node.id,
     };
-    if kind == 21 {
+    if kind == kinds::RIGHT_BRACE {
         return Read::Node(open, cur);
     }
     match first {
-        20 | 28 | 30 | 33 => Read::Node(open, cur),
+        kinds::LEFT_BRACE | kinds::FUNCTION | kinds::WHILE | kinds::IF => Read::Node(open, cur),
         _ => Read::Refused(Refusal {
-            code: 8,
+            code: codes::KIND_REQUIRED,
             at: at,
-            expected: 41,
+            expected: kinds::SEMICOLON,
         }),
     }
 }
@@ -111,7 +133,11 @@ pub fn untailed(tail: u32, cur: Cursor) -> Read
         return Read::Node(list, cur);
     }
     let held = cur.held;
-    let mut past = cur;
-    past.held = held - 1;
+    let past = Cursor {
+        held: held - 1,
+        at: cur.at,
+        links: cur.links,
+        nodes: cur.nodes,
+    };
     Read::Node(list, past)
 }

@@ -23,7 +23,8 @@ abbrev answer-of : Answer → Numbers
 answer-of n = record { code = n .code; nodes = n .nodes; links = n .links; symbols = n .symbols; at = n .at; start = n .start; end = n .end; expected = n .expected }
 
 -- demand 1: two outcomes that the contract allows are equal, the answer and every number of every room
-pub one-parse : {text ts : List ℕ} {limit : ℕ} {before after after′ : Rooms} {r r′ : Numbers} → Parsed text ts limit before after r → Parsed text ts limit before after′ r′ → (r ≡ r′) × (after ≡ after′)
+pub one-parse : {text ts : List ℕ} {limit : ℕ} {before after after′ : Rooms} {r r′ : Numbers} → Parsed text ts limit before after r → Parsed text ts limit before after′ r′ → (r ≡ r′) ×
+    (after ≡ after′)
 one-parse p q = let (n, m) = one-answer (p .answers) (q .answers) in (ap answer-of n, m)
 
 module _ {text ts : List ℕ} {limit : ℕ} {before after : Rooms} {r : Numbers} (p : Parsed text ts limit before after r) where

@@ -25,14 +25,17 @@ use Rattle.grammar.specs.Phrase.{empty, chain, whole, made, Tree, Reads, depth}
 use Rattle.grammar.specs.Refusal.{Refused, Refuses}
 use Rattle.grammar.specs.Room.{Rooms, cleared, filled}
 use Rattle.grammar.specs.Rows.{Rows, numbers as field-numbers, write, fill, put, make, walk, written}
+use Rattle.grammar.specs.Symbol.{symbol-rows, symbol}
 use Rattle.grammar.specs.Token.{kind, count}
 use Rattle.grammar.proofs.Answers.{admitted-lent}
 use Rattle.grammar.proofs.Demands.{refused-place}
 use Rattle.grammar.proofs.Outcomes.{ends-at-eof}
-use Rattle.interner.proofs.Grown.{empty-table}
+use Rattle.grammar.proofs.Symbols.{rows-few}
+use Rattle.names.specs.Resolved.{Open, Resolved, names-of}
+use Rattle.names.proofs.Readers.{names-are}
 use Rattle.reading.specs.Answers.{Listed, List-case, Lists}
 use Rattle.reading.specs.Reading.{refusal, Refusing}
-use Rattle.reading.specs.State.{State, state, Ready}
+use Rattle.reading.specs.State.{State, state, Opened}
 use Rattle.reading.specs.declared.Cursor.{Cursor}
 use Rattle.reading.specs.declared.Read.{Read}
 use Rattle.reading.specs.declared.Refusal.{Refusal}
@@ -45,25 +48,30 @@ wiped : {l m : List ℕ} → Cleared 0 l m → m ≡ cleared l
 wiped {l} z = let e : length l - 0 ≡ length l = omega arith in z .zeros ∙ rw e
 
 -- the root's row and links are written, and zeros after them
-pub rooted : {c : Cursor} {ns ls ys ss ns₁ ls₁ ns₂ ls₂ ys₂ ss₂ : List ℕ} {n : Node} {r : Numbers} → Root-fits c (rooms ns ls ys ss) → Written (3 * c .links) (3 * (c .links + c .held)) (take (3 * c .held) ss) ls ls₁ → Inserted (c .nodes) 20 0 0 (c .links ∷ c .held ∷ absent ∷ []) ns ns₁ n →
-    Cleared (9 * (c .nodes + 1)) ns₁ ns₂ → Cleared (3 * (c .links + c .held)) ls₁ ls₂ → Cleared (2 * c .symbols) ys ys₂ → Cleared 0 ss ss₂ → numbers r ≡ record { code = 0; nodes = c .nodes + 1; links = c .links + c .held; symbols = c .symbols; at = 0; start = 0; end = 0; expected = 255 } →
-    Rooted c (rooms ns ls ys ss) (rooms ns₂ ls₂ ys₂ ss₂) r
-rooted {c} {ns} {ls} {ys} {ss} {ns₁} {ls₁} {ns₂} {ls₂} f w i zn zl zy zs e =
+pub rooted : {c : Cursor} {known : ℕ} {ns ls ys ss ns₁ ls₁ ns₂ ls₂ ys₂ ss₂ : List ℕ} {n : Node} {r : Numbers} → Root-fits c known (rooms ns ls ys ss) →
+    Written (3 * c .links) (3 * (c .links + c .held)) (take (3 * c .held) ss) ls ls₁ → Inserted (c .nodes) 20 0 0 (c .links ∷ c .held ∷ absent ∷ []) ns ns₁ n →
+    Cleared (9 * (c .nodes + 1)) ns₁ ns₂ → Cleared (3 * (c .links + c .held)) ls₁ ls₂ → Cleared (2 * known) ys ys₂ → Cleared 0 ss ss₂ →
+    numbers r ≡ record { code = 0; nodes = c .nodes + 1; links = c .links + c .held; symbols = known; at = 0; start = 0; end = 0; expected = 255 } →
+    Rooted c known (rooms ns ls ys ss) (rooms ns₂ ls₂ ys₂ ss₂) r
+rooted {c} {known} {ns} {ls} {ys} {ss} {ns₁} {ls₁} {ns₂} {ls₂} f w i zn zl zy zs e =
     let v = i .row in
-    let nodes : length (with-root c (rooms ns ls ys ss) .nodes) / 9 ≡ c .nodes + 1 = ap (λ l. length l / 9) (sym (v .rows)) ∙ row-number 9 (c .nodes + 1) ns₁ (omega arith) (omega (arith, v .size, f .nodes)) in
-    let links : length (with-root c (rooms ns ls ys ss) .links) / 3 ≡ c .links + c .held = ap (λ l. length l / 3) (sym (w .rows)) ∙ row-number 3 (c .links + c .held) ls₁ (omega arith) (omega (arith, w .size, f .links)) in
-    let symbols : length (with-root c (rooms ns ls ys ss) .symbols) / 2 ≡ c .symbols = row-number 2 (c .symbols) ys (omega arith) (f .symbols) in
+    let nodes : length (with-root c (rooms ns ls ys ss) .nodes) / 9 ≡ c .nodes + 1 = ap (λ l. length l / 9) (sym (v .rows)) ∙
+    row-number 9 (c .nodes + 1) ns₁ (omega arith) (omega (arith, v .size, f .nodes)) in
+    let links : length (with-root c (rooms ns ls ys ss) .links) / 3 ≡ c .links + c .held = ap (λ l. length l / 3) (sym (w .rows)) ∙
+    row-number 3 (c .links + c .held) ls₁ (omega arith) (omega (arith, w .size, f .links)) in
+    let symbols : length (take (2 * known) ys) / 2 ≡ known = row-number 2 known ys (omega arith) (f .symbols) in
     let n : ns₂ ≡ filled (with-root c (rooms ns ls ys ss) .nodes) ns = cleared-filled (omega (arith, v .size, f .nodes)) zn ∙ rw (v .rows, v .size) in
     let l : ls₂ ≡ filled (with-root c (rooms ns ls ys ss) .links) ls = cleared-filled (omega (arith, w .size, f .links)) zl ∙ rw (w .rows, w .size) in
     record { numbers-are = e ∙ rw (nodes, links, symbols); rooms-are = rw (n, l, cleared-filled (f .symbols) zy, wiped zs) }
 
 -- all rooms are cleared
-pub cut : {ts : List ℕ} {q : Refusal} {ns ls ys ss ns₁ ls₁ ys₁ ss₁ : List ℕ} {r : Numbers} → Cleared 0 ns ns₁ → Cleared 0 ls ls₁ → Cleared 0 ys ys₁ → Cleared 0 ss ss₁ → numbers r ≡ refused-numbers ts q → Cut ts q (rooms ns ls ys ss) (rooms ns₁ ls₁ ys₁ ss₁) r
+pub cut : {ts : List ℕ} {q : Refusal} {ns ls ys ss ns₁ ls₁ ys₁ ss₁ : List ℕ} {r : Numbers} → Cleared 0 ns ns₁ → Cleared 0 ls ls₁ → Cleared 0 ys ys₁ → Cleared 0 ss ss₁ →
+    numbers r ≡ refused-numbers ts q → Cut ts q (rooms ns ls ys ss) (rooms ns₁ ls₁ ys₁ ss₁) r
 cut zn zl zy zs e = record { numbers-are = e; rooms-are = rw (wiped zn, wiped zl, wiped zy, wiped zs) }
 
 -- where a script begins
 abbrev pub start : Cursor
-start = record { at = 0; nodes = 0; links = 0; symbols = 0; held = 0 }
+start = record { at = 0; nodes = 0; links = 0; held = 0 }
 
 -- rooms of the same lengths are cleared and filled alike
 pub record Alike (r s : Rooms) : Type 0 where
@@ -75,82 +83,115 @@ pub record Alike (r s : Rooms) : Type 0 where
 cleared-alike : {r s : Rooms} → Alike r s → rooms-cleared s ≡ rooms-cleared r
 cleared-alike a = rw (a .nodes, a .links, a .symbols, a .scratch)
 
-filled-alike : {r s : Rooms} (w : Rows) → Alike r s → rooms-filled w s ≡ rooms-filled w r
-filled-alike w a = rw (a .nodes, a .links, a .symbols, a .scratch)
+filled-alike : {r s : Rooms} (w : Rows) (ss : List ℕ) → Alike r s → rooms-filled w ss s ≡ rooms-filled w ss r
+filled-alike w ss a = rw (a .nodes, a .links, a .symbols, a .scratch)
 
 module _ {text ts : List ℕ} {limit : ℕ} {before : Rooms} (d : Let-in text ts limit before) where
   pub lent : Lent text ts
   lent = admitted-lent (d .admitted)
 
-  pub ready : Ready text ts limit 0 (state (before .nodes) (before .links) (before .symbols) (before .scratch) start)
-  ready =
-      let r = d .admitted .roomy in
-      record {
-        lent = lent;
-        deep = omega arith;
-        within = record { roomy = record { nodes = omega (arith, r .nodes); links = omega (arith, r .links); symbols = omega (arith, r .symbols); scratch = omega (arith, r .scratch) }; at = omega (arith, lent .whole .some); rows = omega arith; links = omega arith; symbols = omega arith; table = empty-table text (before .symbols) };
-      }
+  -- what is asked where the symbols are found
+  pub names-open : Open text ts (before .symbols) (before .scratch)
+  names-open = let r = d .admitted .roomy in record { whole = lent .whole; sound = lent .sound; symbol-room = omega (arith, r .symbols); scratch-room = omega (arith, r .scratch) }
 
-  -- a refusal among the statements is the script's, at a token
-  module _ {q : Refusal} (x : Refusing ts limit (chain empty script-items) 0 (state (before .nodes) (before .links) (before .symbols) (before .scratch) start) (refusal q)) where
-    pub refused-at : q .at < count ts
-    refused-at = omega (arith, refused-place (d .admitted) (Refuses.in-node x) .place, lent .whole .some)
+  -- once they are found
+  module _ {symbols scratch : List ℕ} {known : ℕ} (v : Resolved text ts (count ts) (before .symbols) (before .scratch) symbols scratch known) where
+    -- the state that is read from
+    abbrev pub from : State
+    from = state (before .nodes) (before .links) scratch start
 
-    pub refused-answer : {middle after : Rooms} {r : Numbers} → Alike before middle → Cut ts q middle after r → Parsed text ts limit before after r
-    refused-answer a c = record { answers = rw (c .numbers-are, c .rooms-are, cleared-alike a) (Answers.refused (d .admitted) (Comes.stop (Refuses.in-node x))) }
+    pub asked : Opened ts limit 0 from
+    asked =
+        let r = d .admitted .roomy in
+        record {
+          ready = record {
+            lent = record { whole = lent .whole; closed = lent .closed };
+            deep = omega arith;
+            within =
+                record {
+                  roomy = record { nodes = omega (arith, r .nodes); links = omega (arith, r .links); scratch = omega (arith, r .scratch, v .scratch-size) };
+                  at = omega (arith, lent .whole .some);
+                  rows = omega arith;
+                  links = omega arith;
+                  stack = omega arith;
+                };
+          };
+          spare = omega arith;
+        }
 
-  -- the statements up to Eof are a script
-  module _ {ns ls ys ss : List ℕ} {c : Cursor} (l : Listed text ts limit (whole (chain empty script-items)) 0 (state (before .nodes) (before .links) (before .symbols) (before .scratch) start) (state ns ls ys ss c)) where
-    tree : Tree Label
-    tree = made Label.Script 0 (c .at) (l .reading .tree)
+    -- a refusal among the statements is the script's, at a token
+    module _ {q : Refusal} (x : Refusing ts limit (chain empty script-items) 0 from (refusal q)) where
+      pub refused-at : q .at < count ts
+      refused-at = omega (arith, refused-place (d .admitted) (Refuses.in-node x) .place, lent .whole .some)
 
-    reads-script : Script (kind ts) (c .at) tree
-    unfolding tree
-    reads-script = Reads.labelled (l .reading .reads)
+      pub refused-answer : {middle after : Rooms} {r : Numbers} → Alike before middle → Cut ts q middle after r → Parsed text ts limit before after r
+      refused-answer a c = record { answers = rw (c .numbers-are, c .rooms-are, cleared-alike a) (Answers.refused (d .admitted) (Comes.stop (Refuses.in-node x))) }
 
-    pub fitting : Root-fits c (rooms ns ls ys ss)
-    fitting =
-        let w = l .within in
-        let r = w .roomy in
-        record { nodes = omega (arith, w .rows, w .at, r .nodes); links = omega (arith, w .links, w .at, r .links); symbols = omega (arith, w .symbols, w .at, r .symbols); scratch = omega (arith, w .links, w .at, r .scratch); few = omega (arith, w .rows, w .links, w .symbols, w .at, lent .whole .most) }
+    -- the statements up to Eof are a script
+    module _ {ns ls ss : List ℕ} {c : Cursor} (l : Listed ts limit (whole (chain empty script-items)) 0 from (state ns ls ss c)) where
+      tree : Tree Label
+      tree = made Label.Script 0 (c .at) (l .reading .tree)
 
-    script-rows : written text ts tree ≡ with-root c (rooms ns ls ys ss)
-    unfolding written walk make put fill field-numbers write tree
-    script-rows =
-        let n : c .held ≡ length (l .items) = omega (arith, l .count) in
-        rw (l .reading .rows, first-link (l .within), l .rows, n)
+      reads-script : Script (kind ts) (c .at) tree
+      unfolding tree
+      reads-script = Reads.labelled (l .reading .reads)
 
-    -- the Eof that ends it is the last token
-    ends-last : c .at ≡ count ts - 1
-    ends-last =
-        let e : kind ts (c .at) ≡ Eof = elim (ℕ-discrete (kind ts (c .at)) Eof) [ yes h ↦ h | no n ↦ absurd (n (ends-at-eof reads-script)) ] in
-        omega (arith, lent .closed (c .at) (l .within .at) .only e)
+      pub fitting : Root-fits c known (rooms ns ls symbols ss)
+      fitting =
+          let w = l .within in
+          let r = w .roomy in
+          let few = rows-few text ts (count ts) in
+          let k = v .entered .size in
+          record {
+            nodes = omega (arith, w .rows, w .at, r .nodes);
+            links = omega (arith, w .links, w .at, r .links);
+            symbols = omega (arith, v .symbol-size, d .admitted .roomy .symbols);
+            scratch = omega (arith, w .links, w .at, r .scratch);
+            few = omega (arith, w .rows, w .links, w .at, lent .whole .most);
+          }
 
-    tree-fits : depth tree ≤ limit
-    unfolding depth tree
-    tree-fits = omega (arith, l .reading .fits)
+      -- the rows that are read with the numbers of the scratch room are the tree's, with the grammar's symbols
+      read-rows : written ts (names-of ts scratch) tree ≡ with-root c (rooms ns ls symbols ss)
+      unfolding written walk make put fill field-numbers write tree
+      read-rows = let n : c .held ≡ length (l .items) = omega (arith, l .count) in rw (l .reading .rows, first-link (l .within), l .rows, n)
 
-    pub accepted-answer : {after : Rooms} {r : Numbers} → Rooted c (rooms ns ls ys ss) after r → Parsed text ts limit before after r
-    accepted-answer {after} {r} a =
-        let m = l .reading .rooms in
-        let alike : Alike before (rooms ns ls ys ss) = record { nodes = m .nodes; links = m .links; symbols = m .symbols; scratch = m .scratch } in
-        let x = subst (λ n. Script (kind ts) n tree) ends-last reads-script in
-        let n : numbers r ≡ success (written text ts tree) = a .numbers-are ∙ ap success (sym script-rows) in
-        let o : after ≡ rooms-filled (written text ts tree) before = a .rooms-are ∙ ap (λ w. rooms-filled w (rooms ns ls ys ss)) (sym script-rows) ∙ filled-alike (written text ts tree) alike in
-        record { answers = rw (n, o) (Answers.accepted (d .admitted) (Comes.read x tree-fits)) }
+      script-rows : written ts (symbol text ts) tree ≡ with-root c (rooms ns ls symbols ss)
+      script-rows = ap (λ σ. written ts σ tree) (sym (names-are (lent .whole) v)) ∙ read-rows
+
+      -- the Eof that ends it is the last token
+      ends-last : c .at ≡ count ts - 1
+      ends-last =
+          let e : kind ts (c .at) ≡ Eof = elim (ℕ-discrete (kind ts (c .at)) Eof) [ yes h ↦ h | no n ↦ absurd (n (ends-at-eof reads-script)) ] in
+          omega (arith, lent .closed (c .at) (l .within .at) .only e)
+
+      tree-fits : depth tree ≤ limit
+      unfolding depth tree
+      tree-fits = omega (arith, l .reading .fits)
+
+      pub accepted-answer : {after : Rooms} {r : Numbers} → Rooted c known (rooms ns ls symbols ss) after r → Parsed text ts limit before after r
+      accepted-answer {after} {r} a =
+          let m = l .reading .rooms in
+          let w = written ts (symbol text ts) tree in
+          let found = symbol-rows text ts (count ts) in
+          let alike : Alike before (rooms ns ls symbols ss) = record { nodes = m .nodes; links = m .links; symbols = v .symbol-size; scratch = m .scratch ∙ v .scratch-size } in
+          let x = subst (λ n. Script (kind ts) n tree) ends-last reads-script in
+          let n : numbers r ≡ success w found = a .numbers-are ∙ rw (script-rows, v .entered .rows) in
+          let o : after ≡ rooms-filled w found before = a .rooms-are ∙ rw (script-rows, v .entered .rows) (filled-alike (with-root c (rooms ns ls symbols ss)) found alike) in
+          record { answers = rw (n, o) (Answers.accepted (d .admitted) (Comes.read x tree-fits)) }
 
 -- what the statements' answer says, by its case
-module _ {text ts : List ℕ} {limit : ℕ} {s : State} {ns ls ys ss : List ℕ} {r : Read} (a : Lists text ts limit (whole (chain empty script-items)) 0 s ns ls ys ss r) where
+module _ {ts : List ℕ} {limit : ℕ} {s : State} {ns ls ss : List ℕ} {r : Read} (a : Lists ts limit (whole (chain empty script-items)) 0 s ns ls ss r) where
   pub refused-told : {q : Refusal} → r ≡ Read.Refused q → Refusing ts limit (chain empty script-items) 0 s (refusal q)
   unfolding List-case
   refused-told e = (rw e at a) .says
 
-  pub listed-told : {n : Node} {c : Cursor} → r ≡ Read.Node n c → Listed text ts limit (whole (chain empty script-items)) 0 s (state ns ls ys ss c)
+  pub listed-told : {n : Node} {c : Cursor} → r ≡ Read.Node n c → Listed ts limit (whole (chain empty script-items)) 0 s (state ns ls ss c)
   unfolding List-case
   listed-told e = (rw e at a) .says .1
 
 -- what the door's answer says, by its case
-module _ {text ts : List ℕ} {limit : ℕ} {before : Rooms} {e : Entry} (a : Entered text ts limit (length (before .nodes)) (length (before .links)) (length (before .symbols)) (length (before .scratch)) e) where
+module _ {text ts : List ℕ} {limit : ℕ} {before : Rooms} {e : Entry}
+    (a : Entered text ts limit (length (before .nodes)) (length (before .links)) (length (before .symbols)) (length (before .scratch)) e) where
   pub let-in : e ≡ Entry.Open → Let-in text ts limit before
   let-in h = record { admitted = opened ((rw h at a) .says before refl refl refl refl) refl }
 

@@ -48,22 +48,25 @@ abbrev pub with-root : Cursor → Rooms → Rows
 with-root c r = record {
   nodes = take (node-width * c .nodes) (r .nodes) ++ padded (number-of Node.Block ∷ 0 ∷ 0 ∷ c .links ∷ c .held ∷ absent ∷ []);
   links = take (link-width * c .links) (r .links) ++ take (scratch-width * c .held) (r .scratch);
-  symbols = take (symbol-width * c .symbols) (r .symbols);
 }
 
+-- the symbol rows, where so many are known
+abbrev pub known-rows : (known : ℕ) → Rooms → List ℕ
+known-rows known r = take (symbol-width * known) (r .symbols)
+
 -- the numbers of a reading that is whole
-abbrev pub accepted-numbers : Cursor → Rooms → Answer
-accepted-numbers c r = success (with-root c r)
+abbrev pub accepted-numbers : Cursor → (known : ℕ) → Rooms → Answer
+accepted-numbers c known r = success (with-root c r) (known-rows known r)
 
 -- there is room for that
-pub record Root-fits (c : Cursor) (r : Rooms) : Type 0 where
+pub record Root-fits (c : Cursor) (known : ℕ) (r : Rooms) : Type 0 where
   pub nodes : node-width * (c .nodes + 1) ≤ length (r .nodes)
   pub links : link-width * (c .links + c .held) ≤ length (r .links)
-  pub symbols : symbol-width * c .symbols ≤ length (r .symbols)
+  pub symbols : symbol-width * known ≤ length (r .symbols)
   pub scratch : scratch-width * c .held ≤ length (r .scratch)
-  pub few : c .nodes + c .links + c .held + c .symbols < 65536
+  pub few : c .nodes + c .links + c .held + known < 65536
 
 -- a script is read: its rows, then zeros to the end of each room
-pub record Rooted (c : Cursor) (before after : Rooms) (r : Numbers) : Type 0 where
-  pub numbers-are : numbers r ≡ accepted-numbers c before
-  pub rooms-are : after ≡ rooms-filled (with-root c before) before
+pub record Rooted (c : Cursor) (known : ℕ) (before after : Rooms) (r : Numbers) : Type 0 where
+  pub numbers-are : numbers r ≡ accepted-numbers c known before
+  pub rooms-are : after ≡ rooms-filled (with-root c before) (known-rows known before) before

@@ -1,4 +1,4 @@
-// The public entry: a port of `parse` of parser.rs. The door, then the statements up to Eof, the root's row, and zeros.
+// The public entry: a port of `parse` of parser.rs. The door, then the symbols of all names, the statements up to Eof, the root's row, and zeros.
 use ast::Node;
 use ast::room::clear;
 use ast::room::link;
@@ -6,10 +6,13 @@ use ast::room::push;
 use door::Entry;
 use door::check;
 use door::lengths;
+use names::resolve;
 use parser::readers::statement;
 use reading::Cursor;
 use reading::Read;
 use reading::Refusal;
+use reading::codes;
+use token::kinds;
 use token::list::end_at;
 use token::list::kind_at;
 use token::list::start_at;
@@ -20,8 +23,7 @@ ghost use Rattle.grammar.specs.Door.{Lent};
 ghost use Rattle.grammar.specs.Kaori as form;
 ghost use Rattle.grammar.specs.Phrase.{empty, chain, whole};
 ghost use Rattle.grammar.specs.Token.{count};
-ghost use Rattle.reading.specs.Answers.{Lists};
-ghost use Rattle.reading.specs.State.{state, Ready};
+ghost use Rattle.reading.specs.Clauses.{opened, lists};
 ghost use Rattle.syntax.specs.Parsed.{numbers, rooms, Parsed, Let-in, Cut, Root-fits, Rooted};
 
 // No row.
@@ -60,33 +62,35 @@ pub fn refused(code: u32, at: u32, start: u32, end: u32, expected: u32) -> Numbe
 
 // The statements up to Eof: their rows are held, as those of a list.
 fn statements(
-    text: &[u8],
     tokens: &[u32],
     nodes: &mut [u32],
     links: &mut [u32],
-    symbols: &mut [u32],
     scratch: &mut [u32],
     limit: u32,
     cur: Cursor,
 ) -> Read
-    requires { ⌜ Ready (now text) (now tokens) limit 0 (state (now nodes) (now links) (now symbols) (now scratch) cur) ⌝ }
-    ensures { λ r. ⌜ Lists (now (text .entry)) (now (tokens .entry)) limit (whole (chain empty form.script-items)) 0 (state (now (nodes .entry)) (now (links .entry)) (now (symbols .entry)) (now (scratch .entry)) cur) (now (nodes .exit)) (now (links .exit)) (now (symbols .exit)) (now (scratch .exit)) r ⌝ }
+    requires { ⌜ opened tokens nodes links scratch limit 0 cur ⌝ }
+    ensures { λ r. ⌜ lists (whole (chain empty form.script-items)) tokens nodes links scratch limit 0 cur r ⌝ }
 {
     let mut now = cur;
     let first = cur.at;
     let mut kind = kind_at(tokens, first);
     'list: loop {
-        if kind == 44 {
+        if kind == kinds::EOF {
             break 'list;
         }
-        let read = statement(text, tokens, nodes, links, symbols, scratch, limit, 0, now);
+        let read = statement(tokens, nodes, links, scratch, limit, 0, now);
         let Read::Node(item, end) = read else {
             return read;
         };
         let held = end.held;
         push(scratch, held, item.id, 0, 0);
-        now = end;
-        now.held = held + 1;
+        now = Cursor {
+            held: held + 1,
+            at: end.at,
+            links: end.links,
+            nodes: end.nodes,
+        };
         let next = end.at;
         kind = kind_at(tokens, next);
     }
@@ -98,21 +102,21 @@ fn statements(
     Read::Node(list, now)
 }
 
-// The answer of a script that is read: the statements that are held become the root's links, the root is the last row, and zeros follow in each room.
+// The answer of a script that is read: the statements that are held become the root's links, the root is the last row, and zeros follow in each room. `known` is the number of symbol rows.
 fn root(
     nodes: &mut [u32],
     links: &mut [u32],
     symbols: &mut [u32],
     scratch: &mut [u32],
+    known: usize,
     end: Cursor,
 ) -> Numbers
-    requires { ⌜ Root-fits end (rooms (now nodes) (now links) (now symbols) (now scratch)) ⌝ }
-    ensures { λ r. ⌜ Rooted end (rooms (now (nodes .entry)) (now (links .entry)) (now (symbols .entry)) (now (scratch .entry))) (rooms (now (nodes .exit)) (now (links .exit)) (now (symbols .exit)) (now (scratch .exit))) r ⌝ }
+    requires { ⌜ Root-fits end known (rooms (now nodes) (now links) (now symbols) (now scratch)) ⌝ }
+    ensures { λ r. ⌜ Rooted end known (rooms (now (nodes .entry)) (now (links .entry)) (now (symbols .entry)) (now (scratch .entry))) (rooms (now (nodes .exit)) (now (links .exit)) (now (symbols .exit)) (now (scratch .exit))) r ⌝ }
 {
     let first = end.links;
     let count = end.held;
     let used = first + count;
-    let known = end.symbols;
     let n = end.nodes;
     link(links, first, scratch, 0, count);
     let last = ast::block(nodes, n, first as u32, count as u32, ABSENT, 0, 0);
@@ -128,7 +132,7 @@ fn root(
         at: 0,
         start: 0,
         end: 0,
-        expected: 255,
+        expected: codes::NO_KIND,
     }
 }
 
@@ -167,17 +171,17 @@ fn script(
     requires { ⌜ Let-in (now text) (now tokens) limit (rooms (now nodes) (now links) (now symbols) (now scratch)) ⌝ }
     ensures { λ r. ⌜ Parsed (now (text .entry)) (now (tokens .entry)) limit (rooms (now (nodes .entry)) (now (links .entry)) (now (symbols .entry)) (now (scratch .entry))) (rooms (now (nodes .exit)) (now (links .exit)) (now (symbols .exit)) (now (scratch .exit))) r ⌝ }
 {
+    let known = resolve(text, tokens, symbols, scratch);
     let start = Cursor {
-        at: 0,
-        nodes: 0,
-        links: 0,
-        symbols: 0,
         held: 0,
+        at: 0,
+        links: 0,
+        nodes: 0,
     };
-    let read = statements(text, tokens, nodes, links, symbols, scratch, limit, start);
+    let read = statements(tokens, nodes, links, scratch, limit, start);
     match read {
         Read::Refused(why) => cut(tokens, nodes, links, symbols, scratch, why),
-        Read::Node(_, end) => root(nodes, links, symbols, scratch, end),
+        Read::Node(_, end) => root(nodes, links, symbols, scratch, known, end),
     }
 }
 

@@ -6,7 +6,14 @@ use Rattle.syntax.proofs.cut.Statement.{statement}
 use Rattle.syntax.proofs.cut.Tie as tie
 
 returns : tie.Need-returns
-returns c = cut (c .before .before .before .before .before .before .before .before .before .before .before .before .before .before .before .before .before .clear .ensures) (c .before .before .before .before .before .before .before .before .before .before .before .before .before .clear2 .ensures) (c .before .before .before .before .before .before .before .before .before .clear3 .ensures) (c .before .before .before .before .before .clear4 .ensures) (c .refused .ensures ∙ rw (c .before .before .start-at .ensures, c .before .end-at .ensures))
+returns c =
+    cut (c .before .before .before .before .before .before .before .before .before .before .before .before .before .before .before .before .before .clear .ensures)
+    (c .before .before .before .before .before .before .before .before .before .before .before .before .before .clear2 .ensures)
+    (c .before .before .before .before .before .before .before .before .before .clear3 .ensures) (c .before .before .before .before .before .clear4 .ensures) (c .refused .ensures ∙
+    rw (c .before .before .start-at .ensures, c .before .end-at .ensures))
 
 pub cut-spec : {M : Type 1} → statement M
-cut-spec = tie.close (tie.spec (λ c κs. search needs) (λ c κs. search needs) (λ c κs. search needs) (λ c κs. search needs) (λ c κs. search needs) (λ c κs. search needs) (λ c. search needs) (λ c κs. search needs) (λ c. search needs) (λ c. search needs) (λ c. search needs) (λ c. search needs) returns)
+cut-spec =
+    tie.close
+    (tie.spec (λ c κs. search needs) (λ c κs. search needs) (λ c κs. search needs) (λ c κs. search needs) (λ c κs. search needs) (λ c κs. search needs) (λ c. search needs)
+    (λ c κs. search needs) (λ c. search needs) (λ c. search needs) (λ c. search needs) (λ c. search needs) returns)

@@ -14,4 +14,7 @@ returns-2 : tie.Need-returns-2
 returns-2 c = c .before .before .before .before .before .before .before .before .script .ensures
 
 pub parse-spec : {M : Type 1} → statement M
-parse-spec = tie.close (tie.spec (λ c κs. search needs) (λ c. search needs) (λ c κs. search needs) (λ c. search needs) script-requires returns (λ c. search needs) (λ c. search needs) (λ c. search needs) (λ c. search needs) returns-2)
+parse-spec =
+    tie.close
+    (tie.spec (λ c κs. search needs) (λ c. search needs) (λ c κs. search needs) (λ c. search needs) script-requires returns (λ c. search needs) (λ c. search needs) (λ c. search needs)
+    (λ c. search needs) returns-2)

@@ -19,4 +19,6 @@ returns-2 : tie.Need-returns-2
 returns-2 c = c .before .before .before .before .before .before .before .before .script .ensures
 
 pub parse-checked-spec : {M : Type 1} → statement M
-parse-checked-spec = tie.close (tie.spec (λ c κs. search needs) (λ c κs. search needs) returns script-requires (λ c. search needs) (λ c. search needs) (λ c. search needs) (λ c. search needs) returns-2)
+parse-checked-spec =
+    tie.close
+    (tie.spec (λ c κs. search needs) (λ c κs. search needs) returns script-requires (λ c. search needs) (λ c. search needs) (λ c. search needs) (λ c. search needs) returns-2)

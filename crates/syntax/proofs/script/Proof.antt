@@ -1,23 +1,72 @@
 -- The answer of a call that is let in: that of its statements' refusal, or of the script that they are.
 use borrow.Author.Needs.{needs}
-use Rattle.syntax.proofs.Scripts.{ready, lent, refused-told, refused-at, refused-answer, listed-told, fitting, accepted-answer}
+use native.Mathlib.Omega.{arith}
+use mathlib.Core.Path.{_≡_}
+use lib.ListN.{length}
+use Rattle.syntax.proofs.Scripts.{names-open, asked, lent, refused-told, refused-at, refused-answer, listed-told, fitting, accepted-answer}
 use Rattle.syntax.proofs.script.Statement.{statement}
 use Rattle.syntax.proofs.script.Tie as tie
 
+-- back from where one part is known to where the one before it is
+abbrev to-start : tie.After-resolve → tie.Start
+to-start c = c .before .before .before .before .before .before .before .before .before
+
+abbrev to-resolved : tie.After-statements → tie.After-resolve
+to-resolved c = c .before .before .before .before .before .before .before .before
+
+abbrev to-read : tie.After-cut → tie.After-statements
+to-read c = c .before .before .before .before .before .before .before .before .before .before .before .before .before .before
+
+abbrev to-read-from-root : tie.After-root → tie.After-statements
+to-read-from-root c = c .before .before .before .before .before .before .before .before .before .before .before .before .before .before
+
 statements-requires : tie.Need-statements-requires
-statements-requires c κs = ready (c .before .before .before .before .before .before .before .before .before .before .pre)
+statements-requires c κs =
+    let d = c .before .before .before .before .before .before .before in
+    asked (to-start d .pre) (d .resolve .ensures)
+
+-- the scratch room is as long after the statements as it was lent
+kept : (c : tie.After-statements) → length (c .statements .last .1 .1 .1 .0) ≡ length (to-start (to-resolved c) .args .scratch .now)
+kept c = omega (arith, c .statements .kept, to-resolved c .resolve .ensures .scratch-size)
 
 cut-requires : tie.Need-cut-requires
-cut-requires c κs = (refused-at (c .before .before .before .before .before .before .before .before .before .before .before .before .before .before .before .before .before .before .before .before .before .before .before .before .before .before .pre) (refused-told (c .before .before .before .before .before .before .before .before .before .before .before .before .before .before .before .statements .ensures) (c .before .before .before .before .before .read .given .1)), lent (c .before .before .before .before .before .before .before .before .before .before .before .before .before .before .before .before .before .before .before .before .before .before .before .before .before .before .pre) .whole .most)
+cut-requires c κs =
+    let d = c .before .before .before .before .before .before .before .before .before .before .before .before .before in (
+      refused-at (to-start (to-resolved d) .pre) (to-resolved d .resolve .ensures) (refused-told (d .statements .ensures) (c .before .before .before .before .before .read .given .1)),
+      lent (to-start (to-resolved d) .pre) .whole .most,
+    )
 
 root-requires : tie.Need-root-requires
-root-requires c κs = fitting (c .before .before .before .before .before .before .before .before .before .before .before .before .before .before .before .before .before .before .before .before .before .before .before .before .before .before .pre) (listed-told (c .before .before .before .before .before .before .before .before .before .before .before .before .before .before .before .statements .ensures) (c .before .before .before .before .before .read2 .given .1))
+root-requires c κs =
+    let d = c .before .before .before .before .before .before .before .before .before .before .before .before .before in
+    fitting (to-start (to-resolved d) .pre) (to-resolved d .resolve .ensures) (listed-told (d .statements .ensures) (c .before .before .before .before .before .read2 .given .1))
 
 returns : tie.Need-returns
-returns c = refused-answer (c .before .before .before .before .before .before .before .before .before .before .before .before .before .before .before .before .before .before .before .before .before .before .before .before .before .before .before .before .before .before .before .before .before .before .before .pre) (refused-told (c .before .before .before .before .before .before .before .before .before .before .before .before .before .before .before .before .before .before .before .before .before .before .before .before .statements .ensures) (c .before .before .before .before .before .before .before .before .before .before .before .before .before .before .read .given .1)) (record { nodes = search needs; links = search needs; symbols = search needs; scratch = search needs }) (c .before .before .before .before .before .before .before .before .cut .ensures)
+returns c =
+    let d = c .before .before .before .before .before .before .before .before in
+    refused-answer (to-start (to-resolved (to-read d)) .pre) (to-resolved (to-read d) .resolve .ensures)
+    (refused-told (to-read d .statements .ensures) (c .before .before .before .before .before .before .before .before .before .before .before .before .before .before .read .given .1))
+    (record {
+      nodes = omega (arith, to-read d .statements .kept);
+      links = omega (arith, to-read d .statements .kept);
+      symbols = to-resolved (to-read d) .resolve .ensures .symbol-size;
+      scratch = kept (to-read d);
+    })
+    (d .cut .ensures)
 
 returns-2 : tie.Need-returns-2
-returns-2 c = accepted-answer (c .before .before .before .before .before .before .before .before .before .before .before .before .before .before .before .before .before .before .before .before .before .before .before .before .before .before .before .before .before .before .before .before .before .before .before .pre) (listed-told (c .before .before .before .before .before .before .before .before .before .before .before .before .before .before .before .before .before .before .before .before .before .before .before .before .statements .ensures) (c .before .before .before .before .before .before .before .before .before .before .before .before .before .before .read2 .given .1)) (c .before .before .before .before .before .before .before .before .root .ensures)
+returns-2 c =
+    let d = c .before .before .before .before .before .before .before .before in
+    accepted-answer (to-start (to-resolved (to-read-from-root d)) .pre) (to-resolved (to-read-from-root d) .resolve .ensures)
+    (listed-told (to-read-from-root d .statements .ensures)
+    (c .before .before .before .before .before .before .before .before .before .before .before .before .before .before .read2 .given .1)) (d .root .ensures)
 
 pub script-spec : {M : Type 1} → statement M
-script-spec = tie.close (tie.spec statements-requires (λ c. search needs) cut-requires (λ c. search needs) root-requires (λ c. search needs) (λ c. search needs) (λ c. search needs) (λ c. search needs) returns (λ c. search needs) (λ c. search needs) (λ c. search needs) (λ c. search needs) returns-2)
+script-spec =
+    tie.close
+    (tie.spec (λ c κs. names-open (c .before .before .before .before .before .before .before .before .pre)) statements-requires (λ c. search needs) cut-requires (λ c. search needs)
+    root-requires (λ c. search needs) (λ c. search needs)
+    (λ c. let d = c .before .before .before .before .before .before .before .before in omega (arith, d .cut .kept, to-resolved (to-read d) .resolve .ensures .symbol-size))
+    (λ c. let d = c .before .before .before .before .before .before .before .before in omega (arith, d .cut .kept, kept (to-read d))) returns (λ c. search needs) (λ c. search needs)
+    (λ c. let d = c .before .before .before .before .before .before .before .before in omega (arith, d .root .kept, to-resolved (to-read-from-root d) .resolve .ensures .symbol-size))
+    (λ c. let d = c .before .before .before .before .before .before .before .before in omega (arith, d .root .kept, kept (to-read-from-root d))) returns-2)

@@ -10,6 +10,7 @@ use Rattle.grammar.specs.Kaori.{rules, script-items, statement as a-statement}
 use Rattle.grammar.specs.Phrase.{empty, choice, chain, whole}
 use Rattle.grammar.specs.Refusal.{Refused}
 use Rattle.grammar.specs.Token.{kind, count}
+use Rattle.grammar.proofs.Halves.{Lists as List-table}
 use Rattle.grammar.proofs.Tables.{keyed, unkeyed}
 use Rattle.reading.specs.Answers.{State-case, States, Stated, List-case, Lists}
 use Rattle.reading.specs.Reading.{refusal, Refusing}
@@ -23,25 +24,29 @@ use Rattle.syntax.proofs.statements.Statement.{statement}
 use Rattle.syntax.proofs.statements.Tie as tie
 
 -- a statement is refused
-passed : {text ts : List ℕ} {limit o o′ : ℕ} {s s′ : State} {ns ls ys ss : List ℕ} {r : Read} {q : Refusal} → r ≡ Read.Refused q → States text ts limit o′ s′ ns ls ys ss r →
-    ((x : Refused) → Refusing ts limit (choice a-statement) o′ s′ x → Refusing ts limit (chain empty script-items) o s x) → Lists text ts limit (whole (chain empty script-items)) o s ns ls ys ss r
+passed : {ts : List ℕ} {limit o o′ : ℕ} {s s′ : State} {ns ls ss : List ℕ} {r : Read} {q : Refusal} → r ≡ Read.Refused q → States ts limit o′ s′ ns ls ss r →
+    ((x : Refused) → Refusing ts limit (choice a-statement) o′ s′ x → Refusing ts limit (chain empty script-items) o s x) → Lists ts limit (whole (chain empty script-items)) o s ns ls ss r
 unfolding State-case List-case
 passed {q = q} e a up = rw e (record { says = up (refusal q) ((rw e at a) .says) })
 
 -- the row that is held for a statement is its link row
-row-held : {text ts : List ℕ} {limit o : ℕ} {s s′ : State} {n : Node} → Within text ts s → (z : Stated text ts limit o s n s′) → n .id ∷ 0 ∷ 0 ∷ [] ≡ link (z .handle)
+row-held : {ts : List ℕ} {limit o : ℕ} {s s′ : State} {n : Node} → Within ts s → (z : Stated ts limit o s n s′) → n .id ∷ 0 ∷ 0 ∷ [] ≡ link (z .handle)
 row-held w z = sym (statement-link w (z .success .reading) ∙ ap (λ i. i ∷ 0 ∷ 0 ∷ []) (z .row-is))
 
 -- what the loop keeps: what is read and held since s, and the kind of the token that comes next
-record Up-to (text ts : List ℕ) (limit : ℕ) (s s₁ : State) (x : ℕ) : Type 0 where
-  listing : Listing text ts limit script-items 0 s s₁
+record Up-to (ts : List ℕ) (limit : ℕ) (s s₁ : State) (x : ℕ) : Type 0 where
+  listing : Listing ts limit script-items 0 s s₁
   next-is : x ≡ kind ts (s₁ .cursor .at)
 
 abbrev Inv-list : tie.InvT-list
-Inv-list text tokens nodes₀ links₀ symbols₀ scratch₀ limit now₀ first kind₀ nodes links symbols scratch now kind = Up-to text tokens limit (state nodes₀ links₀ symbols₀ scratch₀ now₀) (state nodes links symbols scratch now) kind
+Inv-list tokens nodes₀ links₀ scratch₀ limit now₀ first kind₀ nodes links scratch now kind = Up-to tokens limit (state nodes₀ links₀ scratch₀ now₀) (state nodes links scratch now) kind
 
 abbrev μ-list : tie.MeasureT-list
-μ-list text tokens nodes₀ links₀ symbols₀ scratch₀ limit now₀ first kind₀ nodes links symbols scratch now kind = count tokens - now .at
+μ-list tokens nodes₀ links₀ scratch₀ limit now₀ first kind₀ nodes links scratch now kind = count tokens - now .at
+
+-- back from where one part is known to where the one before it is
+abbrev to-start : tie.At-list Inv-list μ-list → tie.Start Inv-list μ-list
+to-start c = c .before .before .before .before .before .before
 
 -- where the script goes on: what its table has there
 on : (c : tie.In-list Inv-list μ-list) → Item-of (c .before .list .inv .listing) (choice a-statement)
@@ -49,28 +54,50 @@ unfolding rules
 on c = unkeyed script-items _ refl (rw (c .before .list .inv .next-is) at (c .list-test .left))
 
 list-holds : tie.Need-list-holds Inv-list μ-list
-list-holds c = let p = c .before .before .before .before .before .before .before .pre in record { listing = listing-none (p .deep) (p .within); next-is = c .kind-at .ensures }
+list-holds c = record { listing = listing-none List-table.script (c .before .before .before .before .before .pre); next-is = c .kind-at .ensures }
 
 returns : tie.Need-returns Inv-list μ-list
-returns c = passed (c .enum-told .given .1) (c .before .before .before .before .before .before .before .before .before .before .statement .ensures) (λ x h. further (c .before .before .before .before .before .before .before .before .before .before .before .before .before .before .before .before .list .inv .listing .reading) (on (c .before .before .before .before .before .before .before .before .before .before .before .before .before .before .before)) h)
+returns c =
+    passed (c .enum-told .given .1) (c .before .before .before .before .before .before .before .before .statement .ensures)
+    (λ x h. further (c .before .before .before .before .before .before .before .before .before .before .before .before .before .list .inv .listing .listed .reading)
+    (on (c .before .before .before .before .before .before .before .before .before .before .before .before)) h)
 
 push-requires : tie.Need-push-requires Inv-list μ-list
-push-requires c κs = hold-room (stated (c .before .before .read .given .1) (c .before .before .before .before .before .before .before .before .before .before .before .before .statement .ensures) .success .within)
+push-requires c κs =
+    hold-room (stated (c .before .before .read .given .1) (c .before .before .before .before .before .before .before .before .before .before .statement .ensures) .success .within)
 
-add-now : tie.Need-add-now Inv-list μ-list
-add-now c = omega (arith, hold-number (stated (c .before .before .before .before .before .read .given .1) (c .before .before .before .before .before .before .before .before .before .before .before .before .before .before .before .statement .ensures) .success .within) (c .before .before .before .before .before .before .before .before .before .before .before .before .before .before .before .before .before .before .before .before .before .before .before .before .before .before .before .before .before .pre .lent))
+add-t26 : tie.Need-add-t26 Inv-list μ-list
+add-t26 c =
+    omega (
+      arith,
+      hold-number
+          (stated (c .before .before .before .before .before .read .given .1)
+          (c .before .before .before .before .before .before .before .before .before .before .before .before .before .statement .ensures) .success .within)
+          (to-start (c .before .before .before .before .before .before .before .before .before .before .before .before .before .before .before .before .before .before) .pre .ready .lent),
+    )
 
 kind-at-requires-2 : tie.Need-kind-at-requires-2 Inv-list μ-list
-kind-at-requires-2 c κs = stated (c .before .before .before .before .before .read .given .1) (c .before .before .before .before .before .before .before .before .before .before .before .before .before .before .before .statement .ensures) .success .within .at
+kind-at-requires-2 c κs =
+    stated (c .before .before .before .before .before .read .given .1)
+    (c .before .before .before .before .before .before .before .before .before .before .before .before .before .statement .ensures) .success .within .at
 
 list-again : tie.Need-list-again Inv-list μ-list
 list-again c =
-    let l = c .before .before .before .before .before .before .before .before .before .before .before .before .before .before .before .before .before .before .before .before .before .before .list .inv .listing in
-    let z = stated (c .before .before .before .before .before .before .read .given .1) (c .before .before .before .before .before .before .before .before .before .before .before .before .before .before .before .before .statement .ensures) in
-    record { listing = listing-more l (on (c .before .before .before .before .before .before .before .before .before .before .before .before .before .before .before .before .before .before .before .before .before)) (z .success) (c .before .before .before .push .ensures) (row-held (l .within) z); next-is = c .kind-at2 .ensures }
+    let l = c .before .before .before .before .before .before .before .before .before .before .before .before .before .before .before .before .before .before .before .list .inv .listing in
+    let z = stated (c .before .before .before .before .before .before .read .given .1)
+    (c .before .before .before .before .before .before .before .before .before .before .before .before .before .before .statement .ensures) in
+    record {
+      listing = listing-more l (on (c .before .before .before .before .before .before .before .before .before .before .before .before .before .before .before .before .before .before))
+          (z .success) (c .before .before .before .push .ensures) (row-held (l .listed .within) z);
+      next-is = c .kind-at2 .ensures;
+    }
 
 list-less : tie.Need-list-less Inv-list μ-list
-list-less c = item-less (c .before .before .before .before .before .before .before .before .before .before .before .before .before .before .before .before .before .before .before .before .before .before .list .inv .listing) (on (c .before .before .before .before .before .before .before .before .before .before .before .before .before .before .before .before .before .before .before .before .before)) (stated (c .before .before .before .before .before .before .read .given .1) (c .before .before .before .before .before .before .before .before .before .before .before .before .before .before .before .before .statement .ensures) .success)
+list-less c =
+    item-less (c .before .before .before .before .before .before .before .before .before .before .before .before .before .before .before .before .before .before .before .list .inv .listing)
+    (on (c .before .before .before .before .before .before .before .before .before .before .before .before .before .before .before .before .before .before))
+    (stated (c .before .before .before .before .before .before .read .given .1)
+    (c .before .before .before .before .before .before .before .before .before .before .before .before .before .before .statement .ensures) .success)
 
 returns-2 : tie.Need-returns-2 Inv-list μ-list
 unfolding rules
@@ -79,4 +106,5 @@ returns-2 c = lists (listing-end (c .before .list .inv .listing) (keyed script-i
 pub statements-spec : {M : Type 1} → statement M
 statements-spec =
     tie.close
-    (tie.spec Inv-list μ-list (λ c κs. search needs) list-holds (λ c κs. search needs) (λ c. search needs) (λ c. search needs) (λ c. search needs) (λ c. search needs) (λ c. search needs) (λ c. search needs) returns push-requires add-now kind-at-requires-2 list-less list-again (λ c. search needs) (λ c. search needs) (λ c. search needs) (λ c. search needs) returns-2)
+    (tie.spec Inv-list μ-list (λ c κs. search needs) list-holds (λ c κs. search needs) (λ c. search needs) (λ c. search needs) (λ c. search needs) (λ c. search needs) (λ c. search needs)
+    returns push-requires add-t26 kind-at-requires-2 list-less list-again (λ c. search needs) (λ c. search needs) (λ c. search needs) returns-2)

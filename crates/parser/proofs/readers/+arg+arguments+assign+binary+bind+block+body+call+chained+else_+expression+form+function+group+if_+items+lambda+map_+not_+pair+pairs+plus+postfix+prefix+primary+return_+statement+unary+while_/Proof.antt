@@ -63,5 +63,11 @@ use Statement.{spec as statement-spec}
 use Unary.{spec as unary-spec}
 use While.{spec as while--spec}
 
-pub +arg+arguments+assign+binary+bind+block+body+call+chained+else-+expression+form+function+group+if-+items+lambda+map-+not-+pair+pairs+plus+postfix+prefix+primary+return-+statement+unary+while--spec : {M : Type 1} → statement M
-+arg+arguments+assign+binary+bind+block+body+call+chained+else-+expression+form+function+group+if-+items+lambda+map-+not-+pair+pairs+plus+postfix+prefix+primary+return-+statement+unary+while--spec = close (μ 7) (μ 8) (μ 7) (μ-numbered 5) (μ-numbered 2) (μ 2) (μ 7) (μ-linked 2) (μ 2) (μ 7) (μ 6) (μ 8) (μ 2) (μ 2) (μ 2) (μ 10) (μ 2) (μ 2) (μ 2) (μ 7) (μ 8) (μ 2) (μ-linked 3) (μ 4) (μ 3) (μ 2) (μ 9) (μ-numbered 2) (μ 2) (λ t. arg-spec t) (λ t. args-spec t) (λ t. assign-spec t) (λ t. binary-spec t) (λ t. bind-spec t) (λ t. block-spec t) (λ t. body-spec t) (λ t. call-spec t) (λ t. chained-spec t) (λ t. else--spec t) (λ t. expression-spec t) (λ t. form-spec t) (λ t. function-spec t) (λ t. group-spec t) (λ t. if--spec t) (λ t. items-spec t) (λ t. lambda-spec t) (λ t. map--spec t) (λ t. not--spec t) (λ t. pair-spec t) (λ t. pairs-spec t) (λ t. plus-spec t) (λ t. postfix-spec t) (λ t. prefix-spec t) (λ t. primary-spec t) (λ t. return--spec t) (λ t. statement-spec t) (λ t. unary-spec t) (λ t. while--spec t)
+pub +arg+arguments+assign+binary+bind+block+body+call+chained+else-+expression+form+function+group+if-+items+lambda+map-+not-+pair+pairs+plus+postfix+prefix+primary+return-+statement+unary+while--spec :
+    {M : Type 1} → statement M
++arg+arguments+assign+binary+bind+block+body+call+chained+else-+expression+form+function+group+if-+items+lambda+map-+not-+pair+pairs+plus+postfix+prefix+primary+return-+statement+unary+while--spec =
+    close (μ 7) (μ 8) (μ 7) (μ-numbered 5) (μ-numbered 2) (μ 2) (μ 7) (μ-linked 2) (μ 2) (μ 7) (μ 6) (μ 8) (μ 2) (μ 2) (μ 2) (μ 10) (μ 2) (μ 2) (μ 2) (μ 7) (μ 8) (μ 2) (μ-linked 3)
+    (μ 4) (μ 3) (μ 2) (μ 9) (μ-numbered 2) (μ 2) (λ t. arg-spec t) (λ t. args-spec t) (λ t. assign-spec t) (λ t. binary-spec t) (λ t. bind-spec t) (λ t. block-spec t)
+    (λ t. body-spec t) (λ t. call-spec t) (λ t. chained-spec t) (λ t. else--spec t) (λ t. expression-spec t) (λ t. form-spec t) (λ t. function-spec t) (λ t. group-spec t)
+    (λ t. if--spec t) (λ t. items-spec t) (λ t. lambda-spec t) (λ t. map--spec t) (λ t. not--spec t) (λ t. pair-spec t) (λ t. pairs-spec t) (λ t. plus-spec t) (λ t. postfix-spec t)
+    (λ t. prefix-spec t) (λ t. primary-spec t) (λ t. return--spec t) (λ t. statement-spec t) (λ t. unary-spec t) (λ t. while--spec t)

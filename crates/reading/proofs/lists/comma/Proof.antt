@@ -26,4 +26,6 @@ returns-3 c =
     record { says = (refl, inr (rw (c .before .before .before .before .before .kind-at .ensures) at (c .before .before .before .before .if1 .left), z .kind-is, z .after)) }
 
 pub comma-spec : {M : Type 1} → statement M
-comma-spec = tie.close (tie.spec (λ c κs. search needs) returns (λ c κs. search needs) (λ c. search needs) (λ c. search needs) returns-2 returns-3)
+comma-spec =
+    tie.close
+    (tie.spec (λ c κs. search needs) returns (λ c κs. search needs) (λ c. search needs) (λ c. search needs) returns-2 returns-3)

@@ -14,4 +14,6 @@ unfolding Took
 returns-2 c = record { says = (rw (c .before .before .before .kind-at .ensures) at (c .before .before .if1 .left), rw (c .before .start-at .ensures, c .end-at .ensures), refl) }
 
 pub consume-spec : {M : Type 1} → statement M
-consume-spec = tie.close (tie.spec (λ c κs. search needs) returns (λ c κs. search needs) (λ c κs. search needs) (λ c. search needs) returns-2)
+consume-spec =
+    tie.close
+    (tie.spec (λ c κs. search needs) returns (λ c κs. search needs) (λ c κs. search needs) (λ c. search needs) returns-2)

@@ -25,12 +25,15 @@ use Rattle.reading.proofs.Gathering.{gather-asks, gathered-free}
 use Rattle.reading.proofs.Laws.{Made, rooms-on, taken, labelled, ready-next, ready-on}
 use Rattle.reading.proofs.Listings.{Held, listed-rooms, listed-from, held-since, listed-both, rows-both}
 use Rattle.reading.proofs.Replies.{Taken, token-taken, answer, lacks, passed-list, listed, after}
+use Rattle.reading.proofs.Taking.{opened-led}
 use Rattle.reading.proofs.lists.import.Statement.{statement}
 use Rattle.reading.proofs.lists.import.Tie as tie
 
 -- the row of an import: the second list's links come after the first's
-made : {text ts ns ns′ ls ls′ ys ss : List ℕ} {a : ℕ} {c : Cursor} {xs zs : List Handle} {n : Node} (m : ℕ) → Inserted (c .nodes) 26 (start ts a) (end ts (c .at)) (c .links ∷ length xs ∷ (c .links + length xs) ∷ length zs ∷ []) ns ns′ n →
-    9 * c .nodes ≤ length ns → 3 * c .links ≤ length ls → Written (3 * c .links) (3 * (c .links + m)) (links-of xs ++ links-of zs) ls ls′ → Made text ts (Label.Row Form.Import) a (state ns ls ys ss c) xs zs (node-of n ∷ []) (state ns′ ls′ ys ss (grown-by c m))
+made : {ts ns ns′ ls ls′ ss : List ℕ} {a : ℕ} {c : Cursor} {xs zs : List Handle} {n : Node} (m : ℕ) → Inserted (c .nodes) 26 (start ts a) (end ts (c .at))
+    (c .links ∷ length xs ∷ (c .links + length xs) ∷ length zs ∷ []) ns ns′ n →
+    9 * c .nodes ≤ length ns → 3 * c .links ≤ length ls → Written (3 * c .links) (3 * (c .links + m)) (links-of xs ++ links-of zs) ls ls′ → Made ts (Label.Row Form.Import) a
+    (state ns ls ss c) xs zs (node-of n ∷ []) (state ns′ ls′ ss (grown-by c m))
 unfolding make put fill numbers write rule
 made {ls = ls} {c = c} {xs = xs} {zs = zs} m i g h w =
     let l = length-take-le (3 * c .links) ls h in
@@ -38,16 +41,7 @@ made {ls = ls} {c = c} {xs = xs} {zs = zs} m i g h w =
     let second : length (take (3 * c .links) ls ++ links-of xs) / 3 ≡ c .links + length xs = omega (arith, links-length xs) in
     list-made m i g w (rw (link-number (c .links) ls h, second, append-assoc (take (3 * c .links) ls) (links-of xs) (links-of zs)))
 
--- the places where the word, the path and the names are read, from the last back to the reader's start, and the cursors after them
-abbrev entry : tie.After-known-told → tie.Start
-entry c = c .before .before .before .before .before .before .before .before .before .before
-
-abbrev word : tie.After-known-told2 → tie.After-known-told
-word c = c .before .before .before .before .before .before .before .before .before .before .before .before .before .before .before .before
-
-abbrev path : tie.After-known-told3 → tie.After-known-told2
-path c = c .before .before .before .before .before .before .before .before .before .before .before .before .before .before .before .before
-
+-- the cursors after the word, the path and the names
 abbrev next : tie.After-known-told → Cursor
 next c = c .before .read .given .0 .1 .0
 
@@ -57,18 +51,34 @@ middle c = c .before .read2 .given .0 .1 .0
 abbrev last : tie.After-known-told3 → Cursor
 last c = c .before .read3 .given .0 .1 .0
 
+-- back from where one part is known to where the one before it is
+abbrev to-start : tie.After-known-told → tie.Start
+to-start c = c .before .before .before .before .before .before .before .before
+
+abbrev to-path : tie.After-known-told2 → tie.After-path
+to-path c = c .before .before .before .before .before .before .before .before .before
+
+abbrev to-bindings : tie.After-known-told3 → tie.After-bindings
+to-bindings c = c .before .before .before .before .before .before .before .before .before
+
+abbrev to-steps : tie.After-known-told3 → tie.After-known-told2
+to-steps c = c .before .before .before .before .before .before .before .before .before .before .before .before .before
+
+abbrev to-lead : tie.After-known-told2 → tie.After-known-told
+to-lead c = c .before .before .before .before .before .before .before .before .before .before .before .before .before
+
 -- what was read there
-lead : (c : tie.After-known-told) → Taken (entry c .args .tokens .now) (entry c .args .cur) Import (c .before .read .given .0 .0) (next c)
+lead : (c : tie.After-known-told) → Taken (to-start c .args .tokens .now) (to-start c .args .cur) Import (c .before .read .given .0 .0) (next c)
 lead c = token-taken (c .before .read .given .1) (c .before .before .before .consume .ensures)
 
-steps : (c : tie.After-known-told2) → Held (c .before .before .before .before .before .before .before .before .before .before .before .path .ensures) (middle c)
-steps c = listed (c .before .read2 .given .1) (c .before .before .before .before .before .before .before .before .before .before .before .path .ensures)
+steps : (c : tie.After-known-told2) → Held (to-path c .path .ensures) (middle c)
+steps c = listed (c .before .read2 .given .1) (to-path c .path .ensures)
 
-words : (c : tie.After-known-told3) → Held (c .before .before .before .before .before .before .before .before .before .before .before .bindings .ensures) (last c)
-words c = listed (c .before .read3 .given .1) (c .before .before .before .before .before .before .before .before .before .before .before .bindings .ensures)
+words : (c : tie.After-known-told3) → Held (to-bindings c .bindings .ensures) (last c)
+words c = listed (c .before .read3 .given .1) (to-bindings c .bindings .ensures)
 
 -- nothing more is held after the word
-base : (c : tie.After-known-told) → next c .held ≡ entry c .args .cur .held
+base : (c : tie.After-known-told) → next c .held ≡ (to-start c) .args .cur .held
 base c = ap (λ (d : Cursor). d .held) (lead c .after)
 
 -- how much is held where both lists are
@@ -77,62 +87,90 @@ record Sizes (from middle upto links : ℕ) : Type 0 where
   on : middle ≤ upto
   few : links + upto < 4096
 
-sizes : (c : tie.After-known-told3) → Sizes (entry (word (path c)) .args .cur .held) (middle (path c) .held) (last c .held) (last c .links)
+sizes : (c : tie.After-known-told3) → Sizes (to-start (to-lead (to-steps c)) .args .cur .held) (middle (to-steps c) .held) (last c .held) (last c .links)
 sizes c =
     let w = words c .within in
-    record { rises = omega (arith, base (word (path c)), steps (path c) .count); on = omega (arith, words c .count); few = omega (arith, w .links, w .at, entry (word (path c)) .pre .lent .whole .most) }
+    record {
+      rises = omega (arith, base (to-lead (to-steps c)), steps (to-steps c) .count);
+      on = omega (arith, words c .count);
+      few = omega
+          (arith, w .links, w .at, to-start (to-lead (to-steps c)) .pre .lent .whole .most);
+    }
 
 -- the rooms are as long after both lists as at the start
-kept : (c : tie.After-known-told3) → Rooms (state (entry (word (path c)) .args .nodes .now) (entry (word (path c)) .args .links .now) (entry (word (path c)) .args .symbols .now) (entry (word (path c)) .args .scratch .now) (next (word (path c)))) (state (c .before .before .before .before .before .before .before .before .before .before .before .bindings .last .1 .1 .0) (c .before .before .before .before .before .before .before .before .before .before .before .bindings .last .1 .1 .1 .0) (c .before .before .before .before .before .before .before .before .before .before .before .bindings .last .1 .1 .1 .1 .0) (c .before .before .before .before .before .before .before .before .before .before .before .bindings .last .1 .1 .1 .1 .1 .0) (last c))
-kept c = rooms-on (listed-rooms (steps (path c))) (listed-rooms (words c))
+kept : (c : tie.After-known-told3) → Rooms
+    (state (to-start (to-lead (to-steps c)) .args .nodes .now) (to-start (to-lead (to-steps c)) .args .links .now) (to-start (to-lead (to-steps c)) .args .scratch .now)
+    (next (to-lead (to-steps c)))) (state (to-bindings c .bindings .last .1 .0) (to-bindings c .bindings .last .1 .1 .0) (to-bindings c .bindings .last .1 .1 .1 .0) (last c))
+kept c = rooms-on (listed-rooms (steps (to-steps c))) (listed-rooms (words c))
 
 returns : tie.Need-returns
 returns c = lacks (c .enum-told .given .1) (c .before .before .consume .ensures) (λ n. Refuses.in-node (Refuses.missing n))
 
 path-requires : tie.Need-path-requires
-path-requires c κs = let t = lead (c .before .before .before .before) in rw (t .after) (ready-next (entry (c .before .before .before .before) .pre) (t .kind-is) (λ e. omega arith))
+path-requires c κs = let t = lead (c .before .before .before) in opened-led (to-start (c .before .before .before) .pre) t (λ e. omega arith)
 
 returns-2 : tie.Need-returns-2
 returns-2 c =
-    let t = lead (c .before .before .before .before .before .before .before .before .before .before .before .before .before .before .before) in
-    passed-list (c .enum-told2 .given .1) (rw (t .after) at (c .before .before .before .before .before .before .before .before .before .before .path .ensures)) (λ x h. Refuses.in-node (Refuses.past-token (t .kind-is) (Refuses.in-first h)))
+    let t = lead (c .before .before .before .before .before .before .before .before .before .before .before .before) in
+    passed-list (c .enum-told2 .given .1) (rw (t .after) at (c .before .before .before .before .before .before .before .before .path .ensures))
+    (λ x h. Refuses.in-node (Refuses.past-token (t .kind-is) (Refuses.in-first h)))
 
 bindings-requires : tie.Need-bindings-requires
-bindings-requires c κs = ready-on (entry (word (c .before .before .before .before)) .pre) (steps (c .before .before .before .before) .within)
+bindings-requires c κs = ready-on (to-start (to-lead (c .before .before .before)) .pre) (steps (c .before .before .before) .within)
 
 returns-3 : tie.Need-returns-3
 returns-3 c =
-    let t = lead (word (c .before .before .before .before .before .before .before .before .before .before .before .before .before .before .before)) in
-    let r = listed-from (t .after) (steps (c .before .before .before .before .before .before .before .before .before .before .before .before .before .before .before)) in
-    passed-list (c .enum-told3 .given .1) (c .before .before .before .before .before .before .before .before .before .before .bindings .ensures) (λ x h. Refuses.in-node (Refuses.past-token (t .kind-is) (after (r .reading) h)))
+    let d = c .before .before .before .before .before .before .before .before .before .before .before .before in
+    let t = lead (to-lead d) in
+    let r = listed-from (t .after) (steps d) in
+    passed-list (c .enum-told3 .given .1) (c .before .before .before .before .before .before .before .before .bindings .ensures)
+    (λ x h. Refuses.in-node (Refuses.past-token (t .kind-is) (after (r .reading) h)))
 
 gather-requires : tie.Need-gather-requires
-gather-requires c κs = let z = sizes (c .before .before .before .before .before) in gather-asks (entry (word (path (c .before .before .before .before .before))) .pre .lent) (words (c .before .before .before .before .before) .within) (omega arith)
+gather-requires c κs =
+    let d = c .before .before .before .before .before in
+    let z = sizes d in gather-asks (to-start (to-lead (to-steps d)) .pre .lent) (words d .within) (omega arith)
 
 end-at-requires : tie.Need-end-at-requires
 end-at-requires c κs = rw (c .before .before .gather .ensures .cursor) (words (c .before .before .before .before .before .before .before .before) .within .at)
 
 import-requires : tie.Need-import-requires
-import-requires c κs = gathered-free (entry (word (path (c .before .before .before .before .before .before .before .before .before .before))) .pre .lent) (words (c .before .before .before .before .before .before .before .before .before .before) .within) (c .before .before .before .before .gather .ensures)
+import-requires c κs =
+    let d = c .before .before .before .before .before .before .before .before .before .before in
+    gathered-free (to-start (to-lead (to-steps d)) .pre .lent) (words d .within) (c .before .before .before .before .gather .ensures)
 
 returns-4 : tie.Need-returns-4
 unfolding paid spare
 returns-4 c =
-    let d = c .before .before .before .before .before .before .before .before .before .before .before .before .before in
-    let p = entry (word (path d)) .pre in
-    let t = lead (word (path d)) in
-    let l = listed-from (t .after) (steps (path d)) in
+    let d = c .before .before .before .before .before .before .before .before .before .before .before .before .before .before in
+    let p = to-start (to-lead (to-steps d)) .pre in
+    let t = lead (to-lead (to-steps d)) in
+    let l = listed-from (t .after) (steps (to-steps d)) in
     let m = words d in
-    let g = c .before .before .before .before .before .before .before .gather .ensures in
-    let path-long : middle (path d) .held - entry (word (path d)) .args .cur .held ≡ length (l .items) = omega (arith, l .count) in
-    let names-long : last d .held - middle (path d) .held ≡ length (m .items) = omega (arith, m .count) in
+    let g = c .before .before .before .before .before .before .before .before .gather .ensures in
+    let path-long : middle (to-steps d) .held - (to-start (to-lead (to-steps d))) .args .cur .held ≡ length (l .items) = omega (arith, l .count) in
+    let names-long : last d .held - middle (to-steps d) .held ≡ length (m .items) = omega (arith, m .count) in
     let w = rw (held-since (ready-next p (t .kind-is) (λ e. omega arith) .within) (m .within) (omega (arith, l .count, m .count)) (rows-both l m)) at (g .links) in
-    let i = rw (c .before .before .before .before .end-at .ensures, t .node-is, g .cursor, path-long, names-long) at (c .before .before .import .ensures) in
+    let i = rw (c .before .before .before .before .before .end-at .ensures, t .node-is, g .cursor, path-long, names-long) at (c .before .before .before .import .ensures) in
     let u = m .within in
-    rw (g .cursor)
-    (answer p (record { pays = tt }) (u .at) (u .table) (labelled (taken (t .kind-is) (listed-both l m)) (made _ i (omega (arith, u .rows, u .at, u .roomy .nodes)) (omega (arith, u .links, u .at, u .roomy .links)) w)))
+    rw (c .made .ensures, g .cursor)
+    (answer p (record { pays = tt }) (u .at)
+    (labelled (taken (t .kind-is) (listed-both l m)) (made _ i (omega (arith, u .rows, u .at, u .roomy .nodes)) (omega (arith, u .links, u .at, u .roomy .links)) w)))
 
 pub import-spec : {M : Type 1} → statement M
 import-spec =
     tie.close
-    (tie.spec (λ c κs. search needs) (λ c. search needs) (λ c. search needs) returns path-requires (λ c. search needs) (λ c. search needs) (λ c. search needs) (λ c. search needs) (λ c. search needs) (λ c. search needs) returns-2 bindings-requires (λ c. search needs) (λ c. search needs) (λ c. search needs) (λ c. search needs) (λ c. search needs) (λ c. search needs) returns-3 (λ c. sizes (c .before) .rises) (λ c. sizes (c .before .before .before) .on) gather-requires end-at-requires (λ c. let z = sizes (c .before .before .before .before .before .before .before .before .before .before) in omega arith) (λ c. let z = sizes (c .before .before .before .before .before .before .before .before .before .before) in omega arith) (λ c. let z = sizes (c .before .before .before .before .before .before .before .before .before .before) in omega arith) (λ c. let z = sizes (c .before .before .before .before .before .before .before .before .before .before) in omega arith) (λ c. let z = sizes (c .before .before .before .before .before .before .before .before .before .before) in omega arith) import-requires (λ c. omega (arith, gathered-free (entry (word (path (c .before .before .before .before .before .before .before .before .before .before .before .before .before))) .pre .lent) (words (c .before .before .before .before .before .before .before .before .before .before .before .before .before) .within) (c .before .before .before .before .before .before .before .gather .ensures) .number)) (λ c. c .before .before .import .kept .0 ∙ kept (c .before .before .before .before .before .before .before .before .before .before .before .before .before) .nodes) (λ c. c .before .before .before .before .before .before .before .gather .kept .0 ∙ kept (c .before .before .before .before .before .before .before .before .before .before .before .before .before) .links) (λ c. kept (c .before .before .before .before .before .before .before .before .before .before .before .before .before) .symbols) (λ c. kept (c .before .before .before .before .before .before .before .before .before .before .before .before .before) .scratch) returns-4)
+    (tie.spec (λ c κs. search needs) (λ c. search needs) (λ c. search needs) returns path-requires (λ c. search needs) (λ c. search needs) (λ c. search needs) (λ c. search needs)
+    (λ c. search needs) returns-2 bindings-requires (λ c. search needs) (λ c. search needs) (λ c. search needs) (λ c. search needs) (λ c. search needs) returns-3
+    (λ c. sizes (c .before) .rises) (λ c. sizes (c .before .before .before) .on) gather-requires end-at-requires
+    (λ c. let z = sizes (c .before .before .before .before .before .before .before .before .before .before) in omega arith)
+    (λ c. let z = sizes (c .before .before .before .before .before .before .before .before .before .before) in omega arith)
+    (λ c. let z = sizes (c .before .before .before .before .before .before .before .before .before .before) in omega arith)
+    (λ c. let z = sizes (c .before .before .before .before .before .before .before .before .before .before) in omega arith)
+    (λ c. let z = sizes (c .before .before .before .before .before .before .before .before .before .before) in omega arith) import-requires
+    (λ c κs. let d = c .before .before .before .before .before .before .before .before .before .before .before .before .before in gathered-free (to-start (to-lead (to-steps d)) .pre .lent)
+    (words d .within) (c .before .before .before .before .before .before .before .gather .ensures) .number)
+    (λ c. c .before .before .before .import .kept .0 ∙ kept (c .before .before .before .before .before .before .before .before .before .before .before .before .before .before) .nodes)
+    (λ c. c .before .before .before .before .before .before .before .before .gather .kept .0 ∙ kept
+    (c .before .before .before .before .before .before .before .before .before .before .before .before .before .before) .links)
+    (λ c. kept (c .before .before .before .before .before .before .before .before .before .before .before .before .before .before) .scratch) returns-4)

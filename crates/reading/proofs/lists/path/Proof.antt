@@ -11,56 +11,75 @@ use Rattle.grammar.specs.Refusal.{Refuses}
 use Rattle.grammar.specs.Token.{kind, count}
 use Rattle.grammar.proofs.Tables.{keyed, unkeyed}
 use Rattle.reading.specs.State.{state, Rooms}
-use Rattle.reading.proofs.Laws.{rooms-on, ready-next, ready-on}
+use Rattle.reading.proofs.Laws.{rooms-on, opened-next, ready-on}
 use Rattle.reading.proofs.Listings.{Held, listed-rooms, Longer, longer-none, longer-on, listed-first, listed-taken, listed-ended, lists, lists-passed-list}
 use Rattle.reading.proofs.Replies.{listed, further}
 use Rattle.reading.proofs.lists.path.Statement.{statement}
 use Rattle.reading.proofs.lists.path.Tie as tie
 
 abbrev Inv-path : tie.InvT-path
-Inv-path text tokens nodes₀ links₀ symbols₀ scratch₀ limit depth now₀ nodes links symbols scratch now = Longer text tokens limit (choice path-name) dots depth (state nodes₀ links₀ symbols₀ scratch₀ now₀) (state nodes links symbols scratch now)
+Inv-path tokens nodes₀ links₀ scratch₀ limit depth now₀ nodes links scratch now = Longer tokens limit (choice path-name) dots depth (state nodes₀ links₀ scratch₀ now₀)
+    (state nodes links scratch now)
 
 abbrev μ-path : tie.MeasureT-path
-μ-path text tokens nodes₀ links₀ symbols₀ scratch₀ limit depth now₀ nodes links symbols scratch now = count tokens - now .at
+μ-path tokens nodes₀ links₀ scratch₀ limit depth now₀ nodes links scratch now = count tokens - now .at
 
-abbrev start : tie.At-path Inv-path μ-path → tie.Start Inv-path μ-path
-start c = c .before .before .before .before .before .before .before .before .before .before .before .before .before .before .before .before .before .before .before .before .before .before .before
+-- back from where one part is known to where the one before it is
+abbrev to-start : tie.After-known-told Inv-path μ-path → tie.Start Inv-path μ-path
+to-start c = c .before .before .before .before .before .before .before .before .before .before .before .before .before .before .before .before .before
+
+abbrev to-step : tie.After-known-told Inv-path μ-path → tie.After-step Inv-path μ-path
+to-step c = c .before .before .before .before .before .before .before .before .before
+
+abbrev to-step2 : tie.After-known-told2 Inv-path μ-path → tie.After-step2 Inv-path μ-path
+to-step2 c = c .before .before .before .before .before .before .before .before .before
+
+abbrev to-dot : tie.After-known-told2 Inv-path μ-path → tie.Else1 Inv-path μ-path
+to-dot c = c .before .before .before .before .before .before .before .before .before .before .before .before .before
 
 -- where the loop goes on: a dot
-dot : (c : tie.Else1 Inv-path μ-path) → kind (start (c .before .before) .args .tokens .now) (c .before .before .path .now .at) ≡ Dot
+dot : (c : tie.Else1 Inv-path μ-path) → kind (to-start (c .before .before .before) .args .tokens .now) (c .before .before .path .now .at) ≡ Dot
 dot c = rw (c .before .kind-at .ensures) at (c .if1 .left)
 
-link : (c : tie.Else1 Inv-path μ-path) → kaori dots (kind (start (c .before .before) .args .tokens .now) (c .before .before .path .now .at)) ≡ node Label.Item (token Dot (choice path-name))
+link : (c : tie.Else1 Inv-path μ-path) → kaori dots (kind (to-start (c .before .before .before) .args .tokens .now) (c .before .before .path .now .at)) ≡ node Label.Item
+    (token Dot (choice path-name))
 unfolding rules
 link c = keyed dots _ refl (dot c)
 
 -- where a step has answered: what that says
-started : (c : tie.After-known-told Inv-path μ-path) → Held (c .before .before .before .before .before .before .before .before .before .before .before .step .ensures) (c .before .read .given .0 .1 .0)
-started c = listed (c .before .read .given .1) (c .before .before .before .before .before .before .before .before .before .before .before .step .ensures)
+started : (c : tie.After-known-told Inv-path μ-path) → Held (to-step c .step .ensures) (c .before .read .given .0 .1 .0)
+started c = listed (c .before .read .given .1) (to-step c .step .ensures)
 
-stepped : (c : tie.After-known-told2 Inv-path μ-path) → Held (c .before .before .before .before .before .before .before .before .before .before .before .step2 .ensures) (c .before .turn .given .0 .1 .0)
-stepped c = listed (c .before .turn .given .1) (c .before .before .before .before .before .before .before .before .before .before .before .step2 .ensures)
+stepped : (c : tie.After-known-told2 Inv-path μ-path) → Held (to-step2 c .step2 .ensures) (c .before .turn .given .0 .1 .0)
+stepped c = listed (c .before .turn .given .1) (to-step2 c .step2 .ensures)
 
 -- the rooms are as long in the loop as at the start
-kept : (c : tie.At-path Inv-path μ-path) → Rooms (state (start c .args .nodes .now) (start c .args .links .now) (start c .args .symbols .now) (start c .args .scratch .now) (start c .args .cur)) (state (c .path .nodes) (c .path .links) (c .path .symbols) (c .path .scratch) (c .path .now))
+kept : (c : tie.At-path Inv-path μ-path) → Rooms
+    (state (to-start (c .before) .args .nodes .now) (to-start (c .before) .args .links .now) (to-start (c .before) .args .scratch .now) (to-start (c .before) .args .cur))
+    (state (c .path .nodes) (c .path .links) (c .path .scratch) (c .path .now))
 kept c = rooms-on (listed-rooms (started (c .before))) (c .path .inv .rooms)
 
 returns : tie.Need-returns Inv-path μ-path
-returns c = lists-passed-list (c .enum-told .given .1) (c .before .before .before .before .before .before .before .before .before .before .step .ensures) (λ x h. Refuses.in-start h)
+returns c = lists-passed-list (c .enum-told .given .1) (c .before .before .before .before .before .before .before .before .step .ensures) (λ x h. Refuses.in-start h)
 
 step-requires-2 : tie.Need-step-requires-2 Inv-path μ-path
-step-requires-2 c κs = ready-next (ready-on (start (c .before .before .before .before .before .before) .pre) (c .before .before .before .before .before .before .path .inv .within)) (dot (c .before .before .before .before)) (λ e. omega arith)
+step-requires-2 c κs =
+    opened-next (ready-on (to-start (c .before .before .before .before .before .before) .pre .ready) (c .before .before .before .before .before .path .inv .within))
+    (dot (c .before .before .before)) (λ e. omega arith)
 
 returns-2 : tie.Need-returns-2 Inv-path μ-path
 returns-2 c =
-    let b = started (c .before .before .before .before .before .before .before .before .before .before .before .before .before .before .before .before .before .before) in
-    lists-passed-list (c .enum-told2 .given .1) (c .before .before .before .before .before .before .before .before .before .before .step2 .ensures) (λ x h. further (c .before .before .before .before .before .before .before .before .before .before .before .before .before .before .before .before .before .path .inv .grown _ (listed-first b) .reading) (link (c .before .before .before .before .before .before .before .before .before .before .before .before .before .before .before)) (Refuses.past-token (dot (c .before .before .before .before .before .before .before .before .before .before .before .before .before .before .before)) h))
+    let d = c .before .before .before .before .before .before .before .before .before .before .before .before in
+    let b = started (c .before .before .before .before .before .before .before .before .before .before .before .before .before .before .before) in
+    lists-passed-list (c .enum-told2 .given .1) (c .before .before .before .before .before .before .before .before .step2 .ensures)
+    (λ x h. further (c .before .before .before .before .before .before .before .before .before .before .before .before .before .before .path .inv .grown _ (listed-first b) .reading)
+    (link d) (Refuses.past-token (dot d) h))
 
 path-less : tie.Need-path-less Inv-path μ-path
 path-less c = let z = stepped c in omega (arith, z .past, z .within .at)
 
 path-again : tie.Need-path-again Inv-path μ-path
-path-again c = longer-on (c .before .before .before .before .before .before .before .before .before .before .before .before .before .before .before .before .before .before .path .inv) (link (c .before .before .before .before .before .before .before .before .before .before .before .before .before .before .before .before)) (listed-taken (dot (c .before .before .before .before .before .before .before .before .before .before .before .before .before .before .before .before)) (stepped c))
+path-again c = longer-on (to-dot c .before .before .path .inv) (link (to-dot c)) (listed-taken (dot (to-dot c)) (stepped c))
 
 returns-3 : tie.Need-returns-3 Inv-path μ-path
 unfolding rules
@@ -71,4 +90,26 @@ returns-3 c =
 pub path-spec : {M : Type 1} → statement M
 path-spec =
     tie.close
-    (tie.spec Inv-path μ-path (λ c κs. search needs) (λ c. search needs) (λ c. search needs) (λ c. search needs) (λ c. search needs) (λ c. search needs) (λ c. search needs) returns (λ c. longer-none (started c .within)) (λ c κs. search needs) (λ c. omega (arith, c .before .before .path .inv .within .at, start (c .before .before) .pre .lent .whole .most)) step-requires-2 (λ c. search needs) (λ c. search needs) (λ c. omega (arith, c .before .before .before .before .before .before .before .before .before .before .step2 .kept, kept (c .before .before .before .before .before .before .before .before .before .before .before .before .before .before .before .before .before))) (λ c. omega (arith, c .before .before .before .before .before .before .before .before .before .before .step2 .kept, kept (c .before .before .before .before .before .before .before .before .before .before .before .before .before .before .before .before .before))) (λ c. omega (arith, c .before .before .before .before .before .before .before .before .before .before .step2 .kept, kept (c .before .before .before .before .before .before .before .before .before .before .before .before .before .before .before .before .before))) (λ c. omega (arith, c .before .before .before .before .before .before .before .before .before .before .step2 .kept, kept (c .before .before .before .before .before .before .before .before .before .before .before .before .before .before .before .before .before))) returns-2 path-less path-again (λ c. kept (c .before .before) .nodes) (λ c. kept (c .before .before) .links) (λ c. kept (c .before .before) .symbols) (λ c. kept (c .before .before) .scratch) returns-3)
+    (tie.spec Inv-path μ-path (λ c κs. search needs) (λ c. search needs) (λ c. search needs) (λ c. search needs) (λ c. search needs) (λ c. search needs) returns
+    (λ c. longer-none (started c .within)) (λ c κs. search needs)
+    (λ c. omega (arith, c .before .before .path .inv .within .at, to-start (c .before .before .before) .pre .ready .lent .whole .most)) step-requires-2 (λ c. search needs)
+    (λ c. search needs)
+    (λ c. omega (
+      arith,
+      c .before .before .before .before .before .before .before .before .step2 .kept,
+      kept
+          (c .before .before .before .before .before .before .before .before .before .before .before .before .before .before),
+    ))
+    (λ c. omega (
+      arith,
+      c .before .before .before .before .before .before .before .before .step2 .kept,
+      kept
+          (c .before .before .before .before .before .before .before .before .before .before .before .before .before .before),
+    ))
+    (λ c. omega (
+      arith,
+      c .before .before .before .before .before .before .before .before .step2 .kept,
+      kept
+          (c .before .before .before .before .before .before .before .before .before .before .before .before .before .before),
+    ))
+    returns-2 path-less path-again (λ c. kept (c .before .before) .nodes) (λ c. kept (c .before .before) .links) (λ c. kept (c .before .before) .scratch) returns-3)

@@ -16,4 +16,6 @@ returns-3 c =
     simp (ne-eqb _ _ (m .0 .1), ne-eqb _ _ (m .1)) (c .before .before .ref- .ensures)
 
 pub bound-spec : {M : Type 1} → statement M
-bound-spec = tie.close (tie.spec (λ c κs. search needs) (λ c κs. search needs) (λ c κs. search needs) (λ c. search needs) returns (λ c. search needs) returns-2 (λ c. search needs) returns-3)
+bound-spec =
+    tie.close
+    (tie.spec (λ c κs. search needs) (λ c κs. search needs) (λ c κs. search needs) (λ c. search needs) returns (λ c. search needs) returns-2 (λ c. search needs) returns-3)

@@ -42,4 +42,6 @@ returns-4 c =
     record { says = (λ e. c .before .before .if1 .left (k ∙ e), λ e. c .before .if2 .left (k ∙ e), shut (c .match .rest .1), refl) }
 
 pub semicolon-spec : {M : Type 1} → statement M
-semicolon-spec = tie.close (tie.spec (λ c κs. search needs) (λ c. search needs) returns returns-2 returns-3 returns-4)
+semicolon-spec =
+    tie.close
+    (tie.spec (λ c κs. search needs) (λ c. search needs) returns returns-2 returns-3 returns-4)

@@ -10,4 +10,6 @@ returns-2 : tie.Need-returns-2
 returns-2 c = record { none = λ e. absurd (c .if1 .left e); one = λ n. refl }
 
 pub untailed-spec : {M : Type 1} → statement M
-untailed-spec = tie.close (tie.spec returns (λ c. c .before .pre (c .if1 .left)) returns-2)
+untailed-spec =
+    tie.close
+    (tie.spec returns (λ c. c .before .pre (c .if1 .left)) returns-2)

@@ -21,48 +21,86 @@ use readers.assign.Reads as assign
 use readers.expression.Reads as expression
 use Rattle.ast.proofs.assign.Reads as assign-reads
 use Rattle.token.proofs.list.kind_at.Reads as kind-at-reads
+use Rattle.reading.proofs.pieces.made.Reads as made-reads
 
 module _ (t : ℕ) where
   abbrev claims : lts.Claims
-  claims = (expression-at (below t), expression.Post, kind-at-reads.Asked, kind-at-reads.Learnt, assign-reads.Asked, assign-reads.Learnt)
+  claims = (expression-at (below t), expression.Post, kind-at-reads.Asked, kind-at-reads.Learnt, assign-reads.Asked, assign-reads.Learnt, made-reads.Asked, made-reads.Learnt)
+
+  -- back from where one part is known to where the one before it is
+  abbrev to-expression : lts.After-known-told claims (assign-at (just t)) assign.Post → lts.After-expression claims (assign-at (just t)) assign.Post
+  to-expression c = c .before .before .before .before .before .before .before .before .before
+
+  abbrev to-expression2 : lts.After-known-told2 claims (assign-at (just t)) assign.Post → lts.After-expression2 claims (assign-at (just t)) assign.Post
+  to-expression2 c = c .before .before .before .before .before .before .before .before .before
+
+  abbrev to-start : lts.After-known-told claims (assign-at (just t)) assign.Post → lts.Start claims (assign-at (just t)) assign.Post
+  to-start c = c .before .before .before .before .before .before .before .before .before .before .before .before .before .before .before .before .before
+
+  abbrev to-kind-at : lts.After-known-told2 claims (assign-at (just t)) assign.Post → lts.After-kind-at claims (assign-at (just t)) assign.Post
+  to-kind-at c = c .before .before .before .before .before .before .before .before .before .before .before .before .before .before
+
+  abbrev to-else1 : lts.After-known-told2 claims (assign-at (just t)) assign.Post → lts.Else1 claims (assign-at (just t)) assign.Post
+  to-else1 c = c .before .before .before .before .before .before .before .before .before .before .before .before .before
+
+  abbrev to-left : lts.After-known-told2 claims (assign-at (just t)) assign.Post → lts.After-known-told claims (assign-at (just t)) assign.Post
+  to-left c = c .before .before .before .before .before .before .before .before .before .before .before .before .before .before .before
 
   -- what the success of the left side and of the right side says, and where the reader began
-  left : (c : lts.After-known-told claims (assign-at (just t)) assign.Post) → Told (c .before .before .before .before .before .before .before .before .before .before .before .expression .ensures) (c .before .read .given .0 .0) (c .before .read .given .0 .1 .0)
-  left c = success (c .before .read .given .1) (c .before .before .before .before .before .before .before .before .before .before .before .expression .ensures)
+  left : (c : lts.After-known-told claims (assign-at (just t)) assign.Post) → Told (to-expression c .expression .ensures) (c .before .read .given .0 .0) (c .before .read .given .0 .1 .0)
+  left c = success (c .before .read .given .1) (to-expression c .expression .ensures)
 
-  right : (c : lts.After-known-told2 claims (assign-at (just t)) assign.Post) → Told (c .before .before .before .before .before .before .before .before .before .before .before .expression2 .ensures) (c .before .turn .given .0 .0) (c .before .turn .given .0 .1 .0)
-  right c = success (c .before .turn .given .1) (c .before .before .before .before .before .before .before .before .before .before .before .expression2 .ensures)
-
-  abbrev start : lts.After-known-told2 claims (assign-at (just t)) assign.Post → lts.Start claims (assign-at (just t)) assign.Post
-  start c = c .before .before .before .before .before .before .before .before .before .before .before .before .before .before .before .before .before .before .before .before .before .before .before .before .before .before .before .before .before .before .before .before .before .before .before .before .before .before .before .before
+  right : (c : lts.After-known-told2 claims (assign-at (just t)) assign.Post) → Told (to-expression2 c .expression2 .ensures) (c .before .turn .given .0 .0)
+      (c .before .turn .given .0 .1 .0)
+  right c = success (c .before .turn .given .1) (to-expression2 c .expression2 .ensures)
 
   returns : lts.Need-returns claims (assign-at (just t)) assign.Post
-  returns c = passed (c .enum-told .given .1) (c .before .before .before .before .before .before .before .before .before .before .expression .ensures) (λ x h. Refuses.in-only h)
+  returns c = passed (c .enum-told .given .1) (c .before .before .before .before .before .before .before .before .expression .ensures) (λ x h. Refuses.in-only h)
 
   returns-2 : lts.Need-returns-2 claims (assign-at (just t)) assign.Post
   unfolding paid spare above rules
   returns-2 c =
       let z = left (c .before .before) in
-      answer (c .before .before .before .before .before .before .before .before .before .before .before .before .before .before .before .before .before .before .before .before .before .before .before .before .pre .1) (record { pays = tt }) (z .within .at) (z .within .table) (alone (unkeyed assigned _ refl (rw (c .before .kind-at .ensures) at (c .if1 .taken))) (z .reading))
+      answer (to-start (c .before .before) .pre .1) (record { pays = tt }) (z .within .at)
+      (alone (unkeyed assigned _ refl (rw (c .before .kind-at .ensures) at (c .if1 .taken))) (z .reading))
 
   expression-requires-2 : lts.Need-expression-requires-2 claims (assign-at (just t)) assign.Post
   expression-requires-2 c κs =
-      let z = left (c .before .before .before .before .before .before) in
-      (omega (arith, z .past, z .within .at, c .before .before .before .before .before .before .before .before .before .before .before .before .before .before .before .before .before .before .before .before .before .before .before .before .before .before .before .before .pre .0), ready-next (ready-on (c .before .before .before .before .before .before .before .before .before .before .before .before .before .before .before .before .before .before .before .before .before .before .before .before .before .before .before .before .pre .1) (z .within)) (sym (c .before .before .before .before .before .kind-at .ensures) ∙ c .before .before .before .before .if1 .left) (λ e. omega arith))
+      let d = c .before .before .before .before .before in
+      let z = left d in (
+        omega (arith, z .past, z .within .at, to-start d .pre .0),
+        ready-next (ready-on (to-start d .pre .1) (z .within))
+            (sym (c .before .before .before .before .kind-at .ensures) ∙ c .before .before .before .if1 .left) (λ e. omega arith),
+      )
 
   returns-3 : lts.Need-returns-3 claims (assign-at (just t)) assign.Post
   unfolding kaori rules
   returns-3 c =
-      let k = sym (c .before .before .before .before .before .before .before .before .before .before .before .before .before .before .before .before .kind-at .ensures) ∙ c .before .before .before .before .before .before .before .before .before .before .before .before .before .before .before .if1 .left in
-      passed (c .enum-told2 .given .1) (c .before .before .before .before .before .before .before .before .before .before .expression2 .ensures) (λ x h. after-once (left (c .before .before .before .before .before .before .before .before .before .before .before .before .before .before .before .before .before) .reading) (ap (kaori assigned) k) (Refuses.past-token k h))
+      let k = sym (c .before .before .before .before .before .before .before .before .before .before .before .before .before .kind-at .ensures) ∙
+      c .before .before .before .before .before .before .before .before .before .before .before .before .if1 .left in
+      passed (c .enum-told2 .given .1) (c .before .before .before .before .before .before .before .before .expression2 .ensures)
+      (λ x h. after-once (left (c .before .before .before .before .before .before .before .before .before .before .before .before .before .before) .reading) (ap (kaori assigned) k)
+      (Refuses.past-token k h))
 
   returns-4 : lts.Need-returns-4 claims (assign-at (just t)) assign.Post
   unfolding kaori rules paid spare above make put fill numbers write rule
   returns-4 c =
-      let k = sym (c .before .before .before .before .before .before .before .before .before .before .before .before .before .before .before .before .before .before .before .before .before .kind-at .ensures) ∙ c .before .before .before .before .before .before .before .before .before .before .before .before .before .before .before .before .before .before .before .before .if1 .left in
-      let z = right (c .before .before .before .before) in
+      let d = c .before .before .before .before .before in
+      let k = sym (to-kind-at d .kind-at .ensures) ∙ (to-else1 d) .if1 .left in
+      let z = right d in
       let w = z .within in
-      answer (start (c .before .before .before .before) .pre .1) (record { pays = tt }) (w .at) (w .table) (joined (left (c .before .before .before .before .before .before .before .before .before .before .before .before .before .before .before .before .before .before .before .before .before .before) .reading) (ap (kaori assigned) k) (taken k (z .reading)) (row-made (c .before .before .assign .ensures) (omega (arith, w .rows, w .at, w .roomy .nodes)) refl))
+      rw (c .made .ensures)
+      (answer (to-start (to-left d) .pre .1) (record { pays = tt }) (w .at)
+      (joined (left (to-left d) .reading) (ap (kaori assigned) k) (taken k (z .reading))
+      (row-made (c .before .before .before .assign .ensures) (omega (arith, w .rows, w .at, w .roomy .nodes)) refl)))
 
   pub spec : {M : Type 1} → lts.Closed claims (assign-at (just t)) assign.Post M
-  spec = lts.spec claims (assign-at (just t)) assign.Post (λ c κs. search needs) (λ c. search needs) (λ c. search needs) (λ c. search needs) (λ c. search needs) (λ c. search needs) (λ c. search needs) returns (λ c κs. left c .within .at) (λ c. search needs) (λ c. search needs) (λ c. search needs) (λ c. search needs) returns-2 (λ c. let w = left (c .before .before) .within in omega (arith, w .at, c .before .before .before .before .before .before .before .before .before .before .before .before .before .before .before .before .before .before .before .before .before .before .before .before .pre .1 .lent .whole .most)) expression-requires-2 (λ c. search needs) (λ c. search needs) (λ c. search needs) (λ c. search needs) (λ c. search needs) (λ c. search needs) returns-3 (λ c κs. free (start (c .before) .pre .1 .lent) (right (c .before) .within)) (λ c. omega (arith, free (start (c .before .before .before .before) .pre .1 .lent) (right (c .before .before .before .before) .within) .number)) (λ c. omega (arith, left (c .before .before .before .before .before .before .before .before .before .before .before .before .before .before .before .before .before .before .before .before .before .before) .reading .rooms, right (c .before .before .before .before) .reading .rooms)) (λ c. omega (arith, left (c .before .before .before .before .before .before .before .before .before .before .before .before .before .before .before .before .before .before .before .before .before .before) .reading .rooms, right (c .before .before .before .before) .reading .rooms)) (λ c. omega (arith, left (c .before .before .before .before .before .before .before .before .before .before .before .before .before .before .before .before .before .before .before .before .before .before) .reading .rooms, right (c .before .before .before .before) .reading .rooms)) (λ c. omega (arith, left (c .before .before .before .before .before .before .before .before .before .before .before .before .before .before .before .before .before .before .before .before .before .before) .reading .rooms, right (c .before .before .before .before) .reading .rooms)) returns-4
+  spec =
+      lts.spec claims (assign-at (just t)) assign.Post (λ c κs. search needs) (λ c. search needs) (λ c. search needs) (λ c. search needs) (λ c. search needs) (λ c. search needs) returns
+      (λ c κs. left c .within .at) (λ c. search needs) (λ c. search needs) (λ c. search needs) returns-2
+      (λ c. let w = left (c .before .before) .within in omega (arith, w .at, to-start (c .before .before) .pre .1 .lent .whole .most)) expression-requires-2 (λ c. search needs)
+      (λ c. search needs) (λ c. search needs) (λ c. search needs) (λ c. search needs) returns-3 (λ c κs. free (to-start (to-left (c .before)) .pre .1 .lent) (right (c .before) .within))
+      (λ c κs. let d = c .before .before .before .before in free (to-start (to-left d) .pre .1 .lent) (right d .within) .number)
+      (λ c. let d = c .before .before .before .before .before in omega (arith, left (to-left d) .reading .rooms, right d .reading .rooms))
+      (λ c. let d = c .before .before .before .before .before in omega (arith, left (to-left d) .reading .rooms, right d .reading .rooms))
+      (λ c. let d = c .before .before .before .before .before in omega (arith, left (to-left d) .reading .rooms, right d .reading .rooms)) returns-4

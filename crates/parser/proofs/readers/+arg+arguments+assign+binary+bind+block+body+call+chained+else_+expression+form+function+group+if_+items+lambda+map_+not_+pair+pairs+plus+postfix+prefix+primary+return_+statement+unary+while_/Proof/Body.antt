@@ -20,11 +20,19 @@ module _ (t : ℕ) where
 
   returns : lts.Need-returns claims (body-at (just t)) body.Post
   unfolding kaori rules
-  returns c = picked-as _ bodies (c .before .before .before .before .before .before .before .before .before .before .before .before .before .before .kind-at .ensures) (c .before .before .before .before .before .before .before .before .before .before .before .before .before .match .keys1) refl (c .before .before .before .before .before .before .before .before .block .ensures)
+  returns c =
+      picked-as _ bodies (c .before .before .before .before .before .before .before .before .before .before .before .kind-at .ensures)
+      (c .before .before .before .before .before .before .before .before .before .before .match .keys1) refl (c .before .before .before .before .before .before .block .ensures)
 
   returns-2 : lts.Need-returns-2 claims (body-at (just t)) body.Post
   unfolding rules
-  returns-2 c = picked _ (unkeyed bodies _ refl (λ e. c .before .before .before .before .before .before .before .before .before .before .before .before .before .match .rest .1 (c .before .before .before .before .before .before .before .before .before .before .before .before .before .before .kind-at .ensures ∙ e))) (c .before .before .before .before .before .before .before .before .expression .ensures)
+  returns-2 c =
+      picked _ (unkeyed bodies _ refl
+      (λ e. c .before .before .before .before .before .before .before .before .before .before .match .rest .1
+      (c .before .before .before .before .before .before .before .before .before .before .before .kind-at .ensures ∙ e)))
+      (c .before .before .before .before .before .before .expression .ensures)
 
   pub spec : {M : Type 1} → lts.Closed claims (body-at (just t)) body.Post M
-  spec = lts.spec claims (body-at (just t)) body.Post (λ c κs. search needs) (λ c κs. search needs) (λ c κs. search needs) (λ c. search needs) (λ c. search needs) (λ c. search needs) (λ c. search needs) returns (λ c. search needs) (λ c. search needs) (λ c. search needs) (λ c. search needs) returns-2
+  spec =
+      lts.spec claims (body-at (just t)) body.Post (λ c κs. search needs) (λ c κs. search needs) (λ c κs. search needs) (λ c. search needs) (λ c. search needs) (λ c. search needs) returns
+      (λ c. search needs) (λ c. search needs) (λ c. search needs) returns-2

@@ -20,11 +20,19 @@ module _ (t : ℕ) where
 
   returns : lts.Need-returns claims (else--at (just t)) else-.Post
   unfolding kaori rules
-  returns c = picked-as _ branch (c .before .before .before .before .before .before .before .before .before .before .before .before .before .before .kind-at .ensures) (c .before .before .before .before .before .before .before .before .before .before .before .before .before .match .keys1) refl (c .before .before .before .before .before .before .before .before .if- .ensures)
+  returns c =
+      picked-as _ branch (c .before .before .before .before .before .before .before .before .before .before .before .kind-at .ensures)
+      (c .before .before .before .before .before .before .before .before .before .before .match .keys1) refl (c .before .before .before .before .before .before .if- .ensures)
 
   returns-2 : lts.Need-returns-2 claims (else--at (just t)) else-.Post
   unfolding rules
-  returns-2 c = picked _ (unkeyed branch _ refl (λ e. c .before .before .before .before .before .before .before .before .before .before .before .before .before .match .rest .1 (c .before .before .before .before .before .before .before .before .before .before .before .before .before .before .kind-at .ensures ∙ e))) (c .before .before .before .before .before .before .before .before .block .ensures)
+  returns-2 c =
+      picked _ (unkeyed branch _ refl
+      (λ e. c .before .before .before .before .before .before .before .before .before .before .match .rest .1
+      (c .before .before .before .before .before .before .before .before .before .before .before .kind-at .ensures ∙ e)))
+      (c .before .before .before .before .before .before .block .ensures)
 
   pub spec : {M : Type 1} → lts.Closed claims (else--at (just t)) else-.Post M
-  spec = lts.spec claims (else--at (just t)) else-.Post (λ c κs. search needs) (λ c κs. search needs) (λ c κs. search needs) (λ c. search needs) (λ c. search needs) (λ c. search needs) (λ c. search needs) returns (λ c. search needs) (λ c. search needs) (λ c. search needs) (λ c. search needs) returns-2
+  spec =
+      lts.spec claims (else--at (just t)) else-.Post (λ c κs. search needs) (λ c κs. search needs) (λ c κs. search needs) (λ c. search needs) (λ c. search needs) (λ c. search needs) returns
+      (λ c. search needs) (λ c. search needs) (λ c. search needs) returns-2

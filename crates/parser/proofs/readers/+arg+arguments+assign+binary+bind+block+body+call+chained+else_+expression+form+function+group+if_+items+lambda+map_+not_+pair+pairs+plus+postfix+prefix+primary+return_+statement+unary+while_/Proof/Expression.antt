@@ -20,10 +20,13 @@ module _ (t : ℕ) where
   returns c = refuse (Refuses.too-deep (c .if1 .taken))
 
   binary-requires : lts.Need-binary-requires claims (expression-at (just t)) expression.Post
-  binary-requires c κs = (search needs, (omega arith, ready-deep (c .before .before .before .before .before .before .before .before .before .before .before .pre .1) (c .before .before .before .before .if1 .left)))
+  binary-requires c κs = (search needs, (omega arith, ready-deep (c .before .before .before .before .before .before .before .before .pre .1) (c .before .before .before .if1 .left)))
 
   returns-2 : lts.Need-returns-2 claims (expression-at (just t)) expression.Post
-  returns-2 c = mapped _ (omega arith) (c .before .before .before .before .before .before .before .before .binary .ensures) (λ n d r. opened r) (λ x h. inside (c .before .before .before .before .before .before .before .before .before .before .before .before .before .if1 .left) h)
+  returns-2 c =
+      mapped _ (omega arith) (c .before .before .before .before .before .before .binary .ensures) (λ n d r. opened r)
+      (λ x h. inside (c .before .before .before .before .before .before .before .before .before .before .if1 .left) h)
 
   pub spec : {M : Type 1} → lts.Closed claims (expression-at (just t)) expression.Post M
-  spec = lts.spec claims (expression-at (just t)) expression.Post returns (λ c. search needs) binary-requires (λ c. search needs) (λ c. search needs) (λ c. search needs) (λ c. search needs) returns-2
+  spec =
+      lts.spec claims (expression-at (just t)) expression.Post returns (λ c. search needs) binary-requires (λ c. search needs) (λ c. search needs) (λ c. search needs) returns-2

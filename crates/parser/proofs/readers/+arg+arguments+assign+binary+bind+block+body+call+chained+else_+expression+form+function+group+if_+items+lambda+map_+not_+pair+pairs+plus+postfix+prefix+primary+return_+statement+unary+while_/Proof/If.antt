@@ -22,27 +22,75 @@ use readers.if_.Reads as if-
 use Rattle.reading.proofs.lists.consume.Reads as consume-reads
 use Rattle.ast.proofs.if_.Reads as if--reads
 use Rattle.token.proofs.list.kind_at.Reads as kind-at-reads
+use Rattle.reading.proofs.pieces.made.Reads as made-reads
 
 module _ (t : ℕ) where
   abbrev claims : lts.Claims
-  claims = (consume-reads.Asked, consume-reads.Learnt, expression-at (below t), expression.Post, block-at (below t), block.Post, kind-at-reads.Asked, kind-at-reads.Learnt, if--reads.Asked, if--reads.Learnt, else--at (below t), else-.Post)
+  claims = (
+    consume-reads.Asked,
+    consume-reads.Learnt,
+    expression-at (below t),
+    expression.Post,
+    block-at (below t),
+    block.Post,
+    kind-at-reads.Asked,
+    kind-at-reads.Learnt,
+    if--reads.Asked,
+    if--reads.Learnt,
+    made-reads.Asked,
+    made-reads.Learnt,
+    else--at (below t),
+    else-.Post,
+  )
+
+  -- back from where one part is known to where the one before it is
+  abbrev to-start : lts.After-known-told claims (if--at (just t)) if-.Post → lts.Start claims (if--at (just t)) if-.Post
+  to-start c = c .before .before .before .before .before .before .before .before .before
+
+  abbrev to-expression : lts.After-known-told2 claims (if--at (just t)) if-.Post → lts.After-expression claims (if--at (just t)) if-.Post
+  to-expression c = c .before .before .before .before .before .before .before .before .before
+
+  abbrev to-block : lts.After-known-told3 claims (if--at (just t)) if-.Post → lts.After-block claims (if--at (just t)) if-.Post
+  to-block c = c .before .before .before .before .before .before .before .before .before
+
+  abbrev to-else- : lts.After-known-told4 claims (if--at (just t)) if-.Post → lts.After-else- claims (if--at (just t)) if-.Post
+  to-else- c = c .before .before .before .before .before .before .before .before .before
+
+  abbrev to-else1 : lts.After-known-told claims (if--at (just t)) if-.Post → lts.Else1 claims (if--at (just t)) if-.Post
+  to-else1 c = c .before .before .before .before
+
+  abbrev to-lead : lts.After-known-told2 claims (if--at (just t)) if-.Post → lts.After-known-told claims (if--at (just t)) if-.Post
+  to-lead c = c .before .before .before .before .before .before .before .before .before .before .before .before .before
+
+  abbrev to-condition : lts.After-known-told3 claims (if--at (just t)) if-.Post → lts.After-known-told2 claims (if--at (just t)) if-.Post
+  to-condition c = c .before .before .before .before .before .before .before .before .before .before .before .before .before
+
+  abbrev to-kind-at : lts.After-known-told4 claims (if--at (just t)) if-.Post → lts.After-kind-at claims (if--at (just t)) if-.Post
+  to-kind-at c = c .before .before .before .before .before .before .before .before .before .before .before .before .before .before
+
+  abbrev to-else2 : lts.After-known-told4 claims (if--at (just t)) if-.Post → lts.Else2 claims (if--at (just t)) if-.Post
+  to-else2 c = c .before .before .before .before .before .before .before .before .before .before .before .before .before
+
+  abbrev to-body : lts.After-known-told4 claims (if--at (just t)) if-.Post → lts.After-known-told3 claims (if--at (just t)) if-.Post
+  to-body c = c .before .before .before .before .before .before .before .before .before .before .before .before .before .before .before
 
   -- the token that was taken, and what is asked after it
-  lead : (c : lts.After-known-told claims (if--at (just t)) if-.Post) → Taken-by (c .before .before .before .consume .ensures) (c .before .read .given .0 .0) (c .before .read .given .0 .1 .0)
+  lead : (c : lts.After-known-told claims (if--at (just t)) if-.Post) → Taken-by (c .before .before .before .consume .ensures) (c .before .read .given .0 .0)
+      (c .before .read .given .0 .1 .0)
   lead c = token-taken (c .before .read .given .1) (c .before .before .before .consume .ensures)
 
-  asked : (c : lts.After-known-told claims (if--at (just t)) if-.Post) → Ready-at (c .before .before .before .before .before .before .before .before .before .before .before .pre .1) (c .before .read .given .0 .1 .0)
-  asked c = ready-led (c .before .before .before .before .before .before .before .before .before .before .before .pre .1) (lead c) (λ e. omega arith)
+  asked : (c : lts.After-known-told claims (if--at (just t)) if-.Post) → Ready-at (to-start c .pre .1) (c .before .read .given .0 .1 .0)
+  asked c = ready-led (to-start c .pre .1) (lead c) (λ e. omega arith)
 
   -- the parts
-  condition : (c : lts.After-known-told2 claims (if--at (just t)) if-.Post) → Told (c .before .before .before .before .before .before .before .before .before .before .before .expression .ensures) (c .before .read2 .given .0 .0) (c .before .read2 .given .0 .1 .0)
-  condition c = success (c .before .read2 .given .1) (c .before .before .before .before .before .before .before .before .before .before .before .expression .ensures)
+  condition : (c : lts.After-known-told2 claims (if--at (just t)) if-.Post) → Told (to-expression c .expression .ensures) (c .before .read2 .given .0 .0) (c .before .read2 .given .0 .1 .0)
+  condition c = success (c .before .read2 .given .1) (to-expression c .expression .ensures)
 
-  body : (c : lts.After-known-told3 claims (if--at (just t)) if-.Post) → Told (c .before .before .before .before .before .before .before .before .before .before .before .block .ensures) (c .before .read3 .given .0 .0) (c .before .read3 .given .0 .1 .0)
-  body c = success (c .before .read3 .given .1) (c .before .before .before .before .before .before .before .before .before .before .before .block .ensures)
+  body : (c : lts.After-known-told3 claims (if--at (just t)) if-.Post) → Told (to-block c .block .ensures) (c .before .read3 .given .0 .0) (c .before .read3 .given .0 .1 .0)
+  body c = success (c .before .read3 .given .1) (to-block c .block .ensures)
 
-  other : (c : lts.After-known-told4 claims (if--at (just t)) if-.Post) → Told (c .before .before .before .before .before .before .before .before .before .before .before .else- .ensures) (c .before .read4 .given .0 .0) (c .before .read4 .given .0 .1 .0)
-  other c = success (c .before .read4 .given .1) (c .before .before .before .before .before .before .before .before .before .before .before .else- .ensures)
+  other : (c : lts.After-known-told4 claims (if--at (just t)) if-.Post) → Told (to-else- c .else- .ensures) (c .before .read4 .given .0 .0) (c .before .read4 .given .0 .1 .0)
+  other c = success (c .before .read4 .given .1) (to-else- c .else- .ensures)
 
   returns : lts.Need-returns claims (if--at (just t)) if-.Post
   returns c = refuse (Refuses.too-deep (c .if1 .taken))
@@ -51,41 +99,127 @@ module _ (t : ℕ) where
   returns-2 c = lacks (c .enum-told .given .1) (c .before .before .consume .ensures) (λ n. inside (c .before .before .before .if1 .left) (Refuses.in-node (Refuses.missing n)))
 
   expression-requires : lts.Need-expression-requires claims (if--at (just t)) if-.Post
-  expression-requires c κs = (omega (arith, c .before .before .before .before .before .before .before .before .before .before .before .before .before .before .before .pre .0, c .before .before .before .before .before .before .before .before .if1 .left, past-at (lead (c .before .before .before .before)), asked (c .before .before .before .before) .within .at), ready-deep (asked (c .before .before .before .before)) (c .before .before .before .before .before .before .before .before .if1 .left))
+  expression-requires c κs = (
+    omega (
+      arith,
+      (to-start (c .before .before .before)) .pre .0,
+      (to-else1 (c .before .before .before)) .if1 .left,
+      past-at (lead (c .before .before .before)),
+      asked
+          (c .before .before .before) .within .at,
+    ),
+    ready-deep (asked (c .before .before .before)) (to-else1 (c .before .before .before) .if1 .left),
+  )
 
   returns-3 : lts.Need-returns-3 claims (if--at (just t)) if-.Post
-  returns-3 c = passed (c .enum-told2 .given .1) (c .before .before .before .before .before .before .before .before .before .before .expression .ensures) (λ x h. inside (c .before .before .before .before .before .before .before .before .before .before .before .before .before .before .before .before .before .before .before .if1 .left) (Refuses.in-node (led-refused (lead (c .before .before .before .before .before .before .before .before .before .before .before .before .before .before .before)) (Refuses.in-first h))))
+  returns-3 c =
+      let d = c .before .before .before .before .before .before .before .before .before .before .before .before in
+      passed (c .enum-told2 .given .1) (c .before .before .before .before .before .before .before .before .expression .ensures)
+      (λ x h. inside (to-else1 d .if1 .left) (Refuses.in-node (led-refused (lead d) (Refuses.in-first h))))
 
   block-requires : lts.Need-block-requires claims (if--at (just t)) if-.Post
-  block-requires c κs = (omega (arith, c .before .before .before .before .before .before .before .before .before .before .before .before .before .before .before .before .before .before .before .before .before .before .before .before .before .before .before .before .before .before .before .pre .0, c .before .before .before .before .before .before .before .before .before .before .before .before .before .before .before .before .before .before .before .before .before .before .before .before .if1 .left, past-at (lead (c .before .before .before .before .before .before .before .before .before .before .before .before .before .before .before .before .before .before .before .before)), condition (c .before .before .before .before) .past, condition (c .before .before .before .before) .within .at), ready-deep (ready-on (asked (c .before .before .before .before .before .before .before .before .before .before .before .before .before .before .before .before .before .before .before .before)) (condition (c .before .before .before .before) .within)) (c .before .before .before .before .before .before .before .before .before .before .before .before .before .before .before .before .before .before .before .before .before .before .before .before .if1 .left))
+  block-requires c κs = (
+    omega (
+      arith,
+      (to-start (to-lead (c .before .before .before))) .pre .0,
+      (to-else1 (to-lead (c .before .before .before))) .if1 .left,
+      past-at
+          (lead (to-lead (c .before .before .before))),
+      condition (c .before .before .before) .past,
+      condition (c .before .before .before) .within .at,
+    ),
+    ready-deep
+        (ready-on (asked (to-lead (c .before .before .before))) (condition (c .before .before .before) .within)) (to-else1 (to-lead (c .before .before .before)) .if1 .left),
+  )
 
   returns-4 : lts.Need-returns-4 claims (if--at (just t)) if-.Post
-  returns-4 c = passed (c .enum-told3 .given .1) (c .before .before .before .before .before .before .before .before .before .before .block .ensures) (λ x h. inside (c .before .before .before .before .before .before .before .before .before .before .before .before .before .before .before .before .before .before .before .before .before .before .before .before .before .before .before .before .before .before .before .before .before .before .before .if1 .left) (Refuses.in-node (led-refused (lead (c .before .before .before .before .before .before .before .before .before .before .before .before .before .before .before .before .before .before .before .before .before .before .before .before .before .before .before .before .before .before .before)) (after (condition (c .before .before .before .before .before .before .before .before .before .before .before .before .before .before .before) .reading) (Refuses.in-first h)))))
+  returns-4 c =
+      let d = c .before .before .before .before .before .before .before .before .before .before .before .before in
+      passed (c .enum-told3 .given .1) (c .before .before .before .before .before .before .before .before .block .ensures)
+      (λ x h. inside (to-else1 (to-lead d) .if1 .left) (Refuses.in-node (led-refused (lead (to-lead d)) (after (condition d .reading) (Refuses.in-first h)))))
 
   returns-5 : lts.Need-returns-5 claims (if--at (just t)) if-.Post
   unfolding paid spare above rules
   returns-5 c =
-      let z = body (c .before .before .before .before .before .before) in
-      let e = unkeyed otherwise _ refl (λ k. c .before .before .before .before .if2 .taken (c .before .before .before .before .before .kind-at .ensures ∙ k)) in
-      answer (c .before .before .before .before .before .before .before .before .before .before .before .before .before .before .before .before .before .before .before .before .before .before .before .before .before .before .before .before .before .before .before .before .before .before .before .before .before .before .before .before .before .before .before .before .before .before .before .before .before .pre .1) (record { pays = tt }) (z .within .at) (z .within .table) (opened (labelled (led (lead (c .before .before .before .before .before .before .before .before .before .before .before .before .before .before .before .before .before .before .before .before .before .before .before .before .before .before .before .before .before .before .before .before .before .before .before .before .before .before)) (both-more (condition (c .before .before .before .before .before .before .before .before .before .before .before .before .before .before .before .before .before .before .before .before .before .before) .reading) (both (z .reading) (chosen e (nothing (omega (arith, c .before .before .before .before .before .before .before .before .before .before .before .before .before .before .before .before .before .before .before .before .before .before .before .before .before .before .before .before .before .before .before .before .before .before .before .before .before .before .before .before .before .before .if1 .left))))))) (if-made (z .within) (starts (lead (c .before .before .before .before .before .before .before .before .before .before .before .before .before .before .before .before .before .before .before .before .before .before .before .before .before .before .before .before .before .before .before .before .before .before .before .before .before .before))) (c .before .before .if- .ensures))))
+      let d = c .before .before .before .before .before .before .before in
+      let z = body d in
+      let e = unkeyed otherwise _ refl (λ k. c .before .before .before .before .before .if2 .taken (c .before .before .before .before .before .before .kind-at .ensures ∙ k)) in
+      rw (c .made .ensures)
+      (answer (to-start (to-lead (to-condition d)) .pre .1) (record { pays = tt }) (z .within .at)
+      (opened (labelled
+      (led (lead (to-lead (to-condition d)))
+      (both-more (condition (to-condition d) .reading) (both (z .reading) (chosen e (nothing (omega (arith, to-else1 (to-lead (to-condition d)) .if1 .left)))))))
+      (if-made (z .within) (starts (lead (to-lead (to-condition d)))) (c .before .before .before .if- .ensures)))))
 
   else--requires : lts.Need-else--requires claims (if--at (just t)) if-.Post
   else--requires c κs =
-      let r = ready-next (ready-deep (ready-on (asked (c .before .before .before .before .before .before .before .before .before .before .before .before .before .before .before .before .before .before .before .before .before .before .before .before .before .before .before .before .before .before .before .before .before .before .before .before .before .before)) (body (c .before .before .before .before .before .before) .within)) (c .before .before .before .before .before .before .before .before .before .before .before .before .before .before .before .before .before .before .before .before .before .before .before .before .before .before .before .before .before .before .before .before .before .before .before .before .before .before .before .before .before .before .if1 .left)) (sym (c .before .before .before .before .before .kind-at .ensures) ∙ c .before .before .before .before .if2 .left) (λ e. omega arith) in
-      (omega (arith, c .before .before .before .before .before .before .before .before .before .before .before .before .before .before .before .before .before .before .before .before .before .before .before .before .before .before .before .before .before .before .before .before .before .before .before .before .before .before .before .before .before .before .before .before .before .before .before .before .before .pre .0, c .before .before .before .before .before .before .before .before .before .before .before .before .before .before .before .before .before .before .before .before .before .before .before .before .before .before .before .before .before .before .before .before .before .before .before .before .before .before .before .before .before .before .if1 .left, past-at (lead (c .before .before .before .before .before .before .before .before .before .before .before .before .before .before .before .before .before .before .before .before .before .before .before .before .before .before .before .before .before .before .before .before .before .before .before .before .before .before)), condition (c .before .before .before .before .before .before .before .before .before .before .before .before .before .before .before .before .before .before .before .before .before .before) .past, body (c .before .before .before .before .before .before) .past, r .within .at), r)
+      let d = c .before .before .before .before .before in
+      let r = ready-next (ready-deep (ready-on (asked (to-lead (to-condition d))) (body d .within)) (to-else1 (to-lead (to-condition d)) .if1 .left))
+      (sym (c .before .before .before .before .kind-at .ensures) ∙ c .before .before .before .if2 .left) (λ e. omega arith) in (
+        omega (
+          arith,
+          (to-start (to-lead (to-condition d))) .pre .0,
+          (to-else1 (to-lead (to-condition d))) .if1 .left,
+          past-at (lead (to-lead (to-condition d))),
+          condition
+              (to-condition d) .past,
+          body d .past,
+          r .within .at,
+        ),
+        r,
+      )
 
   returns-6 : lts.Need-returns-6 claims (if--at (just t)) if-.Post
   unfolding rules
   returns-6 c =
-      let k = sym (c .before .before .before .before .before .before .before .before .before .before .before .before .before .before .before .before .kind-at .ensures) ∙ c .before .before .before .before .before .before .before .before .before .before .before .before .before .before .before .if2 .left in
-      passed (c .enum-told4 .given .1) (c .before .before .before .before .before .before .before .before .before .before .else- .ensures) (λ x h. inside (c .before .before .before .before .before .before .before .before .before .before .before .before .before .before .before .before .before .before .before .before .before .before .before .before .before .before .before .before .before .before .before .before .before .before .before .before .before .before .before .before .before .before .before .before .before .before .before .before .before .before .before .before .before .if1 .left) (Refuses.in-node (led-refused (lead (c .before .before .before .before .before .before .before .before .before .before .before .before .before .before .before .before .before .before .before .before .before .before .before .before .before .before .before .before .before .before .before .before .before .before .before .before .before .before .before .before .before .before .before .before .before .before .before .before .before)) (after (condition (c .before .before .before .before .before .before .before .before .before .before .before .before .before .before .before .before .before .before .before .before .before .before .before .before .before .before .before .before .before .before .before .before .before) .reading) (after (body (c .before .before .before .before .before .before .before .before .before .before .before .before .before .before .before .before .before) .reading) (Refuses.in-choice (keyed otherwise _ refl k) (Refuses.past-token k h)))))))
+      let d = c .before .before .before .before .before .before .before .before .before .before .before .before .before .before in
+      let k = sym (c .before .before .before .before .before .before .before .before .before .before .before .before .before .kind-at .ensures) ∙
+      c .before .before .before .before .before .before .before .before .before .before .before .before .if2 .left in
+      passed (c .enum-told4 .given .1) (c .before .before .before .before .before .before .before .before .else- .ensures)
+      (λ x h. inside (to-else1 (to-lead (to-condition d)) .if1 .left)
+      (Refuses.in-node
+      (led-refused (lead (to-lead (to-condition d)))
+      (after (condition (to-condition d) .reading) (after (body d .reading) (Refuses.in-choice (keyed otherwise _ refl k) (Refuses.past-token k h)))))))
 
   returns-7 : lts.Need-returns-7 claims (if--at (just t)) if-.Post
   unfolding paid spare above rules
   returns-7 c =
-      let z = other (c .before .before .before .before) in
-      let k = sym (c .before .before .before .before .before .before .before .before .before .before .before .before .before .before .before .before .before .before .before .before .before .kind-at .ensures) ∙ c .before .before .before .before .before .before .before .before .before .before .before .before .before .before .before .before .before .before .before .before .if2 .left in
-      answer (c .before .before .before .before .before .before .before .before .before .before .before .before .before .before .before .before .before .before .before .before .before .before .before .before .before .before .before .before .before .before .before .before .before .before .before .before .before .before .before .before .before .before .before .before .before .before .before .before .before .before .before .before .before .before .before .before .before .before .before .before .before .before .before .before .before .pre .1) (record { pays = tt }) (z .within .at) (z .within .table) (opened (labelled (led (lead (c .before .before .before .before .before .before .before .before .before .before .before .before .before .before .before .before .before .before .before .before .before .before .before .before .before .before .before .before .before .before .before .before .before .before .before .before .before .before .before .before .before .before .before .before .before .before .before .before .before .before .before .before .before .before)) (both-more (condition (c .before .before .before .before .before .before .before .before .before .before .before .before .before .before .before .before .before .before .before .before .before .before .before .before .before .before .before .before .before .before .before .before .before .before .before .before .before .before) .reading) (both (body (c .before .before .before .before .before .before .before .before .before .before .before .before .before .before .before .before .before .before .before .before .before .before) .reading) (chosen (keyed otherwise _ refl k) (taken k (z .reading)))))) (else-made (z .within) (starts (lead (c .before .before .before .before .before .before .before .before .before .before .before .before .before .before .before .before .before .before .before .before .before .before .before .before .before .before .before .before .before .before .before .before .before .before .before .before .before .before .before .before .before .before .before .before .before .before .before .before .before .before .before .before .before .before))) (c .before .before .if-2 .ensures))))
+      let d = c .before .before .before .before .before in
+      let z = other d in
+      let k = sym (to-kind-at d .kind-at .ensures) ∙ (to-else2 d) .if2 .left in
+      rw (c .made2 .ensures)
+      (answer (to-start (to-lead (to-condition (to-body d))) .pre .1) (record { pays = tt }) (z .within .at)
+      (opened (labelled
+      (led (lead (to-lead (to-condition (to-body d))))
+      (both-more (condition (to-condition (to-body d)) .reading) (both (body (to-body d) .reading) (chosen (keyed otherwise _ refl k) (taken k (z .reading))))))
+      (else-made (z .within) (starts (lead (to-lead (to-condition (to-body d))))) (c .before .before .before .if-2 .ensures)))))
 
   pub spec : {M : Type 1} → lts.Closed claims (if--at (just t)) if-.Post M
-  spec = lts.spec claims (if--at (just t)) if-.Post returns (λ c κs. search needs) (λ c. search needs) (λ c. search needs) returns-2 (λ c. search needs) expression-requires (λ c. search needs) (λ c. search needs) (λ c. search needs) (λ c. search needs) (λ c. search needs) (λ c. search needs) returns-3 (λ c. omega (arith, c .before .before .before .before .before .before .before .before .before .before .before .before .before .before .before .before .before .before .before .before .before .before .before .before .if1 .left, c .before .before .before .before .before .before .before .before .before .before .before .before .before .before .before .before .before .before .before .before .before .before .before .before .before .before .before .before .before .before .before .fits .limit)) block-requires (λ c. search needs) (λ c. search needs) (λ c. search needs) (λ c. search needs) (λ c. search needs) (λ c. search needs) returns-4 (λ c κs. body c .within .at) (λ c κs. free (asked (c .before .before .before .before .before .before .before .before .before .before .before .before .before .before .before .before .before .before .before .before .before .before .before .before .before .before .before .before .before .before .before .before .before .before .before) .lent) (body (c .before .before .before) .within)) (λ c. omega (arith, free (asked (c .before .before .before .before .before .before .before .before .before .before .before .before .before .before .before .before .before .before .before .before .before .before .before .before .before .before .before .before .before .before .before .before .before .before .before .before .before .before) .lent) (body (c .before .before .before .before .before .before) .within) .number)) (λ c. omega (arith, condition (c .before .before .before .before .before .before .before .before .before .before .before .before .before .before .before .before .before .before .before .before .before .before) .reading .rooms, body (c .before .before .before .before .before .before) .reading .rooms)) (λ c. omega (arith, condition (c .before .before .before .before .before .before .before .before .before .before .before .before .before .before .before .before .before .before .before .before .before .before) .reading .rooms, body (c .before .before .before .before .before .before) .reading .rooms)) (λ c. omega (arith, condition (c .before .before .before .before .before .before .before .before .before .before .before .before .before .before .before .before .before .before .before .before .before .before) .reading .rooms, body (c .before .before .before .before .before .before) .reading .rooms)) (λ c. omega (arith, condition (c .before .before .before .before .before .before .before .before .before .before .before .before .before .before .before .before .before .before .before .before .before .before) .reading .rooms, body (c .before .before .before .before .before .before) .reading .rooms)) returns-5 (λ c. omega (arith, body (c .before .before) .within .at, asked (c .before .before .before .before .before .before .before .before .before .before .before .before .before .before .before .before .before .before .before .before .before .before .before .before .before .before .before .before .before .before .before .before .before .before) .lent .whole .most)) (λ c. omega (arith, c .before .before .before .before .before .before .before .before .before .before .before .before .before .before .before .before .before .before .before .before .before .before .before .before .before .before .before .before .before .before .before .before .before .before .before .before .before .before .before .before .before .before .if1 .left, c .before .before .before .before .before .before .before .before .before .before .before .before .before .before .before .before .before .before .before .before .before .before .before .before .before .before .before .before .before .before .before .before .before .before .before .before .before .before .before .before .before .before .before .before .before .before .before .before .before .fits .limit)) else--requires (λ c. search needs) (λ c. search needs) (λ c. omega (arith, condition (c .before .before .before .before .before .before .before .before .before .before .before .before .before .before .before .before .before .before .before .before .before .before .before .before .before .before .before .before .before .before .before .before .before) .reading .rooms, body (c .before .before .before .before .before .before .before .before .before .before .before .before .before .before .before .before .before) .reading .rooms)) (λ c. omega (arith, condition (c .before .before .before .before .before .before .before .before .before .before .before .before .before .before .before .before .before .before .before .before .before .before .before .before .before .before .before .before .before .before .before .before .before) .reading .rooms, body (c .before .before .before .before .before .before .before .before .before .before .before .before .before .before .before .before .before) .reading .rooms)) (λ c. omega (arith, condition (c .before .before .before .before .before .before .before .before .before .before .before .before .before .before .before .before .before .before .before .before .before .before .before .before .before .before .before .before .before .before .before .before .before) .reading .rooms, body (c .before .before .before .before .before .before .before .before .before .before .before .before .before .before .before .before .before) .reading .rooms)) (λ c. omega (arith, condition (c .before .before .before .before .before .before .before .before .before .before .before .before .before .before .before .before .before .before .before .before .before .before .before .before .before .before .before .before .before .before .before .before .before) .reading .rooms, body (c .before .before .before .before .before .before .before .before .before .before .before .before .before .before .before .before .before) .reading .rooms)) returns-6 (λ c κs. free (asked (c .before .before .before .before .before .before .before .before .before .before .before .before .before .before .before .before .before .before .before .before .before .before .before .before .before .before .before .before .before .before .before .before .before .before .before .before .before .before .before .before .before .before .before .before .before .before .before .before .before .before .before) .lent) (other (c .before) .within)) (λ c. omega (arith, free (asked (c .before .before .before .before .before .before .before .before .before .before .before .before .before .before .before .before .before .before .before .before .before .before .before .before .before .before .before .before .before .before .before .before .before .before .before .before .before .before .before .before .before .before .before .before .before .before .before .before .before .before .before .before .before .before) .lent) (other (c .before .before .before .before) .within) .number)) (λ c. omega (arith, condition (c .before .before .before .before .before .before .before .before .before .before .before .before .before .before .before .before .before .before .before .before .before .before .before .before .before .before .before .before .before .before .before .before .before .before .before .before .before .before) .reading .rooms, body (c .before .before .before .before .before .before .before .before .before .before .before .before .before .before .before .before .before .before .before .before .before .before) .reading .rooms, other (c .before .before .before .before) .reading .rooms)) (λ c. omega (arith, condition (c .before .before .before .before .before .before .before .before .before .before .before .before .before .before .before .before .before .before .before .before .before .before .before .before .before .before .before .before .before .before .before .before .before .before .before .before .before .before) .reading .rooms, body (c .before .before .before .before .before .before .before .before .before .before .before .before .before .before .before .before .before .before .before .before .before .before) .reading .rooms, other (c .before .before .before .before) .reading .rooms)) (λ c. omega (arith, condition (c .before .before .before .before .before .before .before .before .before .before .before .before .before .before .before .before .before .before .before .before .before .before .before .before .before .before .before .before .before .before .before .before .before .before .before .before .before .before) .reading .rooms, body (c .before .before .before .before .before .before .before .before .before .before .before .before .before .before .before .before .before .before .before .before .before .before) .reading .rooms, other (c .before .before .before .before) .reading .rooms)) (λ c. omega (arith, condition (c .before .before .before .before .before .before .before .before .before .before .before .before .before .before .before .before .before .before .before .before .before .before .before .before .before .before .before .before .before .before .before .before .before .before .before .before .before .before) .reading .rooms, body (c .before .before .before .before .before .before .before .before .before .before .before .before .before .before .before .before .before .before .before .before .before .before) .reading .rooms, other (c .before .before .before .before) .reading .rooms)) returns-7
+  spec =
+      lts.spec claims (if--at (just t)) if-.Post returns (λ c κs. search needs) (λ c. search needs) (λ c. search needs) returns-2 (λ c. search needs) expression-requires (λ c. search needs)
+      (λ c. search needs) (λ c. search needs) (λ c. search needs) (λ c. search needs) returns-3
+      (λ c. omega (arith, to-else1 (to-lead (c .before .before .before)) .if1 .left, to-start (to-lead (c .before .before .before)) .fits .limit)) block-requires (λ c. search needs)
+      (λ c. search needs) (λ c. search needs) (λ c. search needs) (λ c. search needs) returns-4 (λ c κs. body c .within .at)
+      (λ c κs. free (asked (to-lead (to-condition (c .before .before .before))) .lent) (body (c .before .before .before) .within))
+      (λ c κs. let d = c .before .before .before .before .before .before in free (asked (to-lead (to-condition d)) .lent) (body d .within) .number)
+      (λ c. let d = c .before .before .before .before .before .before .before in omega (arith, condition (to-condition d) .reading .rooms, body d .reading .rooms))
+      (λ c. let d = c .before .before .before .before .before .before .before in omega (arith, condition (to-condition d) .reading .rooms, body d .reading .rooms))
+      (λ c. let d = c .before .before .before .before .before .before .before in omega (arith, condition (to-condition d) .reading .rooms, body d .reading .rooms)) returns-5
+      (λ c. omega (arith, body (c .before .before) .within .at, asked (to-lead (to-condition (c .before .before))) .lent .whole .most))
+      (λ c. let d = c .before .before .before .before .before in omega (arith, to-else1 (to-lead (to-condition d)) .if1 .left, to-start (to-lead (to-condition d)) .fits .limit))
+      else--requires (λ c. search needs) (λ c. search needs)
+      (λ c. let d = c .before .before .before .before .before .before .before .before .before .before .before .before .before .before in omega
+      (arith, condition (to-condition d) .reading .rooms, body d .reading .rooms))
+      (λ c. let d = c .before .before .before .before .before .before .before .before .before .before .before .before .before .before in omega
+      (arith, condition (to-condition d) .reading .rooms, body d .reading .rooms))
+      (λ c. let d = c .before .before .before .before .before .before .before .before .before .before .before .before .before .before in omega
+      (arith, condition (to-condition d) .reading .rooms, body d .reading .rooms))
+      returns-6 (λ c κs. free (asked (to-lead (to-condition (to-body (c .before)))) .lent) (other (c .before) .within))
+      (λ c κs. let d = c .before .before .before .before in free (asked (to-lead (to-condition (to-body d))) .lent) (other d .within) .number)
+      (λ c. let d = c .before .before .before .before .before in omega
+      (arith, condition (to-condition (to-body d)) .reading .rooms, body (to-body d) .reading .rooms, other d .reading .rooms))
+      (λ c. let d = c .before .before .before .before .before in omega
+      (arith, condition (to-condition (to-body d)) .reading .rooms, body (to-body d) .reading .rooms, other d .reading .rooms))
+      (λ c. let d = c .before .before .before .before .before in omega
+      (arith, condition (to-condition (to-body d)) .reading .rooms, body (to-body d) .reading .rooms, other d .reading .rooms))
+      returns-7

@@ -28,19 +28,25 @@ use Rattle.ast.proofs.room.push.Reads as push-reads
 use Rattle.reading.proofs.pieces.untailed.Reads as untailed-reads
 
 -- a statement is refused
-passed : {text ts : List ℕ} {limit o o′ : ℕ} {s s′ : State} {ns ls ys ss : List ℕ} {r : Read} {q : Refusal} → r ≡ Read.Refused q → States text ts limit o′ s′ ns ls ys ss r → ((x : Refused) → Refusing ts limit (choice a-statement) o′ s′ x → Refusing ts limit (chain empty block-items) o s x) → Fills text ts limit o s ns ls ys ss r
+passed : {ts : List ℕ} {limit o o′ : ℕ} {s s′ : State} {ns ls ss : List ℕ} {r : Read} {q : Refusal} → r ≡ Read.Refused q → States ts limit o′ s′ ns ls ss r →
+    ((x : Refused) → Refusing ts limit (choice a-statement) o′ s′ x → Refusing ts limit (chain empty block-items) o s x) → Fills ts limit o s ns ls ss r
 unfolding State-case Fill-case
 passed {q = q} e a up = rw e (record { says = up (refusal q) ((rw e at a) .says) })
 
 abbrev Inv-list : lts.InvT-list
-Inv-list text tokens nodes₀ links₀ symbols₀ scratch₀ limit depth now₀ tail₀ nodes links symbols scratch now tail = Statements text tokens limit depth (state nodes₀ links₀ symbols₀ scratch₀ now₀) (state nodes links symbols scratch now) tail
+Inv-list tokens nodes₀ links₀ scratch₀ limit depth now₀ tail₀ nodes links scratch now tail = Statements tokens limit depth (state nodes₀ links₀ scratch₀ now₀) (state nodes links scratch now)
+    tail
 
 abbrev μ-list : lts.MeasureT-list
-μ-list text tokens nodes₀ links₀ symbols₀ scratch₀ limit depth now₀ tail₀ nodes links symbols scratch now tail = count tokens - now .at
+μ-list tokens nodes₀ links₀ scratch₀ limit depth now₀ tail₀ nodes links scratch now tail = count tokens - now .at
 
 module _ (t : ℕ) where
   abbrev claims : lts.Claims
   claims = (kind-at-reads.Asked, kind-at-reads.Learnt, statement-at (below t), statement.Post, push-reads.Asked, push-reads.Learnt, untailed-reads.Asked, untailed-reads.Learnt)
+
+  -- back from where one part is known to where the one before it is
+  abbrev to-start : lts.At-list claims (items-at (just t)) items.Post Inv-list μ-list → lts.Start claims (items-at (just t)) items.Post Inv-list μ-list
+  to-start c = c .before .before .before .before .before
 
   -- where the block goes on: what its table has there
   on : (c : lts.At-match-rest claims (items-at (just t)) items.Post Inv-list μ-list) → Item-of (c .before .before .list .inv .listing) (choice a-statement)
@@ -48,17 +54,44 @@ module _ (t : ℕ) where
   on c = items-on block-items _ refl (rw (c .before .kind-at .ensures) at (c .match .rest .1))
 
   returns : lts.Need-returns claims (items-at (just t)) items.Post Inv-list μ-list
-  returns c = passed (c .enum-told .given .1) (c .before .before .before .before .before .before .before .before .before .before .statement .ensures) (λ x h. further (c .before .before .before .before .before .before .before .before .before .before .before .before .before .before .before .before .before .list .inv .listing .reading) (on (c .before .before .before .before .before .before .before .before .before .before .before .before .before .before .before)) h)
+  returns c =
+      passed (c .enum-told .given .1) (c .before .before .before .before .before .before .before .before .statement .ensures)
+      (λ x h. further (c .before .before .before .before .before .before .before .before .before .before .before .before .before .before .list .inv .listing .listed .reading)
+      (on (c .before .before .before .before .before .before .before .before .before .before .before .before)) h)
 
   list-less : lts.Need-list-less claims (items-at (just t)) items.Post Inv-list μ-list
-  list-less c = item-less (c .before .before .before .before .before .before .before .before .before .before .before .before .before .before .before .before .before .before .before .before .before .before .list .inv .listing) (on (c .before .before .before .before .before .before .before .before .before .before .before .before .before .before .before .before .before .before .before .before)) (stated (c .before .before .before .before .before .read .given .1) (c .before .before .before .before .before .before .before .before .before .before .before .before .before .before .before .statement .ensures) .success)
+  list-less c =
+      item-less
+      (c .before .before .before .before .before .before .before .before .before .before .before .before .before .before .before .before .before .before .before .list .inv .listing)
+      (on (c .before .before .before .before .before .before .before .before .before .before .before .before .before .before .before .before .before))
+      (stated (c .before .before .before .before .before .read .given .1)
+      (c .before .before .before .before .before .before .before .before .before .before .before .before .before .statement .ensures) .success)
 
   list-again : lts.Need-list-again claims (items-at (just t)) items.Post Inv-list μ-list
-  list-again c = statements-more (c .before .before .before .before .before .before .before .before .before .before .before .before .before .before .before .before .before .before .before .before .before .before .list .inv) (on (c .before .before .before .before .before .before .before .before .before .before .before .before .before .before .before .before .before .before .before .before)) (stated (c .before .before .before .before .before .read .given .1) (c .before .before .before .before .before .before .before .before .before .before .before .before .before .before .before .statement .ensures)) (c .before .before .push .ensures)
+  list-again c =
+      statements-more (c .before .before .before .before .before .before .before .before .before .before .before .before .before .before .before .before .before .before .before .list .inv)
+      (on (c .before .before .before .before .before .before .before .before .before .before .before .before .before .before .before .before .before))
+      (stated (c .before .before .before .before .before .read .given .1)
+      (c .before .before .before .before .before .before .before .before .before .before .before .before .before .statement .ensures)) (c .before .before .push .ensures)
 
   returns-2 : lts.Need-returns-2 claims (items-at (just t)) items.Post Inv-list μ-list
   unfolding rules
-  returns-2 c = let i = c .before .before .before .list .inv in block-ends (i .listing) (i .last) (c .before .before .before .before .before .before .before .before .before .before .pre .1) (items-end block-items _ refl (rw (c .before .before .kind-at .ensures) at (c .before .match .keys1))) (c .untailed .ensures)
+  returns-2 c =
+      let i = c .before .before .before .list .inv in block-ends (i .listing .listed) (i .last) (to-start (c .before .before .before) .pre .1 .ready)
+      (items-end block-items _ refl (rw (c .before .before .kind-at .ensures) at (c .before .match .keys1))) (c .untailed .ensures)
 
   pub spec : {M : Type 1} → lts.Closed claims (items-at (just t)) items.Post M
-  spec = lts.spec claims (items-at (just t)) items.Post Inv-list μ-list (λ c. let p = c .before .before .before .before .before .before .pre .1 in statements-none (p .deep) (p .within)) (λ c κs. search needs) (λ c κs. search needs) (λ c. search needs) (λ c. search needs) (λ c. search needs) (λ c. search needs) (λ c. search needs) (λ c. search needs) returns (λ c κs. hold-room (stated (c .before .before .read .given .1) (c .before .before .before .before .before .before .before .before .before .before .before .before .statement .ensures) .success .within)) (λ c. omega (arith, hold-number (stated (c .before .before .before .before .before .read .given .1) (c .before .before .before .before .before .before .before .before .before .before .before .before .before .before .before .statement .ensures) .success .within) (c .before .before .before .before .before .before .before .before .before .before .before .before .before .before .before .before .before .before .before .before .before .before .before .before .before .before .before .before .before .pre .1 .lent))) list-less list-again (λ c κs. let i = c .before .before .list .inv in tail-held (i .listing) (i .last)) (λ c. search needs) (λ c. search needs) (λ c. search needs) (λ c. search needs) returns-2
+  spec =
+      lts.spec claims (items-at (just t)) items.Post Inv-list μ-list (λ c. statements-none (c .before .before .before .before .pre .1)) (λ c κs. search needs) (λ c κs. search needs)
+      (λ c. search needs) (λ c. search needs) (λ c. search needs) (λ c. search needs) (λ c. search needs) returns
+      (λ c κs. hold-room
+      (stated (c .before .before .read .given .1) (c .before .before .before .before .before .before .before .before .before .before .statement .ensures) .success .within))
+      (λ c. omega (
+        arith,
+        hold-number
+            (stated (c .before .before .before .before .before .read .given .1)
+            (c .before .before .before .before .before .before .before .before .before .before .before .before .before .statement .ensures) .success .within)
+            ((to-start
+            (c .before .before .before .before .before .before .before .before .before .before .before .before .before .before .before .before .before .before .before)) .pre .1 .ready .lent),
+      ))
+      list-less list-again (λ c κs. let i = c .before .before .list .inv in tail-held (i .listing .listed) (i .last)) (λ c. search needs) (λ c. search needs) (λ c. search needs) returns-2

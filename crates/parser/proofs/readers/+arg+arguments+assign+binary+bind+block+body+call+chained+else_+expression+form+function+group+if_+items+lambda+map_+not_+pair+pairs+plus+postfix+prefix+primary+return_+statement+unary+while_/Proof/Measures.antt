@@ -43,14 +43,14 @@ use readers.postfix.Kinds as linked
 abbrev left : List ℕ → ℕ → ℕ → Cursor → ℕ → ℕ
 left ts limit depth c rank = 16 * ((count ts - c .at) + (limit - depth)) + rank
 
-abbrev pub μ : ℕ → Measures 6 plain.ps ℕ
-μ rank κs a = left (a .1 .0 .now) (a .1 .1 .1 .1 .1 .1 .0) (a .1 .1 .1 .1 .1 .1 .1 .0) (a .1 .1 .1 .1 .1 .1 .1 .1 .0) rank
+abbrev pub μ : ℕ → Measures 4 plain.ps ℕ
+μ rank κs a = left (a .0 .now) (a .1 .1 .1 .1 .0) (a .1 .1 .1 .1 .1 .0) (a .1 .1 .1 .1 .1 .1 .0) rank
 
-abbrev pub μ-numbered : ℕ → Measures 6 numbered.ps ℕ
-μ-numbered rank κs a = left (a .1 .0 .now) (a .1 .1 .1 .1 .1 .1 .0) (a .1 .1 .1 .1 .1 .1 .1 .0) (a .1 .1 .1 .1 .1 .1 .1 .1 .0) rank
+abbrev pub μ-numbered : ℕ → Measures 4 numbered.ps ℕ
+μ-numbered rank κs a = left (a .0 .now) (a .1 .1 .1 .1 .0) (a .1 .1 .1 .1 .1 .0) (a .1 .1 .1 .1 .1 .1 .0) rank
 
-abbrev pub μ-linked : ℕ → Measures 6 linked.ps ℕ
-μ-linked rank κs a = left (a .1 .0 .now) (a .1 .1 .1 .1 .1 .1 .0) (a .1 .1 .1 .1 .1 .1 .1 .0) (a .1 .1 .1 .1 .1 .1 .1 .1 .0) rank
+abbrev pub μ-linked : ℕ → Measures 4 linked.ps ℕ
+μ-linked rank κs a = left (a .0 .now) (a .1 .1 .1 .1 .0) (a .1 .1 .1 .1 .1 .0) (a .1 .1 .1 .1 .1 .1 .0) rank
 
 -- a reader's measure is t, or below it
 abbrev pub just : ℕ → ℕ → Type 0
@@ -60,92 +60,92 @@ abbrev pub below : ℕ → ℕ → Type 0
 below t n = n < t
 
 -- what a reader asks, and what is said of its measure
-abbrev ranked : (ps : List (PK 6)) → Measures 6 ps ℕ → In 6 ps → (ℕ → Type 0) → In 6 ps
+abbrev ranked : (ps : List (PK 4)) → Measures 4 ps ℕ → In 4 ps → (ℕ → Type 0) → In 4 ps
 ranked ps m pre says κs a = says (m κs a) × pre κs a
 
-abbrev pub arg-at : (ℕ → Type 0) → In 6 plain.ps
+abbrev pub arg-at : (ℕ → Type 0) → In 4 plain.ps
 arg-at = ranked plain.ps (μ 7) arg.Pre
 
-abbrev pub args-at : (ℕ → Type 0) → In 6 plain.ps
+abbrev pub args-at : (ℕ → Type 0) → In 4 plain.ps
 args-at = ranked plain.ps (μ 8) args.Pre
 
-abbrev pub assign-at : (ℕ → Type 0) → In 6 plain.ps
+abbrev pub assign-at : (ℕ → Type 0) → In 4 plain.ps
 assign-at = ranked plain.ps (μ 7) assign.Pre
 
-abbrev pub binary-at : (ℕ → Type 0) → In 6 numbered.ps
+abbrev pub binary-at : (ℕ → Type 0) → In 4 numbered.ps
 binary-at = ranked numbered.ps (μ-numbered 5) binary.Pre
 
-abbrev pub bind-at : (ℕ → Type 0) → In 6 numbered.ps
+abbrev pub bind-at : (ℕ → Type 0) → In 4 numbered.ps
 bind-at = ranked numbered.ps (μ-numbered 2) bind.Pre
 
-abbrev pub block-at : (ℕ → Type 0) → In 6 plain.ps
+abbrev pub block-at : (ℕ → Type 0) → In 4 plain.ps
 block-at = ranked plain.ps (μ 2) block.Pre
 
-abbrev pub body-at : (ℕ → Type 0) → In 6 plain.ps
+abbrev pub body-at : (ℕ → Type 0) → In 4 plain.ps
 body-at = ranked plain.ps (μ 7) body.Pre
 
-abbrev pub else--at : (ℕ → Type 0) → In 6 plain.ps
+abbrev pub else--at : (ℕ → Type 0) → In 4 plain.ps
 else--at = ranked plain.ps (μ 7) else-.Pre
 
-abbrev pub expression-at : (ℕ → Type 0) → In 6 plain.ps
+abbrev pub expression-at : (ℕ → Type 0) → In 4 plain.ps
 expression-at = ranked plain.ps (μ 6) expression.Pre
 
-abbrev pub form-at : (ℕ → Type 0) → In 6 plain.ps
+abbrev pub form-at : (ℕ → Type 0) → In 4 plain.ps
 form-at = ranked plain.ps (μ 8) form.Pre
 
-abbrev pub function-at : (ℕ → Type 0) → In 6 plain.ps
+abbrev pub function-at : (ℕ → Type 0) → In 4 plain.ps
 function-at = ranked plain.ps (μ 2) function.Pre
 
-abbrev pub call-at : (ℕ → Type 0) → In 6 linked.ps
+abbrev pub call-at : (ℕ → Type 0) → In 4 linked.ps
 call-at = ranked linked.ps (μ-linked 2) call.Pre
 
-abbrev pub group-at : (ℕ → Type 0) → In 6 plain.ps
+abbrev pub group-at : (ℕ → Type 0) → In 4 plain.ps
 group-at = ranked plain.ps (μ 2) group.Pre
 
-abbrev pub if--at : (ℕ → Type 0) → In 6 plain.ps
+abbrev pub if--at : (ℕ → Type 0) → In 4 plain.ps
 if--at = ranked plain.ps (μ 2) if-.Pre
 
-abbrev pub items-at : (ℕ → Type 0) → In 6 plain.ps
+abbrev pub items-at : (ℕ → Type 0) → In 4 plain.ps
 items-at = ranked plain.ps (μ 10) items.Pre
 
-abbrev pub lambda-at : (ℕ → Type 0) → In 6 plain.ps
+abbrev pub lambda-at : (ℕ → Type 0) → In 4 plain.ps
 lambda-at = ranked plain.ps (μ 2) lambda.Pre
 
-abbrev pub pairs-at : (ℕ → Type 0) → In 6 plain.ps
+abbrev pub pairs-at : (ℕ → Type 0) → In 4 plain.ps
 pairs-at = ranked plain.ps (μ 8) pairs.Pre
 
-abbrev pub pair-at : (ℕ → Type 0) → In 6 plain.ps
+abbrev pub pair-at : (ℕ → Type 0) → In 4 plain.ps
 pair-at = ranked plain.ps (μ 7) pair.Pre
 
-abbrev pub map--at : (ℕ → Type 0) → In 6 plain.ps
+abbrev pub map--at : (ℕ → Type 0) → In 4 plain.ps
 map--at = ranked plain.ps (μ 2) map-.Pre
 
-abbrev pub not--at : (ℕ → Type 0) → In 6 plain.ps
+abbrev pub not--at : (ℕ → Type 0) → In 4 plain.ps
 not--at = ranked plain.ps (μ 2) not-.Pre
 
-abbrev pub plus-at : (ℕ → Type 0) → In 6 plain.ps
+abbrev pub plus-at : (ℕ → Type 0) → In 4 plain.ps
 plus-at = ranked plain.ps (μ 2) plus.Pre
 
-abbrev pub postfix-at : (ℕ → Type 0) → In 6 linked.ps
+abbrev pub postfix-at : (ℕ → Type 0) → In 4 linked.ps
 postfix-at = ranked linked.ps (μ-linked 3) postfix.Pre
 
-abbrev pub prefix-at : (ℕ → Type 0) → In 6 plain.ps
+abbrev pub prefix-at : (ℕ → Type 0) → In 4 plain.ps
 prefix-at = ranked plain.ps (μ 4) prefix.Pre
 
-abbrev pub primary-at : (ℕ → Type 0) → In 6 plain.ps
+abbrev pub primary-at : (ℕ → Type 0) → In 4 plain.ps
 primary-at = ranked plain.ps (μ 3) primary.Pre
 
-abbrev pub chained-at : (ℕ → Type 0) → In 6 plain.ps
+abbrev pub chained-at : (ℕ → Type 0) → In 4 plain.ps
 chained-at = ranked plain.ps (μ 2) chained.Pre
 
-abbrev pub return--at : (ℕ → Type 0) → In 6 plain.ps
+abbrev pub return--at : (ℕ → Type 0) → In 4 plain.ps
 return--at = ranked plain.ps (μ 2) return-.Pre
 
-abbrev pub statement-at : (ℕ → Type 0) → In 6 plain.ps
+abbrev pub statement-at : (ℕ → Type 0) → In 4 plain.ps
 statement-at = ranked plain.ps (μ 9) statement.Pre
 
-abbrev pub unary-at : (ℕ → Type 0) → In 6 numbered.ps
+abbrev pub unary-at : (ℕ → Type 0) → In 4 numbered.ps
 unary-at = ranked numbered.ps (μ-numbered 2) unary.Pre
 
-abbrev pub while--at : (ℕ → Type 0) → In 6 plain.ps
+abbrev pub while--at : (ℕ → Type 0) → In 4 plain.ps
 while--at = ranked plain.ps (μ 2) while-.Pre

@@ -4,7 +4,7 @@ use borrow.Author.Needs.{needs}
 use mathlib.Core.Logic.{inl, inr}
 use mathlib.Core.Path.{refl, _∙_}
 use Rattle.grammar.specs.Kaori.{kaori, rules, operand}
-use Rattle.reading.proofs.Picks.{picked-as, signed}
+use Rattle.reading.proofs.Picks.{picked-as, signed, one-number}
 use Rattle.parser.proofs.readers.+arg+arguments+assign+binary+bind+block+body+call+chained+else_+expression+form+function+group+if_+items+lambda+map_+not_+pair+pairs+plus+postfix+prefix+primary+return_+statement+unary+while_ as cycle
 use Rattle.parser.proofs.readers as readers
 use cycle.Lts-prefix as lts
@@ -22,43 +22,97 @@ use Rattle.reading.proofs.leaves.string.Reads as string-reads
 
 module _ (t : ℕ) where
   abbrev claims : lts.Claims
-  claims = (kind-at-reads.Asked, kind-at-reads.Learnt, plus-at (below t), plus.Post, unary-at (below t), unary.Post, group-at (below t), group.Post, not--at (below t), not-.Post, single-reads.Asked, single-reads.Learnt, string-reads.Asked, string-reads.Learnt, chained-at (below t), chained.Post, primary-at (below t), primary.Post)
+  claims = (
+    kind-at-reads.Asked,
+    kind-at-reads.Learnt,
+    plus-at (below t),
+    plus.Post,
+    unary-at (below t),
+    unary.Post,
+    group-at (below t),
+    group.Post,
+    not--at (below t),
+    not-.Post,
+    single-reads.Asked,
+    single-reads.Learnt,
+    string-reads.Asked,
+    string-reads.Learnt,
+    chained-at (below t),
+    chained.Post,
+    primary-at (below t),
+    primary.Post,
+  )
 
   single-requires : lts.Need-single-requires claims (prefix-at (just t)) prefix.Post
-  single-requires c κs = (record { known = inr (inr (inr (inr (inr refl)))) }, c .before .before .before .before .before .before .before .before .before .before .before .before .pre .1)
+  single-requires c κs =
+      (record { known = inr (inr (inr (inr (inr (c .before .before .before .match .keys5))))) }, c .before .before .before .before .before .before .before .before .before .pre .1)
 
   primary-requires : lts.Need-primary-requires claims (prefix-at (just t)) prefix.Post
   primary-requires c κs =
-      let k = c .before .before .before .before .before .kind-at .ensures in
-      let n = c .before .before .before .before .match .rest in
-      (search needs, (record { not-plus = λ e. n .0 .0 .0 .0 .0 .0 .1 (k ∙ e); not-minus = λ e. n .0 .0 .0 .0 .0 .1 (inl (k ∙ e)); not-caret = λ e. n .0 .0 .0 .0 .0 .1 (inr (k ∙ e)); not-paren = λ e. n .0 .0 .0 .0 .1 (k ∙ e); not-not = λ e. n .0 .0 .0 .1 (k ∙ e); not-number = λ e. n .0 .0 .1 (k ∙ e); not-string = λ e. n .0 .1 (k ∙ e); not-name = λ e. n .1 (k ∙ e) }, c .before .before .before .before .before .before .before .before .before .before .before .before .pre .1))
+      let k = c .before .before .before .before .kind-at .ensures in
+      let n = c .before .before .before .match .rest in (
+        search needs,
+        (
+          record {
+            not-plus = λ e. n .0 .0 .0 .0 .0 .0 .1 (k ∙ e);
+            not-minus = λ e. n .0 .0 .0 .0 .0 .1 (inl (k ∙ e));
+            not-caret = λ e. n .0 .0 .0 .0 .0 .1 (inr (k ∙ e));
+            not-paren = λ e.
+                n .0 .0 .0 .0 .1 (k ∙ e);
+            not-not = λ e. n .0 .0 .0 .1 (k ∙ e);
+            not-number = λ e. n .0 .0 .1 (k ∙ e);
+            not-string = λ e. n .0 .1 (k ∙ e);
+            not-name = λ e. n .1 (k ∙ e);
+          },
+          c .before .before .before .before .before .before .before .before .before .pre .1,
+        ),
+      )
 
   returns : lts.Need-returns claims (prefix-at (just t)) prefix.Post
   unfolding kaori rules
-  returns c = picked-as _ operand (c .before .before .before .before .before .before .before .before .before .before .before .before .before .before .kind-at .ensures) (c .before .before .before .before .before .before .before .before .before .before .before .before .before .match .keys1) refl (c .before .before .before .before .before .before .before .before .plus .ensures)
+  returns c =
+      picked-as _ operand (c .before .before .before .before .before .before .before .before .before .before .before .kind-at .ensures)
+      (c .before .before .before .before .before .before .before .before .before .before .match .keys1) refl (c .before .before .before .before .before .before .plus .ensures)
 
   returns-2 : lts.Need-returns-2 claims (prefix-at (just t)) prefix.Post
-  returns-2 c = picked-as _ operand (c .before .before .before .before .before .before .before .before .before .before .before .before .before .before .kind-at .ensures) refl (signed (record { known = c .before .before .before .before .before .before .before .before .before .before .before .before .before .match .keys2 })) (c .before .before .before .before .before .before .before .before .unary .ensures)
+  returns-2 c =
+      picked-as _ operand (c .before .before .before .before .before .before .before .before .before .before .before .kind-at .ensures) refl
+      (signed (record { known = c .before .before .before .before .before .before .before .before .before .before .match .keys2 }))
+      (c .before .before .before .before .before .before .unary .ensures)
 
   returns-3 : lts.Need-returns-3 claims (prefix-at (just t)) prefix.Post
   unfolding kaori rules
-  returns-3 c = picked-as _ operand (c .before .before .before .before .before .before .before .before .before .before .before .before .before .before .kind-at .ensures) (c .before .before .before .before .before .before .before .before .before .before .before .before .before .match .keys3) refl (c .before .before .before .before .before .before .before .before .group .ensures)
+  returns-3 c =
+      picked-as _ operand (c .before .before .before .before .before .before .before .before .before .before .before .kind-at .ensures)
+      (c .before .before .before .before .before .before .before .before .before .before .match .keys3) refl (c .before .before .before .before .before .before .group .ensures)
 
   returns-4 : lts.Need-returns-4 claims (prefix-at (just t)) prefix.Post
   unfolding kaori rules
-  returns-4 c = picked-as _ operand (c .before .before .before .before .before .before .before .before .before .before .before .before .before .before .kind-at .ensures) (c .before .before .before .before .before .before .before .before .before .before .before .before .before .match .keys4) refl (c .before .before .before .before .before .before .before .before .not- .ensures)
+  returns-4 c =
+      picked-as _ operand (c .before .before .before .before .before .before .before .before .before .before .before .kind-at .ensures)
+      (c .before .before .before .before .before .before .before .before .before .before .match .keys4) refl (c .before .before .before .before .before .before .not- .ensures)
 
   returns-5 : lts.Need-returns-5 claims (prefix-at (just t)) prefix.Post
-  unfolding kaori rules
-  returns-5 c = picked-as _ operand (c .before .before .before .before .before .before .before .before .before .before .before .before .before .before .kind-at .ensures) (c .before .before .before .before .before .before .before .before .before .before .before .before .before .match .keys5) refl (c .before .before .before .before .before .before .before .before .single .ensures)
+  returns-5 c =
+      picked-as _ operand (c .before .before .before .before .before .before .before .before .before .before .before .kind-at .ensures) refl
+      (one-number (c .before .before .before .before .before .before .before .before .before .before .match .keys5)) (c .before .before .before .before .before .before .single .ensures)
 
   returns-6 : lts.Need-returns-6 claims (prefix-at (just t)) prefix.Post
   unfolding kaori rules
-  returns-6 c = picked-as _ operand (c .before .before .before .before .before .before .before .before .before .before .before .before .before .before .kind-at .ensures) (c .before .before .before .before .before .before .before .before .before .before .before .before .before .match .keys6) refl (c .before .before .before .before .before .before .before .before .string .ensures)
+  returns-6 c =
+      picked-as _ operand (c .before .before .before .before .before .before .before .before .before .before .before .kind-at .ensures)
+      (c .before .before .before .before .before .before .before .before .before .before .match .keys6) refl (c .before .before .before .before .before .before .string .ensures)
 
   returns-7 : lts.Need-returns-7 claims (prefix-at (just t)) prefix.Post
   unfolding kaori rules
-  returns-7 c = picked-as _ operand (c .before .before .before .before .before .before .before .before .before .before .before .before .before .before .kind-at .ensures) (c .before .before .before .before .before .before .before .before .before .before .before .before .before .match .keys7) refl (c .before .before .before .before .before .before .before .before .chained .ensures)
+  returns-7 c =
+      picked-as _ operand (c .before .before .before .before .before .before .before .before .before .before .before .kind-at .ensures)
+      (c .before .before .before .before .before .before .before .before .before .before .match .keys7) refl (c .before .before .before .before .before .before .chained .ensures)
 
   pub spec : {M : Type 1} → lts.Closed claims (prefix-at (just t)) prefix.Post M
-  spec = lts.spec claims (prefix-at (just t)) prefix.Post (λ c κs. search needs) (λ c κs. search needs) (λ c κs. search needs) (λ c κs. search needs) (λ c κs. search needs) single-requires (λ c κs. search needs) (λ c κs. search needs) primary-requires (λ c. search needs) (λ c. search needs) (λ c. search needs) (λ c. search needs) returns (λ c. search needs) (λ c. search needs) (λ c. search needs) (λ c. search needs) returns-2 (λ c. search needs) (λ c. search needs) (λ c. search needs) (λ c. search needs) returns-3 (λ c. search needs) (λ c. search needs) (λ c. search needs) (λ c. search needs) returns-4 (λ c. search needs) (λ c. search needs) (λ c. search needs) (λ c. search needs) returns-5 (λ c. search needs) (λ c. search needs) (λ c. search needs) (λ c. search needs) returns-6 (λ c. search needs) (λ c. search needs) (λ c. search needs) (λ c. search needs) returns-7 (λ c. search needs) (λ c. search needs) (λ c. search needs) (λ c. search needs) (λ c. search needs)
+  spec =
+      lts.spec claims (prefix-at (just t)) prefix.Post (λ c κs. search needs) (λ c κs. search needs) (λ c κs. search needs) (λ c κs. search needs) (λ c κs. search needs) single-requires
+      (λ c κs. search needs) (λ c κs. search needs) primary-requires (λ c. search needs) (λ c. search needs) (λ c. search needs) returns (λ c. search needs) (λ c. search needs)
+      (λ c. search needs) returns-2 (λ c. search needs) (λ c. search needs) (λ c. search needs) returns-3 (λ c. search needs) (λ c. search needs) (λ c. search needs) returns-4
+      (λ c. search needs) (λ c. search needs) (λ c. search needs) returns-5 (λ c. search needs) (λ c. search needs) (λ c. search needs) returns-6 (λ c. search needs) (λ c. search needs)
+      (λ c. search needs) returns-7 (λ c. search needs) (λ c. search needs) (λ c. search needs) (λ c. search needs)

@@ -18,36 +18,55 @@ use readers.expression.Reads as expression
 use readers.return_.Reads as return-
 use Rattle.reading.proofs.lists.consume.Reads as consume-reads
 use Rattle.ast.proofs.return_.Reads as return--reads
+use Rattle.reading.proofs.pieces.made.Reads as made-reads
 
 module _ (t : ℕ) where
   abbrev claims : lts.Claims
-  claims = (consume-reads.Asked, consume-reads.Learnt, expression-at (below t), expression.Post, return--reads.Asked, return--reads.Learnt)
+  claims = (consume-reads.Asked, consume-reads.Learnt, expression-at (below t), expression.Post, return--reads.Asked, return--reads.Learnt, made-reads.Asked, made-reads.Learnt)
+
+  -- back from where one part is known to where the one before it is
+  abbrev to-expression : lts.After-known-told2 claims (return--at (just t)) return-.Post → lts.After-expression claims (return--at (just t)) return-.Post
+  to-expression c = c .before .before .before .before .before .before .before .before .before
+
+  abbrev to-start : lts.After-known-told claims (return--at (just t)) return-.Post → lts.Start claims (return--at (just t)) return-.Post
+  to-start c = c .before .before .before .before .before .before .before .before
+
+  abbrev to-lead : lts.After-known-told2 claims (return--at (just t)) return-.Post → lts.After-known-told claims (return--at (just t)) return-.Post
+  to-lead c = c .before .before .before .before .before .before .before .before .before .before .before .before .before
 
   -- the token, what the expression's success says, and where the reader began
-  lead : (c : lts.After-known-told claims (return--at (just t)) return-.Post) → Taken-by (c .before .before .before .consume .ensures) (c .before .read .given .0 .0) (c .before .read .given .0 .1 .0)
+  lead : (c : lts.After-known-told claims (return--at (just t)) return-.Post) → Taken-by (c .before .before .before .consume .ensures) (c .before .read .given .0 .0)
+      (c .before .read .given .0 .1 .0)
   lead c = token-taken (c .before .read .given .1) (c .before .before .before .consume .ensures)
 
-  part : (c : lts.After-known-told2 claims (return--at (just t)) return-.Post) → Told (c .before .before .before .before .before .before .before .before .before .before .before .expression .ensures) (c .before .read2 .given .0 .0) (c .before .read2 .given .0 .1 .0)
-  part c = success (c .before .read2 .given .1) (c .before .before .before .before .before .before .before .before .before .before .before .expression .ensures)
-
-  abbrev start : lts.After-known-told2 claims (return--at (just t)) return-.Post → lts.Start claims (return--at (just t)) return-.Post
-  start c = c .before .before .before .before .before .before .before .before .before .before .before .before .before .before .before .before .before .before .before .before .before .before .before .before .before .before
+  part : (c : lts.After-known-told2 claims (return--at (just t)) return-.Post) → Told (to-expression c .expression .ensures) (c .before .read2 .given .0 .0)
+      (c .before .read2 .given .0 .1 .0)
+  part c = success (c .before .read2 .given .1) (to-expression c .expression .ensures)
 
   returns : lts.Need-returns claims (return--at (just t)) return-.Post
   returns c = lacks (c .enum-told .given .1) (c .before .before .consume .ensures) (λ h. Refuses.in-node (Refuses.missing h))
 
   expression-requires : lts.Need-expression-requires claims (return--at (just t)) return-.Post
-  expression-requires c κs = let e = past-at (lead (c .before .before .before .before)) in (search needs, ready-led (c .before .before .before .before .before .before .before .before .before .before .before .before .before .before .pre .1) (lead (c .before .before .before .before)) (λ e. omega arith))
+  expression-requires c κs =
+      let e = past-at (lead (c .before .before .before)) in (search needs, ready-led (to-start (c .before .before .before) .pre .1) (lead (c .before .before .before)) (λ e. omega arith))
 
   returns-2 : lts.Need-returns-2 claims (return--at (just t)) return-.Post
-  returns-2 c = passed (c .enum-told2 .given .1) (c .before .before .before .before .before .before .before .before .before .before .expression .ensures) (λ x h. Refuses.in-node (led-refused (lead (c .before .before .before .before .before .before .before .before .before .before .before .before .before .before .before)) h))
+  returns-2 c =
+      passed (c .enum-told2 .given .1) (c .before .before .before .before .before .before .before .before .expression .ensures)
+      (λ x h. Refuses.in-node (led-refused (lead (c .before .before .before .before .before .before .before .before .before .before .before .before)) h))
 
   returns-3 : lts.Need-returns-3 claims (return--at (just t)) return-.Post
   unfolding paid spare above make put fill numbers write rule
   returns-3 c =
-      let k = lead (c .before .before .before .before .before .before .before .before .before .before .before .before .before .before .before .before .before .before .before .before) in
-      let z = part (c .before .before .before .before) in
-      row-answered (start (c .before .before .before .before) .pre .1) (record { pays = tt }) (led k (z .reading)) (z .within) (inserted-as (starts k) refl refl (c .before .before .return- .ensures)) refl
+      let d = c .before .before .before .before .before in
+      let k = lead (to-lead d) in
+      let z = part d in
+      row-answered (c .made .ensures) (to-start (to-lead d) .pre .1) (record { pays = tt }) (led k (z .reading)) (z .within)
+      (inserted-as (starts k) refl refl (c .before .before .before .return- .ensures)) refl
 
   pub spec : {M : Type 1} → lts.Closed claims (return--at (just t)) return-.Post M
-  spec = lts.spec claims (return--at (just t)) return-.Post (λ c κs. search needs) (λ c. search needs) (λ c. search needs) returns expression-requires (λ c. search needs) (λ c. search needs) (λ c. search needs) (λ c. search needs) (λ c. search needs) (λ c. search needs) returns-2 (λ c κs. free (start (c .before) .pre .1 .lent) (part (c .before) .within)) (λ c. omega (arith, free (start (c .before .before .before .before) .pre .1 .lent) (part (c .before .before .before .before) .within) .number)) (λ c. search needs) (λ c. search needs) (λ c. search needs) (λ c. search needs) returns-3
+  spec =
+      lts.spec claims (return--at (just t)) return-.Post (λ c κs. search needs) (λ c. search needs) (λ c. search needs) returns expression-requires (λ c. search needs) (λ c. search needs)
+      (λ c. search needs) (λ c. search needs) (λ c. search needs) returns-2 (λ c κs. free (to-start (to-lead (c .before)) .pre .1 .lent) (part (c .before) .within))
+      (λ c κs. let d = c .before .before .before .before in free (to-start (to-lead d) .pre .1 .lent) (part d .within) .number) (λ c. search needs) (λ c. search needs) (λ c. search needs)
+      returns-3
