@@ -17,7 +17,6 @@ use Rattle.grammar.specs.Token.{kind, start, end, lexeme, count}
 use Rattle.grammar.proofs.Lexemes.{lexeme-length}
 use Rattle.grammar.proofs.Symbols.{rows-few}
 use Rattle.interner.specs.Interns.{used, Enters, Ready}
-use Rattle.interner.specs.Table.{Part}
 use Rattle.interner.specs.declared.Interned.{Interned}
 use Rattle.interner.proofs.Outcomes.{symbol-is, rows-are, size-kept, counts}
 use Rattle.names.specs.Resolved.{Before, Named}

@@ -1,7 +1,6 @@
 -- `between` meets its contract: no row passed has the bytes. The measure is how many rows are left.
 use Prim.Native.Nat.{ℕ, _-_, _≤_, _<_}
 use borrow.Author.Needs.{needs}
-use native.Mathlib.Decide.{decLt}
 use native.Mathlib.Omega.{arith}
 use mathlib.Core.Path.{_≡_}
 use Rattle.grammar.specs.Token.{lexeme}

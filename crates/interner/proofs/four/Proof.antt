@@ -1,8 +1,8 @@
 -- `four` meets its contract: rows with another print have other bytes.
-use Prim.Native.Nat.{_+_, _≤_, _<_}
+use Prim.Native.Nat.{_+_, _<_}
 use borrow.Author.Needs.{needs}
 use native.Mathlib.Omega.{arith}
-use mathlib.Core.Path.{_≡_, sym, _∙_}
+use mathlib.Core.Path.{sym, _∙_}
 use lib.ListN.{length}
 use Rattle.interner.proofs.Prints.{passed-over}
 use Rattle.interner.proofs.Search.{met-none}

@@ -5,9 +5,8 @@ use native.Mathlib.Omega.{arith}
 use mathlib.Core.Bool.{true}
 use mathlib.Core.List.{List}
 use mathlib.Core.Path.{_≡_, ap, _∙_}
-use Rattle.grammar.specs.Kind.{StringLiteral, Identifier}
+use Rattle.grammar.specs.Kind.{Identifier}
 use Rattle.grammar.specs.Symbol.{is-name, quote, word-start, word-end}
-use Rattle.grammar.specs.Token.{kind}
 use Rattle.names.proofs.Words.{is-word, quote-is, quoted, free-word, word-interns, no-word}
 use Rattle.names.proofs.word.Statement.{statement}
 use Rattle.names.proofs.word.Tie as tie

@@ -1,6 +1,5 @@
 -- `leaves::identifier` meets its contract: a name, and its row.
 use borrow.Author.Needs.{needs}
-use native.Mathlib.Omega.{arith}
 use Rattle.reading.proofs.Leaf.{identifier-read, relabelled}
 use Rattle.reading.proofs.Replies.{Told, success, passed}
 use Rattle.reading.proofs.Taking.{free}

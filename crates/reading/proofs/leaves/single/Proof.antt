@@ -1,6 +1,5 @@
 -- `leaves::single` meets its contract: a token of its kind, and its row.
 use borrow.Author.Needs.{needs}
-use native.Mathlib.Omega.{arith}
 use Rattle.grammar.specs.Refusal.{Refuses}
 use Rattle.reading.proofs.Leaf.{next-row, single-read}
 use Rattle.reading.proofs.Replies.{Taken, token-taken, lacks}

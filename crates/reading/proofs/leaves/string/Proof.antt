@@ -1,6 +1,5 @@
 -- `leaves::string` meets its contract: a token, the symbol of what is between its quotes, and its row.
 use borrow.Author.Needs.{needs}
-use native.Mathlib.Omega.{arith}
 use Rattle.grammar.specs.Kind.{StringLiteral}
 use Rattle.grammar.specs.Refusal.{Refuses}
 use Rattle.reading.proofs.Leaf.{next-row, string-read}

@@ -1,8 +1,6 @@
 -- A name is an identifier's token, and the symbol of its text.
 use borrow.Author.Needs.{needs}
-use native.Mathlib.Omega.{arith}
 use Rattle.grammar.specs.Refusal.{Refuses}
-use Rattle.grammar.proofs.Room.{paid, spare}
 use Rattle.reading.proofs.Names.{name-read}
 use Rattle.reading.proofs.Replies.{token-taken, lacks}
 use Rattle.reading.proofs.lists.name.Statement.{statement}
