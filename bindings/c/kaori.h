@@ -177,7 +177,8 @@ uint32_t kaori_read(const uint8_t *text, size_t text_len, uint32_t *tokens, size
    Leaves: the text at the room's start, all bytes past it as they were. */
 size_t kaori_message(uint32_t code, uint32_t expected, uint32_t found, uint8_t *room, size_t room_len);
 
-/* The line and the column of an offset. A line ends at a byte 10; columns count bytes; both count from 1.
+/* The line and the column of an offset. A line ends at a byte 10, at 13 10 together, or at a 13 alone; the 10 of a pair
+   is still on the old line. Columns count bytes; both count from 1.
    Takes: the text; the offset; and a room of 3 numbers or more for the answer.
    Answers: the code: 0, also for the offset at the text's end; 2, 13 or 14.
    Leaves: in the answer's room code, line and column, the last two 0 after 2 and 14, and the rest as it was; after 13 all

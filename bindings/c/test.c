@@ -131,6 +131,12 @@ static void telling(void) {
     EXPECT(kaori_place(text, 3, 3, answer, 4) == KAORI_OK && answer[KAORI_LINE] == 2 && answer[KAORI_COLUMN] == 2);
     EXPECT(answer[KAORI_CODE] == KAORI_OK && answer[3] == OLD);
     EXPECT(kaori_place(text, 3, 4, answer, 3) == KAORI_PAST_TEXT && answer[0] == 14 && answer[1] == 0 && answer[2] == 0);
+    const uint8_t ends[] = {'a', '\r', '\n', '\n', '\r', '\r'};
+    const uint32_t places[][2] = {{1, 1}, {1, 2}, {1, 3}, {2, 1}, {3, 1}, {4, 1}, {5, 1}};
+    for (size_t i = 0; i < LENGTH(places); i++) {
+        EXPECT(kaori_place(ends, sizeof ends, i, answer, 3) == KAORI_OK);
+        EXPECT(answer[KAORI_LINE] == places[i][0] && answer[KAORI_COLUMN] == places[i][1]);
+    }
     EXPECT(kaori_place(long_text, sizeof long_text, 0, answer, 3) == KAORI_LONG_TEXT && answer[0] == 2);
 }
 

@@ -10,6 +10,7 @@ pub mod frame;
 pub mod judge;
 pub mod kinds;
 pub mod lexer;
+pub mod lines;
 pub mod list;
 pub mod numbers;
 pub mod random;

@@ -206,10 +206,10 @@ impl Message {
     }
 }
 
-/// A line and a column, both from 1; columns count bytes.
+/// A line and a column, both from 1; columns count bytes. A line ends at a byte 10, at 13 10 together, or at a 13 alone.
 #[derive(Clone, Copy, PartialEq, Eq, Debug)]
 pub struct Place {
-    /// One more than the bytes 10 before the place.
+    /// One more than the ends of lines before the place. At the 10 of a pair the pair is not over.
     pub line: u32,
     /// One more than the bytes before it in its line.
     pub column: u32,
@@ -221,6 +221,8 @@ pub struct Place {
 /// use kaori_syntax::{Place, place};
 ///
 /// assert_eq!(place(b"a;\nb;", 4), Some(Place { line: 2, column: 2 }));
+/// assert_eq!(place(b"a;\rb;", 4), Some(Place { line: 2, column: 2 }));
+/// assert_eq!(place(b"a;\r\nb;", 3), Some(Place { line: 1, column: 4 })); // the 10 of a pair
 /// assert_eq!(place(b"a;\nb;", 6), None);
 /// ```
 pub fn place(text: &[u8], offset: usize) -> Option<Place> {

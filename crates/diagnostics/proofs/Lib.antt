@@ -1,2 +1,4 @@
 pub mod Messages
 pub mod Places
+pub mod Lines
+pub mod Corners

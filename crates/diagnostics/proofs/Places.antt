@@ -1,17 +1,30 @@
--- What is true of every place: its contract leaves one answer, and no line or column is greater than the offset and one. And how a byte moves the place on.
-use Prim.Native.Nat.{ℕ, zero, suc, _+_, _-_, _≤_, _<_}
-use native.Mathlib.Decide.{decLe, ℕ-discrete}
+-- What is true of every place: its contract leaves one answer, and no line or column is greater than the offset and one. How a byte moves the place on, and which
+-- bytes end their line.
+use Prim.Native.Nat.{ℕ, zero, suc, _+_, _≤_, _<_}
+use native.Mathlib.Decide.{decLe}
 use native.Mathlib.Numerals.{add-one}
 use native.Mathlib.Omega.{arith}
-use mathlib.Core.Bool.{Bool, true, false, cond}
-use mathlib.Core.List.{List, [], _∷_, _++_}
+use mathlib.Core.Bool.{Bool, true, false, not, or-false}
+use mathlib.Core.List.{List}
 use mathlib.Core.Path.{_≡_, refl, sym, ap, _∙_}
 use lib.Dec.{eqb}
-use lib.ListN.{length, getD, take}
-use lib.Seq.{take-suc}
-use borrow.Author.Tests.{eq-eqb, ne-eqb}
-use Rattle.diagnostics.specs.Line.{at, lineOf, Placed}
+use lib.ListN.{length, getD, drop-of-length-le, List·getD-eq-default}
+use lib.Seq.{drop-cons}
+use borrow.Author.Tests.{ne-eqb}
+use Rattle.diagnostics.specs.Line.{Newline, Return, at, ends, next, lineOf, Placed, breaks, unbroken, line-end}
 use Rattle.diagnostics.specs.declared.Place.{Place}
+
+-- the three ways to tell whether a line ends: a byte that is no return, a return with a byte after it, and a last return
+pub no-return : (text : List ℕ) (i : ℕ) → (getD text i 0 ≡ Return → ⊥) → eqb (getD text i 0) Newline ≡ ends text i
+unfolding ends
+no-return text i h = rw (ne-eqb (getD text i 0) Return h) (sym (or-false _))
+
+pub return-followed : (text : List ℕ) (i : ℕ) → getD text i 0 ≡ Return → not (eqb (getD text (i + 1) 0) Newline) ≡ ends text i
+unfolding ends
+return-followed text i e = rw (e, add-one i) refl
+
+pub return-last : (text : List ℕ) (i : ℕ) → getD text i 0 ≡ Return → i + 1 ≡ length text → true ≡ ends text i
+return-last text i e h = ap (λ (x : ℕ). not (eqb x Newline)) (sym (List·getD-eq-default text 0 (omega arith))) ∙ return-followed text i e
 
 -- line and column are those of the offset i
 pub record Reached (text : List ℕ) (i line column : ℕ) : Type 0 where
@@ -21,14 +34,14 @@ pub begun : {text : List ℕ} → Reached text 0 1 1
 unfolding lineOf
 begun = record { here = refl }
 
--- past a byte 10, and past another
-pub next-line : {text : List ℕ} {i line column : ℕ} → Reached text i line column → getD text i 0 ≡ 10 → Reached text (i + 1) (line + 1) 1
+-- past a byte that ends its line, and past another
+pub next-line : {text : List ℕ} {i line column : ℕ} → Reached text i line column → ends text i ≡ true → Reached text (i + 1) (line + 1) 1
 unfolding lineOf
-next-line {text} {i} p h = record { here = rw (add-one i, eq-eqb (getD text i 0) 10 h) (ap (λ (s : Place). at (s .line + 1) 1) (p .here)) }
+next-line {text} {i} p h = record { here = rw (add-one i, h) (ap (next true) (p .here)) }
 
-pub next-column : {text : List ℕ} {i line column : ℕ} → Reached text i line column → (getD text i 0 ≡ 10 → ⊥) → Reached text (i + 1) line (column + 1)
+pub next-column : {text : List ℕ} {i line column : ℕ} → Reached text i line column → ends text i ≡ false → Reached text (i + 1) line (column + 1)
 unfolding lineOf
-next-column {text} {i} p h = record { here = rw (add-one i, ne-eqb (getD text i 0) 10 h) (ap (λ (s : Place). at (s .line) (s .column + 1)) (p .here)) }
+next-column {text} {i} p h = record { here = rw (add-one i, h) (ap (next false) (p .here)) }
 
 -- no line or column is greater than the offset and one
 pub record Small (i : ℕ) (s : Place) : Type 0 where
@@ -38,11 +51,11 @@ pub record Small (i : ℕ) (s : Place) : Type 0 where
 pub small : (text : List ℕ) (i : ℕ) → Small i (lineOf text i)
 unfolding lineOf
 small text zero = record { line = omega arith; column = omega arith }
-small text (suc i) = either (eqb (getD text i 0) 10) (small text i)
+small text (suc i) = then (ends text i) (lineOf text i) (small text i)
   where
-    either : (b : Bool) → Small i (lineOf text i) → Small (suc i) (cond b (at (lineOf text i .line + 1) 1) (at (lineOf text i .line) (lineOf text i .column + 1)))
-    either true s = record { line = omega (arith, s .line); column = omega arith }
-    either false s = record { line = omega (arith, s .line); column = omega (arith, s .column) }
+    then : (b : Bool) (s : Place) → Small i s → Small (suc i) (next b s)
+    then true s h = record { line = omega (arith, h .line); column = omega arith }
+    then false s h = record { line = omega (arith, h .line); column = omega (arith, h .column) }
 
 pub reached-small : {text : List ℕ} {i line column : ℕ} → Reached text i line column → Small i (at line column)
 reached-small {text} {i} p = rw (p .here) (small text i)
@@ -59,58 +72,15 @@ one-place {text} {offset} p q =
           ]
     ]
 
--- The definition in other words. The line is one more than the bytes 10 before the offset.
-abbrev pub line-ends : List ℕ → ℕ
-line-ends [] = 0
-line-ends (x ∷ xs) = cond (eqb x 10) 1 0 + line-ends xs
+-- where the writing of a line ends: at a byte that breaks it, at the text's end, and else where it does as seen from the next byte
+pub ends-here : (text : List ℕ) (i : ℕ) → i < length text → breaks (getD text i 0) ≡ true → i ≡ line-end text i
+unfolding unbroken
+ends-here text i h e = rw (drop-cons text i 0 h, e) (omega arith)
 
-line-ends-append : (xs ys : List ℕ) → line-ends (xs ++ ys) ≡ line-ends xs + line-ends ys
-line-ends-append [] ys = omega arith
-line-ends-append (x ∷ xs) ys = omega (arith, line-ends-append xs ys)
+pub text-over : (text : List ℕ) (i : ℕ) → length text ≤ i → i ≡ line-end text i
+unfolding unbroken
+text-over text i h = rw (drop-of-length-le text h) (omega arith)
 
-pub line-counts : (text : List ℕ) (i : ℕ) → i ≤ length text → lineOf text i .line ≡ 1 + line-ends (take i text)
-unfolding lineOf
-line-counts text zero h = refl
-line-counts text (suc i) h =
-    let k : i < length text = omega arith in
-    rw (take-suc text i 0 k, line-ends-append (take i text) (getD text i 0 ∷ [])) (turn (eqb (getD text i 0) 10) (line-counts text i (omega arith)))
-  where
-    turn : (b : Bool) → lineOf text i .line ≡ 1 + line-ends (take i text) → cond b (at (lineOf text i .line + 1) 1) (at (lineOf text i .line) (lineOf text i .column + 1)) .line ≡ 1 + (line-ends (take i text) + (cond b 1 0 + 0))
-    turn true e = omega arith
-    turn false e = omega arith
-
--- The column is one more than the bytes from the start of its line, which is the text's start or stands after a byte 10, with none between.
-pub record Line (text : List ℕ) (i : ℕ) : Type 0 where
-  pub start : ℕ
-  pub before : start ≤ i
-  pub ended : (j : ℕ) → suc j ≡ start → getD text j 0 ≡ 10
-  pub unbroken : (j : ℕ) → start ≤ j → j < i → getD text j 0 ≡ 10 → ⊥
-  pub column : lineOf text i .column ≡ 1 + (i - start)
-
-pub column-counts : (text : List ℕ) (i : ℕ) → Line text i
-unfolding lineOf
-column-counts text zero = record { start = 0; before = omega arith; ended = λ j e. absurd (omega arith); unbroken = λ j _ h. absurd (omega arith); column = refl }
-column-counts text (suc i) = elim (ℕ-discrete (getD text i 0) 10) [
-  | yes e ↦
-      record {
-        start = suc i;
-        before = omega arith;
-        ended = λ j h. rw (same-place h) e;
-        unbroken = λ j h k. absurd (omega arith);
-        column = rw (eq-eqb (getD text i 0) 10 e) (omega arith);
-      }
-  | no n ↦ onward n (column-counts text i)
-]
-  where
-    same-place : {j : ℕ} → suc j ≡ suc i → j ≡ i
-    same-place e = omega arith
-
-    onward : (getD text i 0 ≡ 10 → ⊥) → Line text i → Line text (suc i)
-    onward n l =
-        record {
-          start = l .start;
-          before = omega (arith, l .before);
-          ended = l .ended;
-          unbroken = λ j h k e. elim (ℕ-discrete j i) [ yes q ↦ n (rw q at e) | no q ↦ l .unbroken j h (omega arith) e ];
-          column = rw (ne-eqb (getD text i 0) 10 n) (omega (arith, l .before, l .column));
-        }
+pub goes-on : (text : List ℕ) (i : ℕ) → i < length text → breaks (getD text i 0) ≡ false → line-end text (i + 1) ≡ line-end text i
+unfolding unbroken
+goes-on text i h e = rw (drop-cons text i 0 h, e, add-one i) (omega arith)

@@ -1,12 +1,19 @@
--- Line and column of an offset. Document 01, Small services: 'from 1; a line ends at byte 10; columns count bytes. Text over 65,536: 2. Offset past the text:
--- 14 (the offset equal to the length is answered). Line and column are then 0.'
+-- Line and column of an offset. Document 01, Small services: 'from 1; .. columns count bytes. Text over 65,536: 2. Offset past the text: 14 (the offset equal to the
+-- length is answered). Line and column are then 0.' Document 02, L3: 'a line ends at 10, at 13 10 together, or at 13 alone; the offset of the 10 in a pair is still
+-- on the old line'.
 use Prim.Native.Nat.{ℕ, zero, suc, _+_, _≤_, _<_}
-use mathlib.Core.Bool.{cond}
-use mathlib.Core.List.{List}
+use mathlib.Core.Bool.{Bool, true, false, not, cond, _&&_, _||_}
+use mathlib.Core.List.{List, [], _∷_}
 use mathlib.Core.Path.{_≡_}
 use lib.Dec.{eqb}
-use lib.ListN.{length, getD}
+use lib.ListN.{length, getD, drop}
 use Rattle.diagnostics.specs.declared.Place.{Place}
+
+abbrev pub Newline : ℕ
+Newline = 10
+
+abbrev pub Return : ℕ
+Return = 13
 
 abbrev pub at : (line column : ℕ) → Place
 at line column = record { code = 0; line = line; column = column }
@@ -14,12 +21,34 @@ at line column = record { code = 0; line = line; column = column }
 abbrev pub refusal : (code : ℕ) → Place
 refusal code = record { code = code; line = 0; column = 0 }
 
--- a text starts at line 1, column 1. After a byte 10 the next line starts; after any other byte stands the next column
+-- whether a line ends with the byte at i: it is a 10, or a 13 that no 10 follows. With the 13 of a pair the line goes on, and a 13 at the text's end is alone
+unfoldable pub ends : (text : List ℕ) (i : ℕ) → Bool
+ends text i = eqb (getD text i 0) Newline || (eqb (getD text i 0) Return && not (eqb (getD text (suc i) 0) Newline))
+
+-- after a byte with which a line ends the next line starts, after any other byte stands the next column
+abbrev pub next : (ended : Bool) → Place → Place
+next true s = at (s .line + 1) 1
+next false s = at (s .line) (s .column + 1)
+
+-- a text starts at line 1, column 1
 unfoldable pub lineOf : (text : List ℕ) (offset : ℕ) → Place
 lineOf text zero = at 1 1
-lineOf text (suc i) = cond (eqb (getD text i 0) 10) (at (lineOf text i .line + 1) 1) (at (lineOf text i .line) (lineOf text i .column + 1))
+lineOf text (suc i) = next (ends text i) (lineOf text i)
 
 pub record Placed (text : List ℕ) (offset : ℕ) (r : Place) : Type 0 where
   pub long : 65536 < length text → r ≡ refusal 2
   pub past : length text ≤ 65536 → length text < offset → r ≡ refusal 14
   pub placed : length text ≤ 65536 → offset ≤ length text → r ≡ lineOf text offset
+
+-- a byte that is part of a line's end, and so not of what is written on the line
+unfoldable pub breaks : ℕ → Bool
+breaks x = eqb x Newline || eqb x Return
+
+-- how many bytes stand before the first such byte, or in all
+unfoldable pub unbroken : List ℕ → ℕ
+unbroken [] = 0
+unbroken (x ∷ xs) = cond (breaks x) 0 (suc (unbroken xs))
+
+-- where what is written on a line ends, from an offset in it: before the line's 10, 13 10 or 13, or with the text
+abbrev pub line-end : (text : List ℕ) (offset : ℕ) → ℕ
+line-end text offset = offset + unbroken (drop offset text)

@@ -1,9 +1,33 @@
-// The line and the column of an offset in a text.
+// The line and the column of an offset in a text, and where what is written on a line ends.
 use crate::Place;
-ghost use Rattle.diagnostics.specs.Line.{Placed};
+ghost use Prim.Native.Nat.{_<_};
+ghost use mathlib.Core.Path.{_≡_};
+ghost use lib.ListN.{length};
+ghost use Rattle.diagnostics.specs.Line.{Placed, breaks, ends, line-end};
+
+pub const NEWLINE: u8 = 10;
+
+pub const RETURN: u8 = 13;
+
+// Whether the line ends with byte i of a text: a newline, or a return that no newline follows. It asks that there is such a byte.
+// Ruled out: true for the return of a pair; false for a return that is the last byte.
+pub fn ends_line(text: &[u8], i: usize) -> bool
+    requires { ⌜ i < length (now text) ⌝ }
+    ensures { λ r. ⌜ r ≡ ends (now (text .entry)) i ⌝ }
+{
+    let byte = text[i];
+    if byte != RETURN {
+        return byte == NEWLINE;
+    }
+    if i + 1 == text.len() {
+        return true;
+    }
+    text[i + 1] != NEWLINE
+}
 
 // The place of an offset, by one pass over the bytes before it.
-// Ruled out: 14 at the end of the text; 14 where the text is too long as well; the column counted from 0; the column going on past a byte 10.
+// Ruled out: 14 at the end of the text; 14 where the text is too long as well; the column counted from 0; the column going on past a line's end; two lines for a
+// return with its newline; the next line at that newline.
 pub fn place(text: &[u8], offset: usize) -> Place
     ensures { λ r. ⌜ Placed (now (text .entry)) offset r ⌝ }
 {
@@ -25,7 +49,7 @@ pub fn place(text: &[u8], offset: usize) -> Place
     let mut column: u32 = 1;
     let mut i = 0;
     while i < offset {
-        if text[i] == 10 {
+        if ends_line(text, i) {
             line += 1;
             column = 1;
         } else {
@@ -38,4 +62,29 @@ pub fn place(text: &[u8], offset: usize) -> Place
         line: line,
         column: column,
     }
+}
+
+// Whether a byte is part of a line's end.
+fn breaks_line(byte: u8) -> bool
+    ensures { λ r. ⌜ r ≡ breaks byte ⌝ }
+{
+    if byte == NEWLINE {
+        return true;
+    }
+    byte == RETURN
+}
+
+// Where what is written on a line ends, from an offset in it; the offset itself where it is past the text.
+// Ruled out: the offset of a pair's newline, with the return still on the line; the end of the text where a return stands alone.
+pub fn line_end(text: &[u8], offset: usize) -> usize
+    ensures { λ r. ⌜ r ≡ line-end (now (text .entry)) offset ⌝ }
+{
+    let mut i = offset;
+    while i < text.len() {
+        if breaks_line(text[i]) {
+            return i;
+        }
+        i += 1;
+    }
+    i
 }

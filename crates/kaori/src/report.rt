@@ -4,10 +4,10 @@ use crate::page::put;
 use crate::page::put_byte;
 use crate::page::put_first;
 use crate::page::put_number;
+use diagnostics::line::line_end;
 use diagnostics::line::place;
 use diagnostics::text::message;
 ghost use Prim.Native.Nat.{_≤_};
-ghost use lib.ListN.{length};
 
 // A refusal: its code, its place in the text, the kind that was required, and the kind that was found.
 pub struct Why {
@@ -58,24 +58,6 @@ fn put_why(text: &[u8], why: Why, out: &mut [u8; 4096], at: usize) -> usize
     }
 }
 
-// Where the line of an offset ends.
-fn line_end(text: &[u8], offset: usize) -> usize
-    requires { ⌜ offset ≤ length (now text) ⌝ }
-    ensures { λ r. ⌜ (offset ≤ r) × (r ≤ length (now (text .entry))) ⌝ }
-{
-    let mut i = offset;
-    while i < text.len() {
-        if text[i] == 10 {
-            return i;
-        }
-        if text[i] == 13 {
-            return i;
-        }
-        i += 1;
-    }
-    i
-}
-
 // What takes as many columns as a byte: a tab for a tab, and a blank for anything else.
 fn as_wide(byte: u8) -> u8 {
     if byte == 9 {
@@ -98,7 +80,7 @@ fn put_columns(part: &[u8], out: &mut [u8; 4096], at: usize) -> usize
     now
 }
 
-// The line of the text that holds an offset, and a caret below the offset.
+// What is written on the line of an offset, and a caret below the offset. The line starts as many bytes before it as the column says.
 fn show_line(text: &[u8], offset: usize, column: u32, out: &mut [u8; 4096]) {
     let back = column as usize;
     if offset > text.len() {
@@ -111,7 +93,7 @@ fn show_line(text: &[u8], offset: usize, column: u32, out: &mut [u8; 4096]) {
     if start > offset {
         return;
     }
-    let end = line_end(text, offset);
+    let end = line_end(text, start);
     let line = put(&text[start..end], out, 0);
     end_line(out, line);
     let under = put_columns(&text[start..offset], out, 0);

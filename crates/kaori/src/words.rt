@@ -2,6 +2,10 @@
 use crate::page::pad;
 use crate::page::put;
 use crate::page::put_byte;
+use diagnostics::line::NEWLINE;
+use diagnostics::line::RETURN;
+use diagnostics::line::ends_line;
+use diagnostics::line::line_end;
 ghost use Prim.Native.Nat.{_≤_, _<_};
 ghost use lib.ListN.{length};
 
@@ -85,14 +89,33 @@ fn least(a: usize, b: usize) -> usize
     b
 }
 
+// A byte of the text, or a newline for the end of a line, however that is written: with a pair the newline comes for its second byte.
+fn put_byte_of(text: &[u8], i: usize, out: &mut [u8; 4096], at: usize) -> usize
+    requires { ⌜ (i < length (now text)) × (at ≤ 4096) ⌝ }
+    ensures { λ r. ⌜ r ≤ 4096 ⌝ }
+{
+    if ends_line(text, i) {
+        return put_byte(NEWLINE, out, at);
+    }
+    if text[i] == RETURN {
+        return at;
+    }
+    put_byte(text[i], out, at)
+}
+
 // The text from an offset up to another, whole.
 pub(crate) fn put_text(text: &[u8], start: u32, end: u32, out: &mut [u8; 4096], at: usize) -> usize
     requires { ⌜ at ≤ 4096 ⌝ }
     ensures { λ r. ⌜ r ≤ 4096 ⌝ }
 {
     let upto = least(end as usize, text.len());
-    let from = least(start as usize, upto);
-    put(&text[from..upto], out, at)
+    let mut i = start as usize;
+    let mut now = at;
+    while i < upto {
+        now = put_byte_of(text, i, out, now);
+        i += 1;
+    }
+    now
 }
 
 // A blank, a tab, or the end of a line.
@@ -167,21 +190,8 @@ pub(crate) fn put_first_line(
     requires { ⌜ at ≤ 4096 ⌝ }
     ensures { λ r. ⌜ r ≤ 4096 ⌝ }
 {
-    let mut upto = start;
-    while upto < end {
-        let i = upto as usize;
-        if i >= text.len() {
-            break;
-        }
-        if text[i] == 10 {
-            break;
-        }
-        if text[i] == 13 {
-            break;
-        }
-        upto += 1;
-    }
-    put_excerpt(text, start, upto, most, out, at)
+    let upto = least(line_end(text, start as usize), end as usize);
+    put_excerpt(text, start, upto as u32, most, out, at)
 }
 
 // The indent of a level, two blanks each; deeper than 24 it grows no more.

@@ -2,7 +2,7 @@
 use Prim.Native.Nat.{_-_, _≤_}
 use native.Mathlib.Omega.{arith}
 use mathlib.Core.Logic.{⊎-elim}
-use mathlib.Core.Path.{_≡_, refl}
+use mathlib.Core.Path.{_≡_, refl, sym, _∙_}
 use Rattle.diagnostics.proofs.Places.{Reached, begun, next-line, next-column, reached-small}
 use Rattle.diagnostics.proofs.line.place.Statement.{statement}
 use Rattle.diagnostics.proofs.line.place.Tie as tie
@@ -22,8 +22,8 @@ returns-2 c = record { long = λ h. absurd (omega arith); past = λ _ _. refl; p
 loop-holds : tie.Need-loop-holds Inv-loop μ-loop
 loop-holds c = (omega arith, begun)
 
-shared-slice-read-if3 : tie.Need-shared-slice-read-if3 Inv-loop μ-loop
-shared-slice-read-if3 c = omega arith
+ends-line-requires : tie.Need-ends-line-requires Inv-loop μ-loop
+ends-line-requires c κs = omega arith
 
 add-line : tie.Need-add-line Inv-loop μ-loop
 add-line c = omega (arith, reached-small (c .before .before .before .loop .inv .1) .line)
@@ -40,11 +40,12 @@ loop-less c = omega arith
 loop-again : tie.Need-loop-again Inv-loop μ-loop
 loop-again c =
     let inv = c .before .before .before .loop .inv .1 in
-    (omega arith, ⊎-elim (λ w. rw (w .1, w .2) (next-line inv (w .0 .taken))) (λ w. rw (w .1, w .2) (next-column inv (w .0 .left))) (c .if3 .came))
+    let told = sym (c .before .ends-line .ensures) in
+    (omega arith, ⊎-elim (λ w. rw (w .1, w .2) (next-line inv (told ∙ w .0 .taken))) (λ w. rw (w .1, w .2) (next-column inv (told ∙ w .0 .left))) (c .if3 .came))
 
 returns-3 : tie.Need-returns-3 Inv-loop μ-loop
 returns-3 c =
-    let all : c .before .loop .i ≡ c .before .before .before .before .args .offset = omega arith in
+    let all : c .before .loop .i ≡ c .before .before .before .before .before .args .offset = omega arith in
     record {
       long = λ h. absurd (omega arith);
       past = λ _ h. absurd (omega arith);
@@ -60,7 +61,7 @@ place-spec =
     returns
     returns-2
     loop-holds
-    shared-slice-read-if3
+    ends-line-requires
     add-line
     add-column
     add-i
