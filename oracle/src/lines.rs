@@ -1,8 +1,8 @@
 //! Lines and columns by a way of their own (request L3). The return of a pair becomes a byte of its line and every other return
-//! a newline, which moves no offset; then document 01's first rule holds, that a line ends at byte 10.
+//! a newline, which moves no offset; then a line ends at byte 10 alone, as document 01 had it.
 
-/// What stands for the return of a pair.
-const HELD: &str = "\0\n";
+/// What stands for a pair: a byte of the line for its return, and its newline.
+const PAIR: &str = "\0\n";
 
 /// Every text of at most `length` bytes out of these, the shortest first.
 pub fn texts(bytes: &str, length: usize) -> Vec<String> {
@@ -21,7 +21,7 @@ pub fn texts(bytes: &str, length: usize) -> Vec<String> {
 
 /// The text with newlines alone.
 fn plain(text: &str) -> String {
-    text.replace("\r\n", HELD).replace('\r', "\n")
+    text.replace("\r\n", PAIR).replace('\r', "\n")
 }
 
 /// The line and the column of an offset.

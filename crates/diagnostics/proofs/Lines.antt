@@ -1,5 +1,5 @@
 -- The definitions in other words. The line of an offset is one more than the ends of lines before it, as document 02 has the ends; the column is one more than the
--- bytes since the last of them; and what is written on a line is all on that line.
+-- bytes since its line began; and what is written on a line is all on that line, with no byte of an end.
 use Prim.Native.Nat.{ℕ, zero, suc, _+_, _-_, _≤_, _<_}
 use native.Mathlib.Decide.{ℕ-discrete}
 use native.Mathlib.Nat.{add-zero, add-suc}
@@ -11,7 +11,7 @@ use lib.Dec.{eqb, leb}
 use lib.ListN.{length, getD, drop, length-drop}
 use lib.Seq.{getD-drop}
 use borrow.Author.Tests.{ne-eqb, le-leb, lt-leb}
-use Rattle.diagnostics.specs.Line.{Newline, Return, ends, next, lineOf, breaks, unbroken, line-end}
+use Rattle.diagnostics.specs.Line.{Newline, Return, ends, next, lineOf, breaks, unbroken, writing-end}
 use Rattle.diagnostics.specs.declared.Place.{Place}
 
 -- The ends of a text's lines, from the left, each by the offset after it: 13 10 together, 13 alone, 10. `from` is the offset where the text that is left starts.
@@ -126,19 +126,19 @@ pub record Line (text : List ℕ) (i : ℕ) : Type 0 where
   pub start : ℕ
   pub before : start ≤ i
   pub ended : (j : ℕ) → suc j ≡ start → ends text j ≡ true
-  pub on : (j : ℕ) → start ≤ j → j < i → ends text j ≡ false
+  pub unended : (j : ℕ) → start ≤ j → j < i → ends text j ≡ false
   pub column : lineOf text i .column ≡ 1 + (i - start)
 
 pub column-counts : (text : List ℕ) (i : ℕ) → Line text i
 unfolding lineOf
-column-counts text zero = record { start = 0; before = omega arith; ended = λ j e. absurd (omega arith); on = λ j _ h. absurd (omega arith); column = refl }
+column-counts text zero = record { start = 0; before = omega arith; ended = λ j e. absurd (omega arith); unended = λ j _ h. absurd (omega arith); column = refl }
 column-counts text (suc i) = elim (Bool-discrete (ends text i) true) [
   | yes e ↦
       record {
         start = suc i;
         before = omega arith;
         ended = λ j h. rw (same-place h) e;
-        on = λ j h k. absurd (omega arith);
+        unended = λ j h k. absurd (omega arith);
         column = rw e (omega arith);
       }
   | no n ↦ onward (is-false (ends text i) n) (column-counts text i)
@@ -153,16 +153,18 @@ column-counts text (suc i) = elim (Bool-discrete (ends text i) true) [
           start = l .start;
           before = omega (arith, l .before);
           ended = l .ended;
-          on = λ j h k. elim (ℕ-discrete j i) [ yes q ↦ rw q n | no q ↦ l .on j h (omega arith) ];
+          unended = λ j h k. elim (ℕ-discrete j i) [ yes q ↦ rw q n | no q ↦ l .unended j h (omega arith) ];
           column = rw n (omega (arith, l .before, l .column));
         }
 
--- What is written on a line, from an offset on: all of it stands on that line, one column after the other, and then comes a byte that breaks the line, or no more text.
+-- What is written on a line, from an offset in it: all stands on that line, one column after the other, and no byte of it breaks the line; then comes one that does,
+-- or no more text.
 pub record Written (text : List ℕ) (i : ℕ) : Type 0 where
-  pub there : i ≤ length text → line-end text i ≤ length text
-  pub line : (n : ℕ) → i + n ≤ line-end text i → lineOf text (i + n) .line ≡ lineOf text i .line
-  pub column : (n : ℕ) → i + n ≤ line-end text i → lineOf text (i + n) .column ≡ lineOf text i .column + n
-  pub broken : line-end text i < length text → breaks (getD text (line-end text i) 0) ≡ true
+  pub there : i ≤ length text → writing-end text i ≤ length text
+  pub line : (n : ℕ) → i + n ≤ writing-end text i → lineOf text (i + n) .line ≡ lineOf text i .line
+  pub column : (n : ℕ) → i + n ≤ writing-end text i → lineOf text (i + n) .column ≡ lineOf text i .column + n
+  pub clear : (n : ℕ) → i + n < writing-end text i → breaks (getD text (i + n) 0) ≡ false
+  pub broken : writing-end text i < length text → breaks (getD text (writing-end text i) 0) ≡ true
 
 -- no text, and a byte in front of one: it breaks a line or not
 nothing : unbroken [] ≡ 0
@@ -203,7 +205,7 @@ up-to-a-break (x ∷ xs) = elim (Bool-discrete (breaks x) true) [
         }
 
 -- no line ends with a byte that breaks none
-pub unended : (text : List ℕ) (i : ℕ) → breaks (getD text i 0) ≡ false → ends text i ≡ false
+unended : (text : List ℕ) (i : ℕ) → breaks (getD text i 0) ≡ false → ends text i ≡ false
 unfolding ends breaks
 unended text i = both (eqb (getD text i 0) Newline) (eqb (getD text i 0) Return) (not (eqb (getD text (suc i) 0) Newline))
   where
@@ -219,19 +221,23 @@ written text i =
       there = λ h. omega (arith, here .inside, length-drop i text);
       line = line;
       column = column;
+      clear = clear;
       broken = λ h. sym (ap breaks (getD-drop i text (unbroken (drop i text)) 0)) ∙ here .after (omega (arith, h, length-drop i text));
     }
   where
     here : Unbroken (drop i text)
     here = up-to-a-break (drop i text)
 
-    goes-on : (n : ℕ) → i + suc n ≤ line-end text i → ends text (i + n) ≡ false
-    goes-on n h = unended text (i + n) (sym (ap breaks (getD-drop i text n 0)) ∙ here .before n (omega arith))
+    clear : (n : ℕ) → i + n < writing-end text i → breaks (getD text (i + n) 0) ≡ false
+    clear n h = sym (ap breaks (getD-drop i text n 0)) ∙ here .before n (omega arith)
 
-    line : (n : ℕ) → i + n ≤ line-end text i → lineOf text (i + n) .line ≡ lineOf text i .line
+    on : (n : ℕ) → i + suc n ≤ writing-end text i → ends text (i + n) ≡ false
+    on n h = unended text (i + n) (clear n (omega arith))
+
+    line : (n : ℕ) → i + n ≤ writing-end text i → lineOf text (i + n) .line ≡ lineOf text i .line
     line zero h = rw (add-zero i) refl
-    line (suc n) h = rw (add-suc i n, goes-on n h) (line n (omega arith))
+    line (suc n) h = rw (add-suc i n, on n h) (line n (omega arith))
 
-    column : (n : ℕ) → i + n ≤ line-end text i → lineOf text (i + n) .column ≡ lineOf text i .column + n
+    column : (n : ℕ) → i + n ≤ writing-end text i → lineOf text (i + n) .column ≡ lineOf text i .column + n
     column zero h = rw (add-zero i) (omega arith)
-    column (suc n) h = rw (add-suc i n, goes-on n h) (omega (arith, column n (omega arith)))
+    column (suc n) h = rw (add-suc i n, on n h) (omega (arith, column n (omega arith)))

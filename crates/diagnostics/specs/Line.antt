@@ -49,6 +49,6 @@ unfoldable pub unbroken : List ℕ → ℕ
 unbroken [] = 0
 unbroken (x ∷ xs) = cond (breaks x) 0 (suc (unbroken xs))
 
--- where what is written on a line ends, from an offset in it: before the line's 10, 13 10 or 13, or with the text
-abbrev pub line-end : (text : List ℕ) (offset : ℕ) → ℕ
-line-end text offset = offset + unbroken (drop offset text)
+-- where what is written on a line ends, from an offset in it: at the first 10 or 13, or with the text
+abbrev pub writing-end : (text : List ℕ) (offset : ℕ) → ℕ
+writing-end text offset = offset + unbroken (drop offset text)

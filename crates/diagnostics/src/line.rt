@@ -3,13 +3,13 @@ use crate::Place;
 ghost use Prim.Native.Nat.{_<_};
 ghost use mathlib.Core.Path.{_≡_};
 ghost use lib.ListN.{length};
-ghost use Rattle.diagnostics.specs.Line.{Placed, breaks, ends, line-end};
+ghost use Rattle.diagnostics.specs.Line.{Placed, breaks, ends, writing-end};
 
 pub const NEWLINE: u8 = 10;
 
 pub const RETURN: u8 = 13;
 
-// Whether the line ends with byte i of a text: a newline, or a return that no newline follows. It asks that there is such a byte.
+// Whether the line ends with byte i of a text: a newline, or a return that no newline follows. It asks that the text has a byte i.
 // Ruled out: true for the return of a pair; false for a return that is the last byte.
 pub fn ends_line(text: &[u8], i: usize) -> bool
     requires { ⌜ i < length (now text) ⌝ }
@@ -74,10 +74,10 @@ fn breaks_line(byte: u8) -> bool
     byte == RETURN
 }
 
-// Where what is written on a line ends, from an offset in it; the offset itself where it is past the text.
+// Where what is written on a line ends, from an offset in it: at the first newline or return, or with the text; the offset itself where it is past the text.
 // Ruled out: the offset of a pair's newline, with the return still on the line; the end of the text where a return stands alone.
-pub fn line_end(text: &[u8], offset: usize) -> usize
-    ensures { λ r. ⌜ r ≡ line-end (now (text .entry)) offset ⌝ }
+pub fn writing_end(text: &[u8], offset: usize) -> usize
+    ensures { λ r. ⌜ r ≡ writing-end (now (text .entry)) offset ⌝ }
 {
     let mut i = offset;
     while i < text.len() {

@@ -1,5 +1,6 @@
 // A line of output: the room holds what is not written yet, and a place in it is the line's column for as long as the line fits. A room that is full is
 // written out, so that nothing is cut.
+use diagnostics::line::NEWLINE;
 use libc::STDOUT_FILENO;
 ghost use Prim.Native.Nat.{_≤_};
 ghost use lib.ListN.{length};
@@ -75,7 +76,7 @@ pub(crate) fn write(room: &[u8], n: usize)
 pub(crate) fn end_line(out: &mut [u8; 4096], at: usize)
     requires { ⌜ at ≤ 4096 ⌝ }
 {
-    let all = put_byte(10, out, at);
+    let all = put_byte(NEWLINE, out, at);
     write(out, all);
 }
 

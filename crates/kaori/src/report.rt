@@ -4,8 +4,8 @@ use crate::page::put;
 use crate::page::put_byte;
 use crate::page::put_first;
 use crate::page::put_number;
-use diagnostics::line::line_end;
 use diagnostics::line::place;
+use diagnostics::line::writing_end;
 use diagnostics::text::message;
 ghost use Prim.Native.Nat.{_≤_};
 
@@ -93,7 +93,7 @@ fn show_line(text: &[u8], offset: usize, column: u32, out: &mut [u8; 4096]) {
     if start > offset {
         return;
     }
-    let end = line_end(text, start);
+    let end = writing_end(text, start);
     let line = put(&text[start..end], out, 0);
     end_line(out, line);
     let under = put_columns(&text[start..offset], out, 0);

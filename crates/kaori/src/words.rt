@@ -5,7 +5,7 @@ use crate::page::put_byte;
 use diagnostics::line::NEWLINE;
 use diagnostics::line::RETURN;
 use diagnostics::line::ends_line;
-use diagnostics::line::line_end;
+use diagnostics::line::writing_end;
 ghost use Prim.Native.Nat.{_≤_, _<_};
 ghost use lib.ListN.{length};
 
@@ -89,8 +89,8 @@ fn least(a: usize, b: usize) -> usize
     b
 }
 
-// A byte of the text, or a newline for the end of a line, however that is written: with a pair the newline comes for its second byte.
-fn put_byte_of(text: &[u8], i: usize, out: &mut [u8; 4096], at: usize) -> usize
+// A byte of the text; a newline for the byte with which a line ends, and nothing for the return of a pair.
+fn put_text_byte(text: &[u8], i: usize, out: &mut [u8; 4096], at: usize) -> usize
     requires { ⌜ (i < length (now text)) × (at ≤ 4096) ⌝ }
     ensures { λ r. ⌜ r ≤ 4096 ⌝ }
 {
@@ -103,7 +103,7 @@ fn put_byte_of(text: &[u8], i: usize, out: &mut [u8; 4096], at: usize) -> usize
     put_byte(text[i], out, at)
 }
 
-// The text from an offset up to another, whole.
+// The text from an offset up to another, with a newline for each end of a line.
 pub(crate) fn put_text(text: &[u8], start: u32, end: u32, out: &mut [u8; 4096], at: usize) -> usize
     requires { ⌜ at ≤ 4096 ⌝ }
     ensures { λ r. ⌜ r ≤ 4096 ⌝ }
@@ -112,7 +112,7 @@ pub(crate) fn put_text(text: &[u8], start: u32, end: u32, out: &mut [u8; 4096], 
     let mut i = start as usize;
     let mut now = at;
     while i < upto {
-        now = put_byte_of(text, i, out, now);
+        now = put_text_byte(text, i, out, now);
         i += 1;
     }
     now
@@ -190,7 +190,7 @@ pub(crate) fn put_first_line(
     requires { ⌜ at ≤ 4096 ⌝ }
     ensures { λ r. ⌜ r ≤ 4096 ⌝ }
 {
-    let upto = least(line_end(text, start as usize), end as usize);
+    let upto = least(writing_end(text, start as usize), end as usize);
     put_excerpt(text, start, upto as u32, most, out, at)
 }
 

@@ -2,6 +2,7 @@
 //! texts of up to seven bytes out of a letter, a newline and a return, each with a byte that starts no token at every offset.
 use std::{
     fs,
+    io::Result,
     path::Path,
     process::{Command, ExitCode},
 };
@@ -18,15 +19,21 @@ fn main() -> ExitCode {
         return ExitCode::from(2);
     }
     let folder = std::env::temp_dir().join(format!("kaori-lines-{}", std::process::id()));
-    let ran = fs::create_dir(&folder).and_then(|()| run(&words, &folder));
-    let removed = fs::remove_dir_all(&folder);
-    match ran.and_then(|code| removed.map(|()| code)) {
+    match within(&folder, || run(&words, &folder)) {
         Ok(code) => code,
         Err(error) => {
             eprintln!("{error}");
             ExitCode::from(2)
         }
     }
+}
+
+/// Does the work with a new folder, which is gone after it.
+fn within<T>(folder: &Path, work: impl FnOnce() -> Result<T>) -> Result<T> {
+    fs::create_dir(folder)?;
+    let done = work();
+    fs::remove_dir_all(folder)?;
+    done
 }
 
 /// The scripts, each with the offset where it is refused.
@@ -44,7 +51,7 @@ fn report(file: &str, script: &str, at: usize) -> String {
     format!("{file}:{line}:{column}: no token starts here\n{}\n{blanks}^\n", written(script, at))
 }
 
-fn run(words: &[String], folder: &Path) -> std::io::Result<ExitCode> {
+fn run(words: &[String], folder: &Path) -> Result<ExitCode> {
     let scripts = scripts();
     let mut differences = 0;
     for part in scripts.chunks(FILES) {

@@ -1,4 +1,4 @@
--- `diagnostics::line::ends_line` meets its contract: each return is one of the ways to tell whether a line ends.
+-- `diagnostics::line::ends_line` meets its contract: each of its three answers is one of the ways to tell whether a line ends.
 use borrow.Author.Needs.{needs}
 use Rattle.diagnostics.proofs.Places.{no-return, return-followed, return-last}
 use Rattle.diagnostics.proofs.line.ends_line.Statement.{statement}

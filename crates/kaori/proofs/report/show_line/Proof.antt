@@ -9,7 +9,7 @@ use Rattle.kaori.proofs.report.show_line.Tie as tie
 part-put-end : tie.Need-part-put-end
 part-put-end c =
     let args = c .before .before .before .before .before .args in
-    omega (arith, c .line-end .ensures, written (args .text .now) (args .offset + 1 - args .column) .there (omega arith))
+    omega (arith, c .writing-end .ensures, written (args .text .now) (args .offset + 1 - args .column) .there (omega arith))
 
 pub show-line-spec : {M : Type 1} → statement M
 show-line-spec =

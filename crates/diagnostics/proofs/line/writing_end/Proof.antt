@@ -1,16 +1,16 @@
--- `diagnostics::line::line_end` meets its contract: past a byte that breaks no line, the writing ends where it did before.
+-- `diagnostics::line::writing_end` meets its contract: past a byte that breaks no line, the writing ends where it did before.
 use borrow.Author.Needs.{needs}
 use Prim.Native.Nat.{_-_}
 use native.Mathlib.Omega.{arith}
 use mathlib.Core.Path.{_≡_, refl, sym, _∙_}
 use lib.ListN.{length}
-use Rattle.diagnostics.specs.Line.{line-end}
+use Rattle.diagnostics.specs.Line.{writing-end}
 use Rattle.diagnostics.proofs.Places.{ends-here, text-over, goes-on}
-use Rattle.diagnostics.proofs.line.line_end.Statement.{statement}
-use Rattle.diagnostics.proofs.line.line_end.Tie as tie
+use Rattle.diagnostics.proofs.line.writing_end.Statement.{statement}
+use Rattle.diagnostics.proofs.line.writing_end.Tie as tie
 
 abbrev Inv-loop : tie.InvT-loop
-Inv-loop text offset i₀ i = line-end text i ≡ line-end text offset
+Inv-loop text offset i₀ i = writing-end text i ≡ writing-end text offset
 
 abbrev μ-loop : tie.MeasureT-loop
 μ-loop text offset i₀ i = length text - i
@@ -24,8 +24,8 @@ loop-again c = goes-on _ _ (omega arith) (sym (c .before .breaks-line .ensures) 
 returns-2 : tie.Need-returns-2 Inv-loop μ-loop
 returns-2 c = text-over _ _ (omega arith) ∙ c .before .loop .inv
 
-pub line-end-spec : {M : Type 1} → statement M
-line-end-spec =
+pub writing-end-spec : {M : Type 1} → statement M
+writing-end-spec =
     tie.close
     (tie.spec
     Inv-loop
