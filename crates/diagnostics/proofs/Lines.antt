@@ -4,14 +4,15 @@ use Prim.Native.Nat.{ℕ, zero, suc, _+_, _-_, _≤_, _<_}
 use native.Mathlib.Decide.{ℕ-discrete}
 use native.Mathlib.Nat.{add-zero, add-suc}
 use native.Mathlib.Omega.{arith}
-use mathlib.Core.Bool.{Bool, true, false, true≢false, Bool-discrete, not, cond, _&&_, _||_}
+use mathlib.Core.Bool.{Bool, true, false, true≢false, not, cond, _&&_, _||_}
 use mathlib.Core.List.{List, [], _∷_}
-use mathlib.Core.Path.{_≡_, refl, sym, ap, _∙_}
+use mathlib.Core.Path.{_≡_, refl, sym, _∙_}
 use lib.Dec.{eqb, leb}
-use lib.ListN.{length, getD, drop, length-drop}
-use lib.Seq.{getD-drop}
+use lib.ListN.{length, getD}
 use borrow.Author.Tests.{ne-eqb, le-leb, lt-leb}
-use Rattle.diagnostics.specs.Line.{Newline, Return, ends, next, lineOf, breaks, unbroken, writing-end}
+use Rattle.grammar.specs.Run.{Ran}
+use Rattle.grammar.proofs.Runs.{run-passes, run-fails}
+use Rattle.diagnostics.specs.Line.{Newline, Return, ends, next, lineOf, inner}
 use Rattle.diagnostics.specs.declared.Place.{Place}
 
 -- The ends of a text's lines, from the left, each by the offset after it: 13 10 together, 13 alone, 10. `from` is the offset where the text that is left starts.
@@ -117,10 +118,6 @@ with-ends from (x ∷ y ∷ rest) = elim (ℕ-discrete y Newline) [
     paired : With-ends (suc (suc from)) rest → With-ends from (Return ∷ Newline ∷ rest)
     paired w = record { all = suc (suc from) ∷ w .all; told = pair (w .told) }
 
-is-false : (b : Bool) → (b ≡ true → ⊥) → b ≡ false
-is-false true n = absurd (n refl)
-is-false false n = refl
-
 -- The column is one more than the bytes from the start of its line, which is the text's start or stands after a byte that ends its line, with none between.
 pub record Line (text : List ℕ) (i : ℕ) : Type 0 where
   pub start : ℕ
@@ -132,112 +129,58 @@ pub record Line (text : List ℕ) (i : ℕ) : Type 0 where
 pub column-counts : (text : List ℕ) (i : ℕ) → Line text i
 unfolding lineOf
 column-counts text zero = record { start = 0; before = omega arith; ended = λ j e. absurd (omega arith); unended = λ j _ h. absurd (omega arith); column = refl }
-column-counts text (suc i) = elim (Bool-discrete (ends text i) true) [
-  | yes e ↦
-      record {
-        start = suc i;
-        before = omega arith;
-        ended = λ j h. rw (same-place h) e;
-        unended = λ j h k. absurd (omega arith);
-        column = rw e (omega arith);
-      }
-  | no n ↦ onward (is-false (ends text i) n) (column-counts text i)
-]
+column-counts text (suc i) = then (ends text i) refl (column-counts text i)
   where
     same-place : {j : ℕ} → suc j ≡ suc i → j ≡ i
     same-place e = omega arith
 
-    onward : ends text i ≡ false → Line text i → Line text (suc i)
-    onward n l =
+    then : (b : Bool) → ends text i ≡ b → Line text i → Line text (suc i)
+    then true e l =
+        record {
+          start = suc i;
+          before = omega arith;
+          ended = λ j h. rw (same-place h) e;
+          unended = λ j h k. absurd (omega arith);
+          column = rw e (omega arith);
+        }
+    then false e l =
         record {
           start = l .start;
           before = omega (arith, l .before);
           ended = l .ended;
-          unended = λ j h k. elim (ℕ-discrete j i) [ yes q ↦ rw q n | no q ↦ l .unended j h (omega arith) ];
-          column = rw n (omega (arith, l .before, l .column));
+          unended = λ j h k. elim (ℕ-discrete j i) [ yes q ↦ rw q e | no q ↦ l .unended j h (omega arith) ];
+          column = rw e (omega (arith, l .before, l .column));
         }
 
--- What is written on a line, from an offset in it: all stands on that line, one column after the other, and no byte of it breaks the line; then comes one that does,
--- or no more text.
-pub record Written (text : List ℕ) (i : ℕ) : Type 0 where
-  pub there : i ≤ length text → writing-end text i ≤ length text
-  pub line : (n : ℕ) → i + n ≤ writing-end text i → lineOf text (i + n) .line ≡ lineOf text i .line
-  pub column : (n : ℕ) → i + n ≤ writing-end text i → lineOf text (i + n) .column ≡ lineOf text i .column + n
-  pub clear : (n : ℕ) → i + n < writing-end text i → breaks (getD text (i + n) 0) ≡ false
-  pub broken : writing-end text i < length text → breaks (getD text (writing-end text i) 0) ≡ true
-
--- no text, and a byte in front of one: it breaks a line or not
-nothing : unbroken [] ≡ 0
-unfolding unbroken
-nothing = refl
-
-breaks-first : (x : ℕ) (xs : List ℕ) → breaks x ≡ true → unbroken (x ∷ xs) ≡ 0
-unfolding unbroken
-breaks-first x xs e = rw e refl
-
-goes-on-first : (x : ℕ) (xs : List ℕ) → breaks x ≡ false → unbroken (x ∷ xs) ≡ suc (unbroken xs)
-unfolding unbroken
-goes-on-first x xs e = rw e refl
-
-record Unbroken (xs : List ℕ) : Type 0 where
-  inside : unbroken xs ≤ length xs
-  before : (n : ℕ) → n < unbroken xs → breaks (getD xs n 0) ≡ false
-  after : unbroken xs < length xs → breaks (getD xs (unbroken xs) 0) ≡ true
-
-up-to-a-break : (xs : List ℕ) → Unbroken xs
-up-to-a-break [] = record { inside = omega (arith, nothing); before = λ n h. absurd (omega (arith, nothing)); after = λ h. absurd (omega arith) }
-up-to-a-break (x ∷ xs) = elim (Bool-discrete (breaks x) true) [
-  | yes e ↦ let z = breaks-first x xs e in record { inside = omega (arith, z); before = λ n h. absurd (omega (arith, z)); after = λ _. rw z e }
-  | no n ↦ onward (is-false (breaks x) n) (up-to-a-break xs)
-]
+-- no line ends with a byte that is written on it
+inner-unended : (text : List ℕ) (i : ℕ) → inner (getD text i 0) ≡ true → ends text i ≡ false
+unfolding ends inner
+inner-unended text i = go (eqb (getD text i 0) Return) (eqb (getD text i 0) Newline) (not (eqb (getD text (suc i) 0) Newline))
   where
-    each : breaks x ≡ false → Unbroken xs → (n : ℕ) → n < suc (unbroken xs) → breaks (getD (x ∷ xs) n 0) ≡ false
-    each e u zero h = e
-    each e u (suc n) h = u .before n (omega arith)
+    go : (r n q : Bool) → not (r || n) ≡ true → (n || (r && q)) ≡ false
+    go true n q e = absurd (true≢false (sym e))
+    go false true q e = sym e
+    go false false q e = refl
 
-    onward : breaks x ≡ false → Unbroken xs → Unbroken (x ∷ xs)
-    onward e u =
-        let z = goes-on-first x xs e in
-        record {
-          inside = omega (arith, z, u .inside);
-          before = λ n h. each e u n (omega (arith, z, h));
-          after = λ h. rw z (u .after (omega (arith, z, h)));
-        }
+-- What is written on a line from an offset up to r: all stands on that line, one column after the other, and no byte of it is of a line's end; at r is one, or the
+-- text is over.
+pub record Written (text : List ℕ) (i r : ℕ) : Type 0 where
+  pub line : (n : ℕ) → i + n ≤ r → lineOf text (i + n) .line ≡ lineOf text i .line
+  pub column : (n : ℕ) → i + n ≤ r → lineOf text (i + n) .column ≡ lineOf text i .column + n
+  pub clear : (n : ℕ) → i + n < r → inner (getD text (i + n) 0) ≡ true
+  pub ended : r < length text → inner (getD text r 0) ≡ false
 
--- no line ends with a byte that breaks none
-unended : (text : List ℕ) (i : ℕ) → breaks (getD text i 0) ≡ false → ends text i ≡ false
-unfolding ends breaks
-unended text i = both (eqb (getD text i 0) Newline) (eqb (getD text i 0) Return) (not (eqb (getD text (suc i) 0) Newline))
-  where
-    both : (n r q : Bool) → (n || r) ≡ false → (n || (r && q)) ≡ false
-    both true r q e = e
-    both false true q e = absurd (true≢false e)
-    both false false q e = refl
-
-pub written : (text : List ℕ) (i : ℕ) → Written text i
+pub written : (text : List ℕ) (i r : ℕ) → i ≤ length text → Ran inner text i (length text) r → Written text i r
 unfolding lineOf
-written text i =
-    record {
-      there = λ h. omega (arith, here .inside, length-drop i text);
-      line = line;
-      column = column;
-      clear = clear;
-      broken = λ h. sym (ap breaks (getD-drop i text (unbroken (drop i text)) 0)) ∙ here .after (omega (arith, h, length-drop i text));
-    }
+written text i r h ran = record { line = line; column = column; clear = run-passes ran; ended = run-fails ran h (omega arith) }
   where
-    here : Unbroken (drop i text)
-    here = up-to-a-break (drop i text)
+    on : (n : ℕ) → i + suc n ≤ r → ends text (i + n) ≡ false
+    on n h = inner-unended text (i + n) (run-passes ran n (omega arith))
 
-    clear : (n : ℕ) → i + n < writing-end text i → breaks (getD text (i + n) 0) ≡ false
-    clear n h = sym (ap breaks (getD-drop i text n 0)) ∙ here .before n (omega arith)
-
-    on : (n : ℕ) → i + suc n ≤ writing-end text i → ends text (i + n) ≡ false
-    on n h = unended text (i + n) (clear n (omega arith))
-
-    line : (n : ℕ) → i + n ≤ writing-end text i → lineOf text (i + n) .line ≡ lineOf text i .line
+    line : (n : ℕ) → i + n ≤ r → lineOf text (i + n) .line ≡ lineOf text i .line
     line zero h = rw (add-zero i) refl
     line (suc n) h = rw (add-suc i n, on n h) (line n (omega arith))
 
-    column : (n : ℕ) → i + n ≤ writing-end text i → lineOf text (i + n) .column ≡ lineOf text i .column + n
+    column : (n : ℕ) → i + n ≤ r → lineOf text (i + n) .column ≡ lineOf text i .column + n
     column zero h = rw (add-zero i) (omega arith)
     column (suc n) h = rw (add-suc i n, on n h) (omega (arith, column n (omega arith)))

@@ -1,5 +1,5 @@
--- What is true of every place: its contract leaves one answer, and no line or column is greater than the offset and one. How a byte moves the place on, which
--- bytes end their line, and where the writing of a line ends.
+-- What is true of every place: its contract leaves one answer, and no line or column is greater than the offset and one. How a byte moves the place on, and
+-- which bytes end their line.
 use Prim.Native.Nat.{ℕ, zero, suc, _+_, _≤_, _<_}
 use native.Mathlib.Decide.{decLe}
 use native.Mathlib.Numerals.{add-one}
@@ -8,10 +8,9 @@ use mathlib.Core.Bool.{Bool, true, false, not, or-false}
 use mathlib.Core.List.{List}
 use mathlib.Core.Path.{_≡_, refl, sym, ap, _∙_}
 use lib.Dec.{eqb}
-use lib.ListN.{length, getD, drop-of-length-le, List·getD-eq-default}
-use lib.Seq.{drop-cons}
+use lib.ListN.{length, getD, List·getD-eq-default}
 use borrow.Author.Tests.{ne-eqb}
-use Rattle.diagnostics.specs.Line.{Newline, Return, at, ends, next, lineOf, Placed, breaks, unbroken, writing-end}
+use Rattle.diagnostics.specs.Line.{Newline, Return, at, ends, next, lineOf, Placed}
 use Rattle.diagnostics.specs.declared.Place.{Place}
 
 -- the three ways to tell whether a line ends: a byte that is no return, a return with a byte after it, and a last return
@@ -71,16 +70,3 @@ one-place {text} {offset} p q =
             | no i ↦ let j : length text < offset = omega arith in p .past h j ∙ sym (q .past h j)
           ]
     ]
-
--- where the writing of a line ends: at a byte that breaks it, at the text's end, and else where it does as seen from the next byte
-pub ends-here : (text : List ℕ) (i : ℕ) → i < length text → breaks (getD text i 0) ≡ true → i ≡ writing-end text i
-unfolding unbroken
-ends-here text i h e = rw (drop-cons text i 0 h, e) (omega arith)
-
-pub text-over : (text : List ℕ) (i : ℕ) → length text ≤ i → i ≡ writing-end text i
-unfolding unbroken
-text-over text i h = rw (drop-of-length-le text h) (omega arith)
-
-pub goes-on : (text : List ℕ) (i : ℕ) → i < length text → breaks (getD text i 0) ≡ false → writing-end text (i + 1) ≡ writing-end text i
-unfolding unbroken
-goes-on text i h e = rw (drop-cons text i 0 h, e, add-one i) (omega arith)

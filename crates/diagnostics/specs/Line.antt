@@ -2,11 +2,11 @@
 -- length is answered). Line and column are then 0.' Document 02, L3: 'a line ends at 10, at 13 10 together, or at 13 alone; the offset of the 10 in a pair is still
 -- on the old line'.
 use Prim.Native.Nat.{ℕ, zero, suc, _+_, _≤_, _<_}
-use mathlib.Core.Bool.{Bool, true, false, not, cond, _&&_, _||_}
-use mathlib.Core.List.{List, [], _∷_}
+use mathlib.Core.Bool.{Bool, true, false, not, _&&_, _||_}
+use mathlib.Core.List.{List}
 use mathlib.Core.Path.{_≡_}
 use lib.Dec.{eqb}
-use lib.ListN.{length, getD, drop}
+use lib.ListN.{length, getD}
 use Rattle.diagnostics.specs.declared.Place.{Place}
 
 abbrev pub Newline : ℕ
@@ -40,15 +40,6 @@ pub record Placed (text : List ℕ) (offset : ℕ) (r : Place) : Type 0 where
   pub past : length text ≤ 65536 → length text < offset → r ≡ refusal 14
   pub placed : length text ≤ 65536 → offset ≤ length text → r ≡ lineOf text offset
 
--- a byte that is part of a line's end, and so not of what is written on the line
-unfoldable pub breaks : ℕ → Bool
-breaks x = eqb x Newline || eqb x Return
-
--- how many bytes stand before the first such byte, or in all
-unfoldable pub unbroken : List ℕ → ℕ
-unbroken [] = 0
-unbroken (x ∷ xs) = cond (breaks x) 0 (suc (unbroken xs))
-
--- where what is written on a line ends, from an offset in it: at the first 10 or 13, or with the text
-abbrev pub writing-end : (text : List ℕ) (offset : ℕ) → ℕ
-writing-end text offset = offset + unbroken (drop offset text)
+-- a byte of what is written on a line: part of no line's end
+unfoldable pub inner : ℕ → Bool
+inner x = not (eqb x Return || eqb x Newline)

@@ -1,9 +1,10 @@
 // The line and the column of an offset in a text, and where what is written on a line ends.
 use crate::Place;
-ghost use Prim.Native.Nat.{_<_};
+ghost use Prim.Native.Nat.{_≤_, _<_};
 ghost use mathlib.Core.Path.{_≡_};
 ghost use lib.ListN.{length};
-ghost use Rattle.diagnostics.specs.Line.{Placed, breaks, ends, writing-end};
+ghost use Rattle.grammar.specs.Run.{Ran};
+ghost use Rattle.diagnostics.specs.Line.{Placed, ends, inner};
 
 pub const NEWLINE: u8 = 10;
 
@@ -64,27 +65,28 @@ pub fn place(text: &[u8], offset: usize) -> Place
     }
 }
 
-// Whether a byte is part of a line's end.
-fn breaks_line(byte: u8) -> bool
-    ensures { λ r. ⌜ r ≡ breaks byte ⌝ }
+// Whether a byte is part of what is written on a line, and of no line's end.
+fn is_inner(byte: u8) -> bool
+    ensures { λ r. ⌜ r ≡ inner byte ⌝ }
 {
-    if byte == NEWLINE {
-        return true;
+    if byte == RETURN {
+        return false;
     }
-    byte == RETURN
+    byte != NEWLINE
 }
 
-// Where what is written on a line ends, from an offset in it: at the first newline or return, or with the text; the offset itself where it is past the text.
+// Where what is written on a line ends, from an offset in it: at the first newline or return, or with the text. It asks that the offset is not past the text.
 // Ruled out: the offset of a pair's newline, with the return still on the line; the end of the text where a return stands alone.
 pub fn writing_end(text: &[u8], offset: usize) -> usize
-    ensures { λ r. ⌜ r ≡ writing-end (now (text .entry)) offset ⌝ }
+    requires { ⌜ offset ≤ length (now text) ⌝ }
+    ensures { λ r. ⌜ Ran inner (now (text .entry)) offset (length (now (text .entry))) r ⌝ }
 {
-    let mut i = offset;
-    while i < text.len() {
-        if breaks_line(text[i]) {
-            return i;
+    let mut at = offset;
+    while at < text.len() {
+        if !is_inner(text[at]) {
+            return at;
         }
-        i += 1;
+        at += 1;
     }
-    i
+    at
 }

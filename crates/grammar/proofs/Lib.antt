@@ -4,6 +4,7 @@ pub mod Tables
 pub mod Patterns
 pub mod Matching
 pub mod Lexemes
+pub mod Runs
 pub mod Floats
 -- one reading, one refusal, one answer
 pub mod Machine

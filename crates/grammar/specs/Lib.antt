@@ -19,9 +19,10 @@ pub mod Outcome
 pub mod Call
 pub mod Door
 pub mod Answer
--- no answer depends on these: a grammar of the Rust library, a test of patterns, tables
+-- no answer depends on these: a grammar of the Rust library, a test of patterns, runs of bytes, tables
 pub mod Float
 pub mod Derivative
+pub mod Run
 pub mod Spelled
 pub mod Samples
 pub mod Replies

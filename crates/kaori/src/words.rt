@@ -190,7 +190,8 @@ pub(crate) fn put_first_line(
     requires { ⌜ at ≤ 4096 ⌝ }
     ensures { λ r. ⌜ r ≤ 4096 ⌝ }
 {
-    let upto = least(writing_end(text, start as usize), end as usize);
+    let from = least(start as usize, text.len());
+    let upto = least(writing_end(text, from), end as usize);
     put_excerpt(text, start, upto as u32, most, out, at)
 }
 

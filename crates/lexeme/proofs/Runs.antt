@@ -1,28 +1,18 @@
--- A run of bytes in a lexeme: where it goes on, where it stops, and what is left of the lexeme after it.
-use Prim.Native.Nat.{ℕ, suc, _+_, _≤_, _<_}
+-- A run of bytes in a lexeme, as patterns take it: whole, and what is left of the lexeme after it is left to match.
+use Prim.Native.Nat.{ℕ, suc, _≤_}
 use mathlib.Core.Bool.{Bool, true, false, cond, _&&_, _||_, or-false}
 use mathlib.Core.List.{List, [], _∷_}
 use mathlib.Core.Path.{_≡_, refl, sym, ap, _∙_}
 use native.Mathlib.Omega.{arith}
 use borrow.Author.Tests.{lt-ltb, le-ltb}
 use lib.Dec.{ltb}
-use lib.ListN.{length, getD, drop}
+use lib.ListN.{length, drop}
 use Rattle.grammar.specs.Derivative.{matches, nullable}
 use Rattle.grammar.specs.Token.{lexeme}
 use Rattle.grammar.specs.Pattern.{Pattern, byte, sequence, many, some}
-use Rattle.grammar.proofs.Lexemes.{lexeme-empty, lexeme-first, lexeme-drop}
+use Rattle.grammar.proofs.Lexemes.{lexeme-drop}
 use Rattle.grammar.proofs.Matching.{Shy, regroup, many-then, byte-then, no-byte}
-use Rattle.lexeme.specs.Run.{run, Ran}
-
-module _ (test : ℕ → Bool) (text : List ℕ) (at end : ℕ) (fits : end ≤ length text) where
-  pub run-on : at < end → test (getD text at 0) ≡ true → run test (lexeme text at end) ≡ suc (run test (lexeme text (at + 1) end))
-  run-on h e = rw (lexeme-first text at end h fits, e)
-
-  pub run-stops : at < end → test (getD text at 0) ≡ false → run test (lexeme text at end) ≡ 0
-  run-stops h e = rw (lexeme-first text at end h fits, e)
-
-  pub run-ends : at ≡ end → run test (lexeme text at end) ≡ 0
-  run-ends e = rw (e, lexeme-empty text end)
+use Rattle.grammar.specs.Run.{run, Ran}
 
 -- a run is taken whole before what is shy of its bytes
 module _ (test : ℕ → Bool) (q : Pattern) (shy : Shy test q) where

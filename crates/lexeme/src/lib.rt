@@ -8,10 +8,10 @@ ghost use lib.ListN.{length};
 ghost use Rattle.grammar.specs.Derivative.{matches};
 ghost use Rattle.grammar.specs.Lexeme.{letter, number, string, identifier, Fits};
 ghost use Rattle.grammar.specs.Pattern.{byte, digit, some, maybe};
+ghost use Rattle.grammar.specs.Run.{Ran};
 ghost use Rattle.grammar.specs.Token.{lexeme};
 ghost use Rattle.spelling.specs.Decides.{Decides};
 ghost use Rattle.lexeme.specs.Parts.{signed, power, inside, letter-or-digit, Word, Which};
-ghost use Rattle.lexeme.specs.Run.{Ran};
 ghost use Rattle.spelling.specs.Words.{table};
 
 // Whether the text from `start` up to `end` fits a kind of token. It asks for the table, and that the span lies in the text.

@@ -11,7 +11,7 @@ use Rattle.grammar.specs.Derivative.{matches}
 use Rattle.grammar.specs.Pattern.{Pattern, byte, sequence, bytes, among, digit, some, maybe}
 use Rattle.grammar.specs.Token.{lexeme}
 use Rattle.lexeme.specs.Parts.{signed, power}
-use Rattle.lexeme.specs.Run.{Ran}
+use Rattle.grammar.specs.Run.{Ran}
 use Rattle.lexeme.proofs.Numbers.{rest, rest-none, power-shy, rest-other, rest-point, power-none, power-first, signed-none, signed-sign, signed-digits}
 use Rattle.grammar.proofs.Lexemes.{at-first, at-end}
 use Rattle.grammar.proofs.Matching.{either-says, no-byte}

@@ -7,7 +7,7 @@ use Rattle.grammar.specs.Kind.{NumberLiteral, Dot, Identifier, Eof}
 use Rattle.grammar.specs.Lexeme.{spelling}
 use Rattle.grammar.specs.Pattern.{bytes, digit}
 use Rattle.lexeme.specs.Parts.{Word}
-use Rattle.lexeme.specs.Run.{Ran}
+use Rattle.grammar.specs.Run.{Ran}
 use Rattle.lexeme.proofs.Keywords.{no-letter}
 use Rattle.lexeme.proofs.Numbers.{rest-shy}
 use Rattle.lexer.specs.Reads.{Longest, Text-reads}

@@ -12,8 +12,9 @@ use Rattle.grammar.specs.Derivative.{matches}
 use Rattle.grammar.specs.Pattern.{Pattern, Matches, byte, sequence, many, some, maybe}
 use Rattle.grammar.specs.Token.{lexeme}
 use Rattle.grammar.proofs.Patterns.{matches-sound, matches-whole}
-use Rattle.lexeme.specs.Run.{run, Ran}
-use Rattle.lexeme.proofs.Runs.{run-on, some-read, none-read}
+use Rattle.grammar.specs.Run.{run, Ran}
+use Rattle.grammar.proofs.Runs.{run-on}
+use Rattle.lexeme.proofs.Runs.{some-read, none-read}
 use Rattle.grammar.proofs.Lexemes.{at-first, at-end}
 use Rattle.grammar.proofs.Matching.{Shy, byte-then, either-says, many-none, many-on, only-empty, shy-nothing, then-nothing, whole-empty}
 use Rattle.grammar.proofs.Tests.{as-true}

@@ -1,28 +1,29 @@
--- `diagnostics::line::writing_end` meets its contract: past a byte that breaks no line, the writing ends where it did before.
+-- `diagnostics::line::writing_end` meets its contract: its loop runs over what is written on the line.
 use borrow.Author.Needs.{needs}
+use borrow.Author.Tests.{not-true, not-false}
 use Prim.Native.Nat.{_-_}
 use native.Mathlib.Omega.{arith}
-use mathlib.Core.Path.{_≡_, refl, sym, _∙_}
+use mathlib.Core.Path.{sym, _∙_}
 use lib.ListN.{length}
-use Rattle.diagnostics.specs.Line.{writing-end}
-use Rattle.diagnostics.proofs.Places.{ends-here, text-over, goes-on}
+use Rattle.grammar.proofs.Runs.{Running, begun, goes-on, stops, is-over}
+use Rattle.diagnostics.specs.Line.{inner}
 use Rattle.diagnostics.proofs.line.writing_end.Statement.{statement}
 use Rattle.diagnostics.proofs.line.writing_end.Tie as tie
 
 abbrev Inv-loop : tie.InvT-loop
-Inv-loop text offset i₀ i = writing-end text i ≡ writing-end text offset
+Inv-loop text offset at₀ at = Running inner text offset (length text) at
 
 abbrev μ-loop : tie.MeasureT-loop
-μ-loop text offset i₀ i = length text - i
+μ-loop text offset at₀ at = length text - at
 
 returns : tie.Need-returns Inv-loop μ-loop
-returns c = ends-here _ _ (omega arith) (sym (c .before .breaks-line .ensures) ∙ c .if1 .taken) ∙ c .before .before .before .before .loop .inv
+returns c = stops (omega arith) (c .before .before .before .before .loop .inv) (omega arith) (sym (c .before .is-inner .ensures) ∙ not-true (c .before .is-inner .result) (c .if1 .taken))
 
 loop-again : tie.Need-loop-again Inv-loop μ-loop
-loop-again c = goes-on _ _ (omega arith) (sym (c .before .breaks-line .ensures) ∙ c .if1 .left) ∙ c .before .before .before .before .loop .inv
+loop-again c = goes-on (omega arith) (c .before .before .before .before .loop .inv) (omega arith) (sym (c .before .is-inner .ensures) ∙ not-false (c .before .is-inner .result) (c .if1 .left))
 
 returns-2 : tie.Need-returns-2 Inv-loop μ-loop
-returns-2 c = text-over _ _ (omega arith) ∙ c .before .loop .inv
+returns-2 c = is-over (omega arith) (c .before .loop .inv) (omega arith)
 
 pub writing-end-spec : {M : Type 1} → statement M
 writing-end-spec =
@@ -30,7 +31,7 @@ writing-end-spec =
     (tie.spec
     Inv-loop
     μ-loop
-    (λ c. refl)
+    (λ c. begun (omega arith))
     (λ c. search needs)
     (λ c. search needs)
     returns
