@@ -14,7 +14,7 @@ use Rattle.grammar.proofs.Lexemes.{lexeme-none, lexeme-length, part-at}
 use Rattle.interner.specs.Print.{print-of, Printed}
 use Rattle.interner.specs.Search.{Wanted, Kept, Rows, Stretch, near-by}
 use Rattle.interner.specs.Table.{word}
-use Rattle.interner.proofs.Search.{row-of, word-is, part-is}
+use Rattle.interner.proofs.Search.{Passed, row-of, word-is, part-is}
 
 module _ (text : List ℕ) (s e : ℕ) where
   pub print-none : s ≡ e → 0 ≡ print-of (lexeme text s e)
@@ -52,8 +52,7 @@ far prints key i h j l u e =
     ]
 
 -- so their rows are passed over
-pub passed-over : {text symbols prints : List ℕ} {i s e key : ℕ} → Stretch text symbols prints i (i + 4) → Wanted text s e key → near-by prints key i ≡ false →
-    (j : ℕ) → i ≤ j → j < i + 4 → word text symbols j ≡ lexeme text s e → ⊥
+pub passed-over : {text symbols prints : List ℕ} {i s e key : ℕ} → Stretch text symbols prints i (i + 4) → Wanted text s e key → near-by prints key i ≡ false → Passed text (lexeme text s e) symbols i (i + 4)
 passed-over {prints = prints} {i = i} {key = key} t w h j l u = apart (t .each j l u) w (far prints key i h j l u)
 
 -- a row in use, with its print

@@ -75,7 +75,7 @@ fn near(prints: &[u32], i: usize, key: u32) -> bool
     (prints[i] == key) | (prints[i + 1] == key) | (prints[i + 2] == key) | (prints[i + 3] == key)
 }
 
-// The row from `from` on that has the bytes of the text from `start` up to `end`, whose print is `key`, or `upto`.
+// The row from `from` on and before `upto` that has the bytes of the text from `start` up to `end`, whose print is `key`, or `upto`. The newest row is looked at first.
 fn between(
     text: &[u8],
     symbols: &[u32],
@@ -89,12 +89,12 @@ fn between(
     requires { ⌜ Stretch (now text) (now symbols) (now prints) from upto × Wanted (now text) start end key ⌝ }
     ensures { λ r. ⌜ Met (now (text .entry)) (lexeme (now (text .entry)) start end) (now (symbols .entry)) from upto r ⌝ }
 {
-    let mut i = from;
-    while i < upto {
+    let mut i = upto;
+    while from < i {
+        i -= 1;
         if holds(text, symbols, prints, i, start, end, key) {
             return i;
         }
-        i += 1;
     }
     upto
 }
@@ -118,7 +118,8 @@ fn four(
     i + 4
 }
 
-// The row that has the bytes of the text from `start` up to `end`, whose print is `key`, or `count`: four rows at a time are passed over by their prints.
+// The row that has the bytes of the text from `start` up to `end`, whose print is `key`, or `count`. The newest rows are looked at first, since scripts repeat the
+// name that they have just used; four at a time are passed over by their prints.
 fn find(
     text: &[u8],
     symbols: &[u32],
@@ -131,15 +132,19 @@ fn find(
     requires { ⌜ Rows (now text) count (now symbols) (now prints) × Wanted (now text) start end key ⌝ }
     ensures { λ r. ⌜ Sought (now (text .entry)) (lexeme (now (text .entry)) start end) (used count (now (symbols .entry))) count r ⌝ }
 {
-    let mut i = 0;
-    while 4 <= count - i {
+    let mut i = count;
+    while 4 <= i {
+        i -= 4;
         let row = four(text, symbols, prints, i, start, end, key);
         if row < i + 4 {
             return row;
         }
-        i += 4;
     }
-    between(text, symbols, prints, i, count, start, end, key)
+    let row = between(text, symbols, prints, 0, i, start, end, key);
+    if row < i {
+        return row;
+    }
+    count
 }
 
 // The symbol of the text from `start` up to `end`: the row that has its bytes, or a new last row. It asks that this is a part of the text, that the rows in use
