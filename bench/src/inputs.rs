@@ -54,6 +54,7 @@ pub fn all() -> Vec<Input> {
         input("different names, 128", names(128)),
         input("different names, 512", names(512)),
         input("different names, 2047", names(2047)),
+        input("each name four times", (0..511).map(|i| format!("n{i};").repeat(4)).collect()),
         input("one name", "total;".repeat(2047)),
         input("refusal at the end", screens(4000) + "return;"),
     ]
