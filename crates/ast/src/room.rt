@@ -1,7 +1,7 @@
 // How the rooms are written.
 ghost use mathlib.Core.List.{_∷_, []};
-ghost use Prim.Native.Nat.{_+_, _*_, _≤_};
-ghost use lib.ListN.{length, take, drop};
+ghost use Prim.Native.Nat.{_+_, _-_, _*_, _≤_};
+ghost use lib.ListN.{length, take, drop, replicate};
 ghost use Rattle.grammar.specs.Room.{link-width, scratch-width};
 ghost use Rattle.ast.specs.Written.{Written, Cleared};
 
@@ -46,14 +46,26 @@ pub fn link(links: &mut [u32], used: usize, scratch: &[u32], base: usize, count:
     copy(links, 3 * used, scratch, 3 * base, 3 * count);
 }
 
+// Zeros from a number on up to another. It asks that the room has them.
+// Ruled out: a number before the first or past the last that is cleared; one between them that stays.
+pub fn zero(room: &mut [u32], from: usize, upto: usize)
+    requires { ⌜ (from ≤ upto) × (upto ≤ length (now room)) ⌝ }
+    ensures { λ _. ⌜ Written from upto (replicate (upto - from) 0) (now (room .entry)) (now (room .exit)) ⌝ }
+{
+    let mut i = from;
+    while i < upto {
+        room[i] = 0;
+        i += 1;
+    }
+}
+
 // Zeros from a number on to the room's end.
 // Ruled out: a number before it that is cleared; a last number that stays.
 pub fn clear(room: &mut [u32], from: usize)
     ensures { λ _. ⌜ Cleared from (now (room .entry)) (now (room .exit)) ⌝ }
 {
-    let mut i = from;
-    while i < room.len() {
-        room[i] = 0;
-        i += 1;
+    let end = room.len();
+    if from < end {
+        zero(room, from, end);
     }
 }

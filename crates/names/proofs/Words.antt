@@ -6,8 +6,8 @@ use borrow.Author.Tests.{ne-eqb}
 use mathlib.Core.Bool.{true}
 use mathlib.Core.List.{List}
 use mathlib.Core.Path.{_≡_, refl, sym, ap, _∙_}
-use lib.ListN.{length, length-append, length-set}
-use lib.Seq.{length-take-le, getD-set-other}
+use lib.ListN.{length, length-append}
+use lib.Seq.{length-take-le}
 use Rattle.grammar.specs.Door.{Sound}
 use Rattle.grammar.specs.Kind.{StringLiteral, Identifier}
 use Rattle.grammar.specs.Lexeme.{string}
@@ -18,7 +18,7 @@ use Rattle.grammar.proofs.Lexemes.{lexeme-length}
 use Rattle.grammar.proofs.Symbols.{rows-few}
 use Rattle.interner.specs.Interns.{used, Enters, Ready}
 use Rattle.interner.specs.declared.Interned.{Interned}
-use Rattle.interner.proofs.Outcomes.{symbol-is, rows-are, size-kept, counts}
+use Rattle.interner.proofs.Outcomes.{symbol-is, rows-are, size-kept, counts, beyond}
 use Rattle.names.specs.Resolved.{Before, Named}
 
 -- a string has two quotes at least
@@ -42,47 +42,45 @@ quoted {text} {ts} {n} s = elim (ℕ-discrete (kind ts n) StringLiteral) [
   | no k ↦ rw (ne-eqb (kind ts n) StringLiteral k) (omega (arith, s .forward))
 ]
 
-module _ {text ts l ps : List ℕ} {n known : ℕ} (b : Before text ts n known l ps) where
+module _ {text ts l ps : List ℕ} {size n known : ℕ} (b : Before text ts size n known l ps) where
   -- what `get_or_intern` asks
-  pub free-word : Ready text (word-start ts n) (word-end ts n) known l ps
+  pub free-word : Ready text (word-start ts n) (word-end ts n) size known l ps
   free-word =
       let f = rows-few text ts n in
       let i = b .inside in
       let e = b .entered .size in
       let q = quoted (b .sound) in
+      let s = b .size-is in
       record {
         part = record { ordered = omega (arith, q); inside = omega (arith, b .sound .inside) };
-        table = rw (b .entered .rows) (b .entered .table);
-        room = omega (arith, b .room);
+        indexed = record { table = rw (b .entered .rows) (b .entered .table); rows-are = rw (b .entered .rows) (b .index); index-room = omega (arith, b .scratch-room); few = omega arith };
+        room = omega (arith, b .symbol-room);
+        free = omega arith;
         number = omega (arith, b .few);
-        printed = rw (b .entered .rows) (b .printed);
-        print-room = omega (arith, b .print-room);
       }
 
   -- a word is interned
-  pub word-interns : {m qs : List ℕ} {r : Interned} → is-name ts n ≡ true → Enters text (word-start ts n) (word-end ts n) known l m ps qs r → Named text ts n l m ps qs r
+  pub word-interns : {m qs : List ℕ} {r : Interned} → is-name ts n ≡ true → Enters text (word-start ts n) (word-end ts n) size known l m ps qs r → Named text ts size n l m ps qs r
   unfolding symbol symbol-rows
   word-interns {m} {qs} {r} t i =
       let f = free-word in
-      let o = i .interns .outcome in
+      let o = i .outcome in
       let (lo, hi, own) = counts f o in
-      let z = size-kept f o in
+      let (long, wide) = size-kept f o in
       let rows : used (r .count) m ≡ interned text (word-start ts n) (word-end ts n) (symbol-rows text ts n) = rw (b .entered .rows) at (rows-are f o) in
-      let size : 2 * r .count ≡ length (interned text (word-start ts n) (word-end ts n) (symbol-rows text ts n)) = sym (length-take-le (2 * r .count) m (omega (arith, f .room))) ∙ ap length rows in
-      let few = rows-few text ts n in
-      let known-few = b .entered .size in
-      let in-list = b .inside in
+      let size-of : 2 * r .count ≡ length (interned text (word-start ts n) (word-end ts n) (symbol-rows text ts n)) = sym (length-take-le (2 * r .count) m (omega (arith, f .room))) ∙ ap length rows in
+      let s = b .size-is in
       record {
         number = rw (t, ← b .entered .rows) (symbol-is f o);
-        entered = record { rows = rw t rows; size = rw t size; table = rw (t, ← rows) (i .interns .table) };
-        size = z;
-        printed = rw (t, ← rows) (i .prints-are);
-        numbers = λ j. rw (i .stored) (getD-set-other ps known (2 * count ts + j) _ 0 (λ h. omega arith));
-        print-size = rw (i .stored) (length-set ps known _);
+        entered = record { rows = rw t rows; size = rw t size-of; table = rw (t, ← rows) (i .indexed .table) };
+        index = rw (t, ← rows) (i .indexed .rows-are);
+        numbers = λ j. beyond f o (2 * count ts + j) (omega arith);
+        symbol-size = long;
+        scratch-size = wide;
       }
 
   -- or there is none
-  pub no-word : (kind ts n ≡ Identifier → ⊥) → (kind ts n ≡ StringLiteral → ⊥) → Named text ts n l l ps ps (record { symbol = 0; count = known })
+  pub no-word : (kind ts n ≡ Identifier → ⊥) → (kind ts n ≡ StringLiteral → ⊥) → Named text ts size n l l ps ps (record { symbol = 0; count = known })
   unfolding symbol symbol-rows
   no-word h k =
       let e = ne-eqb (kind ts n) Identifier h in
@@ -90,8 +88,8 @@ module _ {text ts l ps : List ℕ} {n known : ℕ} (b : Before text ts n known l
       record {
         number = rw (e, f);
         entered = record { rows = rw (e, f) (b .entered .rows); size = rw (e, f) (b .entered .size); table = rw (e, f) (b .entered .table) };
-        size = refl;
-        printed = rw (e, f) (b .printed);
+        index = rw (e, f) (b .index);
         numbers = λ j. refl;
-        print-size = refl;
+        symbol-size = refl;
+        scratch-size = refl;
       }

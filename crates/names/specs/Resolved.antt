@@ -7,7 +7,7 @@ use Rattle.grammar.specs.Door.{Whole, Sound}
 use Rattle.grammar.specs.Room.{symbol-width, scratch-width}
 use Rattle.grammar.specs.Symbol.{symbol-rows, symbol}
 use Rattle.grammar.specs.Token.{count}
-use Rattle.interner.specs.Print.{Printed}
+use Rattle.interner.specs.Index.{Index}
 use Rattle.interner.specs.Table.{Table}
 use Rattle.interner.specs.declared.Interned.{Interned}
 
@@ -28,24 +28,25 @@ pub record Entered (text ts : List ℕ) (n known : ℕ) (symbols : List ℕ) : T
 abbrev pub number-at : (ts scratch : List ℕ) → ℕ → ℕ
 number-at ts scratch i = getD scratch (2 * count ts + i) 0
 
--- there is a token, it is sound, there is room for one row more, and the scratch room starts with the rows' prints
-pub record Before (text ts : List ℕ) (n known : ℕ) (symbols scratch : List ℕ) : Type 0 where
+-- there is a token, it is sound, there is room for one row more, and the rows have their index in the lower two thirds of the scratch room
+pub record Before (text ts : List ℕ) (size n known : ℕ) (symbols scratch : List ℕ) : Type 0 where
+  pub size-is : size ≡ count ts
   pub inside : n < count ts
   pub few : count ts ≤ 4096
   pub sound : Sound text ts n
   pub entered : Entered text ts n known symbols
-  pub room : symbol-width * count ts ≤ length symbols
-  pub printed : Printed text (symbol-rows text ts n) scratch
-  pub print-room : scratch-width * count ts ≤ length scratch
+  pub index : Index text size known (symbol-rows text ts n) scratch
+  pub symbol-room : symbol-width * count ts ≤ length symbols
+  pub scratch-room : scratch-width * count ts ≤ length scratch
 
--- the token has its symbol, its word a row and a print, and the rooms are as long as they were, the top third of the scratch room as it was
-pub record Named (text ts : List ℕ) (n : ℕ) (before after scratch₀ scratch : List ℕ) (r : Interned) : Type 0 where
+-- the token has its symbol, its word a row that the index has, and the rooms are as long as they were, the top third of the scratch room as it was
+pub record Named (text ts : List ℕ) (size n : ℕ) (symbols₀ symbols scratch₀ scratch : List ℕ) (r : Interned) : Type 0 where
   pub number : r .symbol ≡ symbol text ts n
-  pub entered : Entered text ts (suc n) (r .count) after
-  pub size : length after ≡ length before
-  pub printed : Printed text (symbol-rows text ts (suc n)) scratch
+  pub entered : Entered text ts (suc n) (r .count) symbols
+  pub index : Index text size (r .count) (symbol-rows text ts (suc n)) scratch
   pub numbers : (i : ℕ) → number-at ts scratch i ≡ number-at ts scratch₀ i
-  pub print-size : length scratch ≡ length scratch₀
+  pub symbol-size : length symbols ≡ length symbols₀
+  pub scratch-size : length scratch ≡ length scratch₀
 
 -- what the readers take for the symbols of the tokens: the numbers of the top third
 unfoldable pub names-of : (ts scratch : List ℕ) → ℕ → ℕ

@@ -1,5 +1,6 @@
 // The symbols of a token list, before it is read: an identifier's word and a string's inside, in the order of the tokens.
-// While the pass runs, the first third of the scratch room holds the prints of the rows: numbers that tell most words apart.
+// While the pass runs, the lower two thirds of the scratch room hold the index of the rows, with a bucket for each token.
+use ast::room::zero;
 use interner::Interned;
 use interner::get_or_intern;
 use token::kinds;
@@ -14,17 +15,18 @@ ghost use Rattle.grammar.specs.Token.{count};
 ghost use Rattle.names.specs.Resolved.{Open, Before, Named, Resolved, names-of};
 
 // The symbol of token `at`, and how many rows are in use now. The two kinds that have a word are neighbours: a string's is between its quotes, an identifier's
-// is the whole. A token that has none has symbol 0.
+// is the whole. A token that has none has symbol 0. `size` is the number of tokens.
 fn word(
     text: &[u8],
     tokens: &[u32],
     symbols: &mut [u32],
     scratch: &mut [u32],
+    size: usize,
     known: usize,
     at: usize,
 ) -> Interned
-    requires { ⌜ Before (now text) (now tokens) at known (now symbols) (now scratch) ⌝ }
-    ensures { λ r. ⌜ Named (now (text .entry)) (now (tokens .entry)) at (now (symbols .entry)) (now (symbols .exit)) (now (scratch .entry)) (now (scratch .exit)) r ⌝ }
+    requires { ⌜ Before (now text) (now tokens) size at known (now symbols) (now scratch) ⌝ }
+    ensures { λ r. ⌜ Named (now (text .entry)) (now (tokens .entry)) size at (now (symbols .entry)) (now (symbols .exit)) (now (scratch .entry)) (now (scratch .exit)) r ⌝ }
 {
     let kind = kind_at(tokens, at);
     match kind {
@@ -32,7 +34,15 @@ fn word(
             let quote = kinds::IDENTIFIER - kind;
             let start = start_at(tokens, at);
             let end = end_at(tokens, at);
-            get_or_intern(text, symbols, scratch, known, start + quote, end - quote)
+            get_or_intern(
+                text,
+                symbols,
+                scratch,
+                size,
+                known,
+                start + quote,
+                end - quote,
+            )
         }
         _ => Interned {
             symbol: 0,
@@ -49,10 +59,11 @@ pub fn resolve(text: &[u8], tokens: &[u32], symbols: &mut [u32], scratch: &mut [
     ensures { λ r. ⌜ Resolved (now (text .entry)) (now (tokens .entry)) (count (now (tokens .entry))) (now (symbols .entry)) (now (scratch .entry)) (now (symbols .exit)) (now (scratch .exit)) r ⌝ }
 {
     let count = tokens.len() / 3;
+    zero(scratch, count, 2 * count);
     let mut known = 0;
     let mut i = 0;
     while i < count {
-        let found = word(text, tokens, symbols, scratch, known, i);
+        let found = word(text, tokens, symbols, scratch, count, known, i);
         scratch[2 * count + i] = found.symbol;
         known = found.count;
         i += 1;
