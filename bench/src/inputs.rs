@@ -6,7 +6,7 @@ pub struct Input {
     pub text: String,
     /// Three numbers a token, the Eof last.
     pub tokens: Vec<u32>,
-    /// The one whose ratio is the first of the last line.
+    /// Whether its ratio counts for `typical` in the last line.
     pub typical: bool,
     /// Whether the answer is a refusal.
     pub refused: bool,
@@ -47,7 +47,7 @@ pub fn all() -> Vec<Input> {
     let names = |count: usize| (0..count).map(|i| format!("n{i};")).collect::<String>();
     vec![
         Input { typical: true, ..input("screen", SCREEN.to_string()) },
-        input("large script", screens(4000)),
+        Input { typical: true, ..input("large script", screens(4000)) },
         input("nesting, parentheses", parentheses.repeat(33)),
         input("nesting, blocks", blocks.repeat(33)),
         input("different names, 32", names(32)),

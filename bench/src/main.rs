@@ -2,9 +2,13 @@
 //!
 //! Both start from a text and its tokens. The proved reader gets lent rooms, of as many rows as there are tokens, which
 //! hold what the last run left; it leaves zeros past its rows itself. The Rust gets a token list of its own, made before
-//! the clock starts, and an empty interner; its tree is freed after the clock has stopped. Runs alternate, each is timed by
-//! itself, and the median counts.
+//! the clock starts, and an empty interner; its tree is freed after the clock has stopped. Columns take turns; a call is
+//! timed by itself, after one like it that is not counted, and the median counts.
+//!
+//! The text columns start from the text alone. The Rust side is the lexer of lexer.rs and then the parser, both in its
+//! time. That lexer is the bench's own and not logos, so these columns are no comparison with Kaori's lexer.
 mod inputs;
+mod lexer;
 
 use std::{
     env::consts::ARCH,
@@ -23,6 +27,7 @@ use kaori::{
     },
 };
 use kaori_syntax::Rooms;
+use oracle::lexer::Lexer;
 
 const LIMIT: u32 = 64;
 
@@ -53,18 +58,31 @@ struct Times {
     wide: f64,
     full: f64,
     text: f64,
+    rust_text: f64,
     runs: usize,
 }
 
 fn bench(time: Duration) {
     let cores = std::thread::available_parallelism().map_or(1, NonZero::get);
-    println!("{ARCH}, {cores} cores; tokens to tree, median nanoseconds a token");
+    println!("{ARCH}, {cores} cores; tokens to tree, then text to tree; median nanoseconds a token");
     println!(
         "this reader's rooms are lent and not cleared between runs; it clears what it does not use, in its time"
     );
     println!(
-        "{:<22}{:>7}{:>9}{:>9}{:>7}   {:>7}{:>9}{:>9}{:>8}{:>8}{:>8}",
-        "input", "tokens", "this", "Rust", "ratio", "door", "reading", "zeroing", "4096", "text", "runs"
+        "{:<22}{:>7}{:>8}{:>8}{:>7} |{:>7}{:>8}{:>7} |{:>7}{:>9}{:>9}{:>8}{:>8}",
+        "input",
+        "tokens",
+        "this",
+        "Rust",
+        "ratio",
+        "text",
+        "Rust",
+        "ratio",
+        "door",
+        "reading",
+        "zeroing",
+        "4096",
+        "runs"
     );
     let (mut typical, mut worst) = (f64::MAX, f64::MAX);
     for input in inputs::all() {
@@ -72,7 +90,7 @@ fn bench(time: Duration) {
         let tokens = (input.tokens.len() / 3) as f64;
         let ratio = t.rust / t.ours;
         if input.typical {
-            typical = ratio;
+            typical = typical.min(ratio);
         }
         worst = worst.min(ratio);
         // rooms of twice the rows have 17 more numbers a token to clear
@@ -80,25 +98,29 @@ fn bench(time: Duration) {
         let reading = t.ours - t.door - zeroing;
         let per = |ns: f64| format!("{:.1}", ns / tokens);
         println!(
-            "{:<22}{tokens:>7}{:>9}{:>9}{ratio:>7.2}   {:>7}{:>9}{:>9}{:>8}{:>8}{:>8}",
+            "{:<22}{tokens:>7}{:>8}{:>8}{ratio:>7.2} |{:>7}{:>8}{:>7.2} |{:>7}{:>9}{:>9}{:>8}{:>8}",
             input.name,
             per(t.ours),
             per(t.rust),
+            per(t.text),
+            per(t.rust_text),
+            t.rust_text / t.text,
             per(t.door),
             per(reading),
             per(zeroing),
             per(t.full),
-            per(t.text),
             t.runs
         );
     }
     println!("ratio: the Rust's time by this reader's; above 1 this reader is faster");
+    println!("text: text to tree; the Rust beside it is a lexer of the bench's own and then the Rust parser");
+    println!("that lexer has the patterns of Kaori's but is not logos: no comparison with Kaori's lexer");
     println!("door: a call that the door refuses at the last token but one; reading: what is left of `this`");
     println!("zeroing: the numbers past the rows, at the price of a number in rooms of twice the rows");
+    println!("4096: the same call in rooms of 4,096 rows");
     println!(
-        "4096: the same call in rooms of 4,096 rows; text: text to rows, which the Rust has no token maker for here"
+        "typical: the lesser ratio of the screen and the large script; worst: the least of all; tokens to tree"
     );
-    println!("typical: the screen; worst: the least ratio");
     println!("typical {typical:.2}, worst {worst:.2}");
 }
 
@@ -117,28 +139,39 @@ fn measure(input: &Input, time: Duration) -> Times {
     let compiler = Compiler::default();
     agree(input, &rust_tokens, &turned, &mut rooms);
 
-    let mut times: [Vec<u64>; 6] = Default::default();
+    let mut times: [Vec<u64>; 7] = Default::default();
     let end = Instant::now() + time;
     while times[0].is_empty() || Instant::now() < end {
-        times[0].push(clock(|| rooms.parse(text, &input.tokens, LIMIT).is_ok()));
-        fresh_interner();
-        let list = rust_tokens.clone();
-        times[1].push(clock(|| Parser::new(&input.text, list, &compiler).parse()));
-        times[2].push(clock(|| rooms.parse(text, &turned, LIMIT).is_ok()));
-        times[3].push(clock(|| wide.parse(text, &input.tokens, LIMIT).is_ok()));
-        times[4].push(clock(|| full.parse(text, &input.tokens, LIMIT).is_ok()));
-        times[5].push(clock(|| rooms.read(text, LIMIT).is_ok()));
+        times[0].push(second(|| clock(|| rooms.parse(text, &input.tokens, LIMIT).is_ok())));
+        times[1].push(second(|| {
+            fresh_interner();
+            let list = rust_tokens.clone();
+            clock(|| Parser::new(&input.text, list, &compiler).parse())
+        }));
+        times[2].push(second(|| clock(|| rooms.parse(text, &turned, LIMIT).is_ok())));
+        times[3].push(second(|| clock(|| wide.parse(text, &input.tokens, LIMIT).is_ok())));
+        times[4].push(second(|| clock(|| full.parse(text, &input.tokens, LIMIT).is_ok())));
+        times[5].push(second(|| clock(|| rooms.read(text, LIMIT).is_ok())));
+        times[6].push(second(|| {
+            fresh_interner();
+            clock(|| lexer::tokens(&input.text).map(|list| Parser::new(&input.text, list, &compiler).parse()))
+        }));
     }
     let runs = times[0].len();
-    let [ours, rust, door, wide, full, text] = times.map(median);
-    Times { ours, rust, door, wide, full, text, runs }
+    let [ours, rust, door, wide, full, text, rust_text] = times.map(median);
+    Times { ours, rust, door, wide, full, text, rust_text, runs }
 }
 
-/// Both sides answer alike, the door refuses the list that is made for it, and the token maker makes the input's tokens.
+/// Both sides answer alike, the door refuses the list that is made for it, and the token maker, the Rust lexer and the
+/// oracle's make the input's tokens.
 fn agree(input: &Input, rust_tokens: &[(Token, Span)], turned: &[u32], rooms: &mut Rooms) {
     let (name, text) = (input.name, input.text.as_bytes());
-    let numbers = rust_tokens.iter().flat_map(|&(token, span)| [token as u32, span.start, span.end]);
-    assert!(numbers.eq(input.tokens.iter().copied()), "{name}: the order of `TOKENS`");
+    let numbers = |list: &[(Token, Span)]| -> Vec<u32> {
+        list.iter().flat_map(|&(token, span)| [token as u32, span.start, span.end]).collect()
+    };
+    assert_eq!(numbers(rust_tokens), input.tokens, "{name}: the order of `TOKENS`");
+    assert_eq!(numbers(&lexer::tokens(&input.text).unwrap()), input.tokens, "{name}: the Rust lexer");
+    assert_eq!(Lexer::new().tokens(text).unwrap().as_flattened(), input.tokens, "{name}: the oracle's lexer");
     fresh_interner();
     let compiler = Compiler::default();
     let rust = Parser::new(&input.text, rust_tokens.to_vec(), &compiler).parse();
@@ -167,6 +200,13 @@ fn turned_away(tokens: &[u32]) -> Vec<u32> {
     let kind = list.len() - 6;
     list[kind] = if list[kind] == 0 { 1 } else { 0 };
     list
+}
+
+/// The time of a call that follows one like it: caches and heap are as its own kind leaves them, in whatever order the
+/// columns stand.
+fn second(mut call: impl FnMut() -> u64) -> u64 {
+    call();
+    call()
 }
 
 /// The nanoseconds of a call; its answer is dropped after the clock has stopped.
