@@ -1,62 +1,65 @@
--- The keywords by their first letters: which of them a text can be, by a test that the checker computes over the 18 of them.
-use Prim.Native.Nat.{ℕ}
-use mathlib.Core.Bool.{Bool, true, false, not, _&&_, _||_, false≢true}
-use mathlib.Core.List.{List, [], _∷_}
+-- The keywords by their slots: which one a text can be, by tests that the checker computes over the 18 keywords and over the 64 slots.
+use Prim.Native.Nat.{ℕ, _+_, _-_, _≤_, _<_}
+use mathlib.Core.Bool.{Bool, true, false, _&&_, _||_}
+use mathlib.Core.List.{List}
 use mathlib.Core.Path.{_≡_, refl, sym, ap, _∙_}
 use native.Mathlib.Omega.{arith}
-use lib.Dec.{T, eqb, leb, leb→le}
-use lib.ListN.{getD}
-use borrow.Author.Tests.{eq-eqb, eqb-true}
-use Rattle.grammar.specs.Kind.{Identifier}
+use lib.Dec.{T, eqb, leb, leb→le, eqb→eq}
+use lib.ListN.{length, getD}
+use borrow.Author.Tests.{eqb-true}
+use Rattle.grammar.specs.Kind.{And, Nil, Identifier}
 use Rattle.grammar.specs.Lexeme.{spelling}
-use Rattle.grammar.specs.Pattern.{among}
-use Rattle.grammar.proofs.Tests.{both, passes, within}
-use Rattle.spelling.proofs.Spellings.{one-spelling}
-use Rattle.lexeme.specs.Parts.{Keyword, Word, Which}
-use Rattle.grammar.proofs.Ranges.{every, member}
+use Rattle.grammar.specs.Token.{lexeme}
+use Rattle.grammar.proofs.Lexemes.{part-at, lexeme-length}
+use Rattle.grammar.proofs.Tests.{both, within}
+use Rattle.spelling.specs.Words.{slot, slot-of, key}
+use Rattle.spelling.proofs.Spellings.{no-spelling, one-spelling}
+use Rattle.lexeme.specs.Parts.{Keyword, Word}
 
-or-later : (a b : Bool) → b ≡ true → (a || b) ≡ true
-or-later true b e = refl
-or-later false b e = e
+-- the keyword that has the slot of a text
+abbrev pub key-of : List ℕ → ℕ
+key-of x = key (slot-of x)
 
-abbrev pub first : List ℕ → ℕ
-first x = getD x 0 0
+-- each keyword has its slot for itself
+own-slot : (w : ℕ) → And ≤ w → w ≤ Nil → key-of (spelling w) ≡ w
+unfolding spelling key
+own-slot w l h = eqb→eq (key-of (spelling w)) w (within (λ k. eqb (key-of (spelling k)) k) And 18 w tt l (omega arith))
 
--- the keywords that start with b are of these kinds
-abbrev pub covers : ℕ → List ℕ → Bool
-covers b ks = passes (λ w. among ks w || not (eqb (first (spelling w)) b)) 22 18
+-- and where no keyword has a slot, Identifier stands
+keyed : (s : ℕ) → s < 64 → T (eqb (key s) Identifier || (leb And (key s) && leb (key s) Nil))
+unfolding spelling key
+keyed s h = within (λ i. eqb (key i) Identifier || (leb And (key i) && leb (key i) Nil)) 0 64 s tt (omega arith) (omega arith)
 
-abbrev pub keywords : List ℕ → Bool
-keywords ks = every (λ k. leb 22 k && leb k 39) ks
+-- the bytes of a part of a text that decide its slot
+pub key-between : (text : List ℕ) (start end : ℕ) → start < end → end ≤ length text → key-of (lexeme text start end) ≡ key (slot (getD text start 0) (getD text (end - 1) 0))
+key-between text start end h m =
+    let n = end - start in
+    let z : start + (n - 1) ≡ end - 1 = omega arith in
+    let o : start + 0 ≡ start = omega arith in
+    rw (lexeme-length text start end (omega arith) m, part-at text start n 0 (omega arith), part-at text start n (n - 1) (omega arith), z, o)
 
--- the kinds of these that x is spelt as: this one, or one of the rest
+module _ (x : List ℕ) where
+  -- every keyword has two bytes or more
+  pub too-short : length x < 2 → Keyword x → ⊥
+  unfolding spelling
+  too-short s (w, l, h, e) = omega (arith, ap length e, leb→le 2 (length (spelling w)) (within (λ k. leb 2 (length (spelling k))) And 18 w tt l (omega arith)))
+
+  -- a text that is spelt as the keyword of its slot is that one
+  pub spelt-so : {k : ℕ} → k ≡ key-of x → 1 ≤ length x → x ≡ spelling k → Word x k
+  spelt-so {k} z n e = go (eqb k Identifier) refl (rw (sym z) at (keyed (slot-of x) (omega arith)))
+    where
+      go : (b : Bool) → eqb k Identifier ≡ b → T (b || (leb And k && leb k Nil)) → Word x k
+      go true i t = absurd (omega (arith, ap length (e ∙ no-spelling k (omega (arith, eqb-true k Identifier i)))))
+      go false i t = let (u, v) = both (leb And k) (leb k Nil) t in Word.keyword (leb→le And k u) (leb→le k Nil v) e
+
+  -- and one that is not is no keyword
+  pub spelt-otherwise : {k : ℕ} → k ≡ key-of x → (x ≡ spelling k → ⊥) → Word x Identifier
+  spelt-otherwise {k} z n = Word.name go
+    where
+      go : Keyword x → ⊥
+      go (w, l, h, e) = n (e ∙ ap spelling (sym (own-slot w l h) ∙ ap key-of (sym e) ∙ sym z))
+
 module _ {x : List ℕ} where
-  pub this-first : (k : ℕ) (ks : List ℕ) → x ≡ spelling k → Which x (k ∷ ks) k
-  this-first k ks e = Which.this {k = k} (rw (eq-eqb k k refl)) e
-
-  pub this-later : (k : ℕ) (ks : List ℕ) {r : ℕ} → (x ≡ spelling k → ⊥) → Which x ks r → Which x (k ∷ ks) r
-  this-later k ks n (Which.this {k = l} m e) = Which.this (or-later (eqb l k) (among ks l) m) e
-  this-later k ks n (Which.none f) = Which.none (λ l m e. go l (eqb l k) refl m e)
-    where
-      go : (l : ℕ) (b : Bool) → eqb l k ≡ b → (b || among ks l) ≡ true → x ≡ spelling l → ⊥
-      go l true z m e = n (e ∙ ap spelling (eqb-true l k z))
-      go l false z m e = f l m e
-
-  pub no-kinds : Which x [] Identifier
-  no-kinds = Which.none (λ k m e. absurd (false≢true m))
-
-  -- a text whose first byte is b is a keyword exactly where it is one of these
-  pub by-first : (b : ℕ) (ks : List ℕ) {r : ℕ} → T (covers b ks) → T (keywords ks) → first x ≡ b → Which x ks r → Word x r
-  by-first b ks t k f (Which.this {k = l} m e) = let (u, v) = both (leb 22 l) (leb l 39) (member (λ k. leb 22 k && leb k 39) ks l k m) in Word.keyword (leb→le 22 l u) (leb→le l 39 v) e
-  by-first b ks t k f (Which.none g) = Word.name (none g)
-    where
-      none : ((k : ℕ) → among ks k ≡ true → x ≡ spelling k → ⊥) → Keyword x → ⊥
-      none g (w, l, h, e) = go (among ks w) refl (within (λ w. among ks w || not (eqb (first (spelling w)) b)) 22 18 w t l (omega arith))
-        where
-          go : (m : Bool) → among ks w ≡ m → T (m || not (eqb (first (spelling w)) b)) → ⊥
-          go true m u = g w m e
-          go false m u = absurd (rw (eq-eqb (first (spelling w)) b (ap first (sym e) ∙ f)) at u)
-
   -- a keyword, or none
   pub word-keyword : {k : ℕ} → Word x k → (k ≡ Identifier → ⊥) → Keyword x
   word-keyword (Word.keyword {k = k} l h e) n = (k, l, h, e)
@@ -65,9 +68,6 @@ module _ {x : List ℕ} where
   pub word-name : {k : ℕ} → Word x k → k ≡ Identifier → Keyword x → ⊥
   word-name (Word.keyword l h e) n = absurd (omega arith)
   word-name (Word.name f) n = f
-
-pub no-letter : (letters x : List ℕ) → T (passes (λ w. among letters (first (spelling w))) 22 18) → among letters (first x) ≡ false → Keyword x → ⊥
-no-letter letters x t n (w, l, h, e) = rw n at (rw (ap first (sym e)) at (within (λ w. among letters (first (spelling w))) 22 18 w t l (omega arith)))
 
 -- two outcomes of `keyword` are equal
 pub one-word : {x : List ℕ} {k l : ℕ} → Word x k → Word x l → k ≡ l

@@ -1,5 +1,6 @@
 pub mod Runs
 pub mod Texts
+pub mod Bytes
 pub mod Numbers
 pub mod Keywords
 pub mod Fitting

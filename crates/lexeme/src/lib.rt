@@ -1,7 +1,11 @@
 // Which lexeme fits which kind: document 002's patterns for numbers, strings and identifiers, and the fixed spellings, whose table is lent.
 
+use spelling::LETTER;
+use spelling::OTHER;
+use spelling::class;
+use spelling::key;
 use spelling::spelled;
-ghost use mathlib.Core.List.{[], _∷_};
+use token::kinds;
 ghost use mathlib.Core.Path.{_≡_};
 ghost use Prim.Native.Nat.{_≤_};
 ghost use lib.ListN.{length};
@@ -11,7 +15,7 @@ ghost use Rattle.grammar.specs.Pattern.{byte, digit, some, maybe};
 ghost use Rattle.grammar.specs.Run.{Ran};
 ghost use Rattle.grammar.specs.Token.{lexeme};
 ghost use Rattle.spelling.specs.Decides.{Decides};
-ghost use Rattle.lexeme.specs.Parts.{signed, power, inside, letter-or-digit, Word, Which};
+ghost use Rattle.lexeme.specs.Parts.{signed, power, inside, letter-or-digit, Word};
 ghost use Rattle.spelling.specs.Words.{table};
 
 // Whether the text from `start` up to `end` fits a kind of token. It asks for the table, and that the span lies in the text.
@@ -21,87 +25,52 @@ pub fn fits(words: &[u8], kind: u32, text: &[u8], start: usize, end: usize) -> b
     ensures { λ r. ⌜ Decides (Fits kind (lexeme (now (text .entry)) start end)) r ⌝ }
 {
     match kind {
-        40 => is_number(text, start, end),
-        42 => is_string(text, start, end),
-        43 => {
-            if keyword(words, text, start, end) != 43 {
+        kinds::NUMBER_LITERAL => is_number(text, start, end),
+        kinds::STRING_LITERAL => is_string(text, start, end),
+        kinds::IDENTIFIER => {
+            if keyword(words, text, start, end) != kinds::IDENTIFIER {
                 return false;
             }
-            is_identifier(text, start, end)
+            is_identifier(words, text, start, end)
         }
-        0..=41 => spelled(words, kind, text, start, end),
+        kinds::ASSIGN..=kinds::SEMICOLON => spelled(words, kind, text, start, end),
         _ => true,
     }
 }
 
-// The kind of the keyword that the text from `start` up to `end` is, or 43, Identifier, for any other text: those with the same first letter are compared.
-// It asks for the table, and that the span lies in the text.
-// Ruled out: 43 for `nil`; 22 for `ands`.
+// The kind of the keyword that the text from `start` up to `end` is, or Identifier for any other text: it is compared with the one keyword that its first and its
+// last byte leave. It asks for the table, and that the span lies in the text.
+// Ruled out: Identifier for `nil`; And for `ands`.
 pub fn keyword(words: &[u8], text: &[u8], start: usize, end: usize) -> u32
     requires { ⌜ (now words ≡ table) × (start ≤ end) × (end ≤ length (now text)) ⌝ }
     ensures { λ r. ⌜ Word (lexeme (now (text .entry)) start end) r ⌝ }
 {
     if start == end {
-        return 43;
+        return kinds::IDENTIFIER;
     }
-    match text[start] {
-        b'a' => only(words, 22, text, start, end),
-        b'b' => only(words, 31, text, start, end),
-        b'c' => one_of(words, 26, 32, text, start, end),
-        b'e' => only(words, 34, text, start, end),
-        b'f' => {
-            if spelled(words, 28, text, start, end) {
-                return 28;
-            }
-            one_of(words, 29, 38, text, start, end)
-        }
-        b'i' => one_of(words, 33, 36, text, start, end),
-        b'l' => only(words, 25, text, start, end),
-        b'n' => one_of(words, 24, 39, text, start, end),
-        b'o' => only(words, 23, text, start, end),
-        b'r' => one_of(words, 27, 35, text, start, end),
-        b't' => only(words, 37, text, start, end),
-        b'w' => only(words, 30, text, start, end),
-        _ => 43,
-    }
-}
-
-// This kind where the text is its spelling, or 43.
-fn only(words: &[u8], kind: u32, text: &[u8], start: usize, end: usize) -> u32
-    requires { ⌜ (now words ≡ table) × (start ≤ end) × (end ≤ length (now text)) ⌝ }
-    ensures { λ r. ⌜ Which (lexeme (now (text .entry)) start end) (kind ∷ []) r ⌝ }
-{
+    let first = text[start];
+    let last = text[end - 1];
+    let kind = key(words, first, last);
     if spelled(words, kind, text, start, end) {
         return kind;
     }
-    43
-}
-
-// One of two kinds so.
-fn one_of(words: &[u8], first: u32, second: u32, text: &[u8], start: usize, end: usize) -> u32
-    requires { ⌜ (now words ≡ table) × (start ≤ end) × (end ≤ length (now text)) ⌝ }
-    ensures { λ r. ⌜ Which (lexeme (now (text .entry)) start end) (first ∷ second ∷ []) r ⌝ }
-{
-    if spelled(words, first, text, start, end) {
-        return first;
-    }
-    only(words, second, text, start, end)
+    kinds::IDENTIFIER
 }
 
 // [a-zA-Z_][a-zA-Z0-9_]*
-fn is_identifier(text: &[u8], start: usize, end: usize) -> bool
-    requires { ⌜ (start ≤ end) × (end ≤ length (now text)) ⌝ }
+fn is_identifier(words: &[u8], text: &[u8], start: usize, end: usize) -> bool
+    requires { ⌜ (now words ≡ table) × (start ≤ end) × (end ≤ length (now text)) ⌝ }
     ensures { λ r. ⌜ r ≡ matches identifier (lexeme (now (text .entry)) start end) ⌝ }
 {
     if start == end {
         return false;
     }
-    if !is_letter(text[start]) {
+    if !is_letter(words, text[start]) {
         return false;
     }
     let mut at = start + 1;
     while at < end {
-        if !is_letter_or_digit(text[at]) {
+        if !is_letter_or_digit(words, text[at]) {
             return false;
         }
         at += 1;
@@ -232,15 +201,11 @@ pub fn digits(text: &[u8], start: usize, end: usize) -> usize
 }
 
 // [a-zA-Z_]
-fn is_letter(byte: u8) -> bool
+fn is_letter(words: &[u8], byte: u8) -> bool
+    requires { ⌜ now words ≡ table ⌝ }
     ensures { λ r. ⌜ r ≡ letter byte ⌝ }
 {
-    match byte {
-        b'A'..=b'Z' => true,
-        b'_' => true,
-        b'a'..=b'z' => true,
-        _ => false,
-    }
+    class(words, byte) == LETTER
 }
 
 // [0-9]
@@ -253,13 +218,11 @@ fn is_digit(byte: u8) -> bool
     }
 }
 
-// [a-zA-Z0-9_]
+// [a-zA-Z0-9_]. It asks for the table.
 // Ruled out: false for `_`; true for `-`.
-pub fn is_letter_or_digit(byte: u8) -> bool
+pub fn is_letter_or_digit(words: &[u8], byte: u8) -> bool
+    requires { ⌜ now words ≡ table ⌝ }
     ensures { λ r. ⌜ r ≡ letter-or-digit byte ⌝ }
 {
-    if is_letter(byte) {
-        return true;
-    }
-    is_digit(byte)
+    class(words, byte) != OTHER
 }

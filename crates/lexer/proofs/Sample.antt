@@ -8,7 +8,7 @@ use Rattle.grammar.specs.Lexeme.{spelling}
 use Rattle.grammar.specs.Pattern.{bytes, digit}
 use Rattle.lexeme.specs.Parts.{Word}
 use Rattle.grammar.specs.Run.{Ran}
-use Rattle.lexeme.proofs.Keywords.{no-letter}
+use Rattle.lexeme.proofs.Keywords.{too-short}
 use Rattle.lexeme.proofs.Numbers.{rest-shy}
 use Rattle.lexer.specs.Reads.{Longest, Text-reads}
 use Rattle.lexer.specs.Parts.{Spelt}
@@ -34,8 +34,7 @@ unfolding spelling
 point = one-byte (other-byte 46 (λ z. omega arith) (λ z. omega arith) (λ z. absurd (omega arith)) (λ z. absurd (omega arith)) (λ z. absurd (omega arith))) (record { no-two = λ k h l z. absurd (omega arith) }) (Spelt.sign {k = Dot} (omega arith) refl) (omega arith) (omega arith)
 
 x : Longest text Identifier 2 3
-unfolding spelling
-x = a-word refl (ended (byte-on (omega arith) refl) (many-stop (omega arith) (λ h. absurd (omega arith)))) (Word.name (no-letter (bytes "abcefilnortw") (bytes "x") tt refl))
+x = a-word refl (ended (byte-on (omega arith) refl) (many-stop (omega arith) (λ h. absurd (omega arith)))) (Word.name (too-short (bytes "x") (omega arith)))
 
 pub sample : Text-reads text 0 (NumberLiteral ∷ 0 ∷ 1 ∷ Dot ∷ 1 ∷ 2 ∷ Identifier ∷ 2 ∷ 3 ∷ Eof ∷ 3 ∷ 3 ∷ [])
 sample = Text-reads.token one (Text-reads.token point (Text-reads.token x (Text-reads.end refl)))

@@ -9,7 +9,7 @@ use borrow.Author.Tests.{ne-eqb}
 use Rattle.grammar.specs.Kind.{Eof}
 use Rattle.grammar.specs.Lexeme.{spelling}
 use Rattle.grammar.specs.Pattern.{among}
-use Rattle.lexeme.proofs.Keywords.{first}
+use Rattle.spelling.specs.Words.{first}
 use Rattle.grammar.specs.Symbol.{same}
 use Rattle.grammar.proofs.Tests.{as-true, same-self, passes, within}
 use Rattle.lexer.specs.Parts.{Spelt}

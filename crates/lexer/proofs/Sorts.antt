@@ -17,7 +17,8 @@ use Rattle.grammar.specs.Symbol.{same}
 use Rattle.grammar.proofs.Patterns.{matches-sound}
 use Rattle.lexeme.specs.Parts.{Keyword, Word}
 use Rattle.lexeme.proofs.Fitting.{spelled-pattern}
-use Rattle.lexeme.proofs.Keywords.{first, one-word}
+use Rattle.lexeme.proofs.Keywords.{one-word}
+use Rattle.spelling.specs.Words.{first}
 use Rattle.spelling.proofs.Spellings.{all-spelt, one-spelling}
 use Rattle.grammar.proofs.Ranges.{member}
 use Rattle.grammar.proofs.Matching.{literal-same}

@@ -8,6 +8,7 @@ use door::highest;
 use scan::is_blank;
 use scan::token_at;
 use spelling::words;
+use token::kinds;
 ghost use mathlib.Core.Path.{_≡_};
 ghost use Prim.Native.Nat.{_*_, _≤_};
 ghost use lib.ListN.{length};
@@ -92,7 +93,7 @@ fn tokens(text: &[u8], list: &mut [u32]) -> Lexed
         clear(list, 0);
         return refused(1, 0, 0);
     }
-    push(list, count, 44, at as u32, at as u32);
+    push(list, count, kinds::EOF, at as u32, at as u32);
     count += 1;
     clear(list, 3 * count);
     Lexed {

@@ -3,6 +3,7 @@ use crate::Found;
 use lexeme::digits;
 use lexeme::is_letter_or_digit;
 use lexeme::keyword;
+use token::kinds;
 ghost use mathlib.Core.Bool.{true};
 ghost use mathlib.Core.List.{[], _∷_};
 ghost use mathlib.Core.Path.{_≡_};
@@ -36,11 +37,11 @@ pub(crate) fn token_at(words: &[u8], text: &[u8], start: usize) -> Found
             if end == start {
                 return Found::Nothing;
             }
-            Found::Token(42, end)
+            Found::Token(kinds::STRING_LITERAL, end)
         }
-        b'0'..=b'9' => Found::Token(40, number_end(text, start)),
+        b'0'..=b'9' => Found::Token(kinds::NUMBER_LITERAL, number_end(text, start)),
         b'A'..=b'Z' | b'_' | b'a'..=b'z' => {
-            let end = word_end(text, start);
+            let end = word_end(words, text, start);
             Found::Token(keyword(words, text, start, end), end)
         }
         _ => sign_at(text, start),
@@ -48,13 +49,13 @@ pub(crate) fn token_at(words: &[u8], text: &[u8], start: usize) -> Found
 }
 
 // The end of the word that starts with a letter: [a-zA-Z_][a-zA-Z0-9_]*
-fn word_end(text: &[u8], start: usize) -> usize
-    requires { ⌜ (start < length (now text)) × (letter (getD (now text) start 0) ≡ true) ⌝ }
+fn word_end(words: &[u8], text: &[u8], start: usize) -> usize
+    requires { ⌜ (now words ≡ table) × (start < length (now text)) × (letter (getD (now text) start 0) ≡ true) ⌝ }
     ensures { λ r. ⌜ Stretch-ends identifier (now (text .entry)) start r ⌝ }
 {
     let mut at = start + 1;
     while at < text.len() {
-        if !is_letter_or_digit(text[at]) {
+        if !is_letter_or_digit(words, text[at]) {
             return at;
         }
         at += 1;
@@ -163,55 +164,55 @@ fn sign_at(text: &[u8], start: usize) -> Found
         let second = text[next];
         if second == b'=' {
             let kind = doubled(first);
-            if kind < 44 {
+            if kind < kinds::EOF {
                 return Found::Token(kind, next + 1);
             }
         }
     }
     let kind = single(first);
-    if kind < 44 {
+    if kind < kinds::EOF {
         return Found::Token(kind, next);
     }
     Found::Nothing
 }
 
-// The kind of a byte with `=` after it, or 44.
+// The kind of a byte with `=` after it, or Eof.
 fn doubled(byte: u8) -> u32
     ensures { λ r. ⌜ Spelt (byte ∷ 61 ∷ []) r ⌝ }
 {
     match byte {
-        b'!' => 7,
-        b'<' => 10,
-        b'=' => 8,
-        b'>' => 9,
-        _ => 44,
+        b'!' => kinds::NOT_EQUAL,
+        b'<' => kinds::LESS_EQUAL,
+        b'=' => kinds::EQUAL,
+        b'>' => kinds::GREATER_EQUAL,
+        _ => kinds::EOF,
     }
 }
 
-// The kind of a byte alone, or 44.
+// The kind of a byte alone, or Eof.
 fn single(byte: u8) -> u32
     ensures { λ r. ⌜ Spelt (byte ∷ []) r ⌝ }
 {
     match byte {
-        b'#' => 19,
-        b'%' => 6,
-        b'(' => 17,
-        b')' => 18,
-        b'*' => 3,
-        b'+' => 1,
-        b',' => 13,
-        b'-' => 2,
-        b'.' => 15,
-        b'/' => 5,
-        b':' => 14,
-        b';' => 41,
-        b'<' => 12,
-        b'=' => 0,
-        b'>' => 11,
-        b'^' => 4,
-        b'{' => 20,
-        b'|' => 16,
-        b'}' => 21,
-        _ => 44,
+        b'#' => kinds::HASH,
+        b'%' => kinds::MODULO,
+        b'(' => kinds::LEFT_PAREN,
+        b')' => kinds::RIGHT_PAREN,
+        b'*' => kinds::MULTIPLY,
+        b'+' => kinds::PLUS,
+        b',' => kinds::COMMA,
+        b'-' => kinds::MINUS,
+        b'.' => kinds::DOT,
+        b'/' => kinds::DIVIDE,
+        b':' => kinds::COLON,
+        b';' => kinds::SEMICOLON,
+        b'<' => kinds::LESS,
+        b'=' => kinds::ASSIGN,
+        b'>' => kinds::GREATER,
+        b'^' => kinds::CARET,
+        b'{' => kinds::LEFT_BRACE,
+        b'|' => kinds::PIPE,
+        b'}' => kinds::RIGHT_BRACE,
+        _ => kinds::EOF,
     }
 }

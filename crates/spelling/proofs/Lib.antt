@@ -1,2 +1,3 @@
 pub mod Deciding
 pub mod Spellings
+pub mod Slots

@@ -17,7 +17,7 @@ use Rattle.grammar.proofs.Tests.{both, passes, same-means, within}
 use Rattle.spelling.specs.Words.{table}
 
 -- a list that is the table has its length
-pub whole : {ws : List ℕ} → ws ≡ table → 184 ≡ length ws
+pub whole : {ws : List ℕ} → ws ≡ table → 504 ≡ length ws
 unfolding table
 whole e = ap length (sym e)
 

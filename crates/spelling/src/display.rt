@@ -1,4 +1,6 @@
 // Port of `impl fmt::Display for Token`, document 002: the names of the kinds, which are written into a lent room.
+use crate::LENGTHS;
+use crate::SPELLINGS;
 use crate::words;
 ghost use mathlib.Core.Path.{_≡_};
 ghost use Prim.Native.Nat.{_+_, _≤_};
@@ -53,7 +55,7 @@ fn put_spelling(kind: u32, room: &mut [u8], at: usize) -> usize
 {
     let k = kind as usize;
     let table = words();
-    let start = 84 + table[k] as usize;
-    let end = start + table[42 + k] as usize;
+    let start = SPELLINGS + table[k] as usize;
+    let end = start + table[LENGTHS + k] as usize;
     put(&table[start..end], room, at)
 }

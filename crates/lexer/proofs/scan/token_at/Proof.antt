@@ -51,7 +51,7 @@ a-letter c =
     ⊎-elim (λ w. ap letter (w .keys2)) (λ w. ⊎-elim (λ v. sym (true-on letter 65 26 x tt (omega arith) (omega arith))) (λ v. sym (true-on letter 97 26 x tt (omega arith) (omega arith))) w) (c .match .came)
 
 word-end-requires : tie.Need-word-end-requires
-word-end-requires c κs = (search needs, a-letter c)
+word-end-requires c κs = (search needs, search needs, a-letter c)
 
 returns-5 : tie.Need-returns-5
 unfolding Start-case

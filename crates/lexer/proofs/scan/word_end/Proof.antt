@@ -13,13 +13,13 @@ use Rattle.lexer.proofs.scan.word_end.Statement.{statement}
 use Rattle.lexer.proofs.scan.word_end.Tie as tie
 
 abbrev Inv-loop : tie.InvT-loop
-Inv-loop text start at₀ at = (at ≤ length text) × Becomes identifier (many (byte letter-or-digit)) text start at
+Inv-loop words text start at₀ at = (at ≤ length text) × Becomes identifier (many (byte letter-or-digit)) text start at
 
 abbrev μ-loop : tie.MeasureT-loop
-μ-loop text start at₀ at = length text - at
+μ-loop words text start at₀ at = length text - at
 
 loop-holds : tie.Need-loop-holds Inv-loop μ-loop
-loop-holds c = (search needs, byte-on (c .before .pre .0) (c .before .pre .1))
+loop-holds c = let p = c .before .before .pre in (search needs, byte-on (p .1) (p .2))
 
 returns : tie.Need-returns Inv-loop μ-loop
 returns c =
