@@ -106,7 +106,7 @@ pub fn highest(text: &[u8]) -> u8
     high
 }
 
-// Whether a token is none of the bad ones of check 6. It asks for the table of spellings.
+// Whether a token is none of the bad ones of check 6. It asks for the table of crate spelling.
 fn sound(words: &[u8], text: &[u8], tokens: &[u32], at: usize) -> bool
     requires { ⌜ (now words ≡ table) × (at < count (now tokens)) ⌝ }
     ensures { λ r. ⌜ Decides (Sound (now (text .entry)) (now (tokens .entry)) at) r ⌝ }

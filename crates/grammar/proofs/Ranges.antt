@@ -21,15 +21,6 @@ abbrev pub None : ℕ → List ℕ → Type 0
 None x [] = Unit {0}
 None x (y ∷ ys) = (x ≡ y → ⊥) × None x ys
 
--- the same as a match says it of what none of its arms took, after what was known before
-abbrev pub Rest : Type 0 → ℕ → List ℕ → Type 0
-Rest P x [] = P
-Rest P x (y ∷ ys) = Rest (P × (x ≡ y → ⊥)) x ys
-
-pub rest-none : (P : Type 0) (x : ℕ) (ys : List ℕ) → Rest P x ys → P × None x ys
-rest-none P x [] r = (r, tt)
-rest-none P x (y ∷ ys) r = let ((p, n), ns) = rest-none (P × (x ≡ y → ⊥)) x ys r in (p, (n, ns))
-
 pub not-among : (x : ℕ) (ys : List ℕ) → None x ys → among ys x ≡ false
 not-among x [] h = refl
 not-among x (y ∷ ys) h = rw (ne-eqb x y (h .0)) (not-among x ys (h .1))

@@ -26,7 +26,7 @@ pub(crate) fn is_blank(byte: u8) -> bool
     }
 }
 
-// The longest token that starts at a byte of the text. It asks for the table of spellings.
+// The longest token that starts at a byte of the text. It asks for the table of crate spelling.
 pub(crate) fn token_at(words: &[u8], text: &[u8], start: usize) -> Found
     requires { ⌜ (now words ≡ table) × (start < length (now text)) ⌝ }
     ensures { λ r. ⌜ Starts (now (text .entry)) start r ⌝ }
