@@ -154,20 +154,18 @@ fn first_unclosed(tokens: &[u32]) -> usize
 {
     let count = tokens.len() / 3;
     let mut i = 0;
-    while i < count {
-        let kind = kind_at(tokens, i);
-        if i + 1 < count {
-            if kind == kinds::EOF {
-                return i;
-            }
-        } else {
-            if kind != kinds::EOF {
-                return i;
-            }
+    while i + 1 < count {
+        if kind_at(tokens, i) == kinds::EOF {
+            return i;
         }
         i += 1;
     }
-    i
+    if i < count {
+        if kind_at(tokens, i) != kinds::EOF {
+            return i;
+        }
+    }
+    count
 }
 
 // Checks 6 and 7, of what checks 1 and 5 let through.
