@@ -1,6 +1,6 @@
 -- The index of the rows. A word's bucket is a number that its bytes alone decide: words that are the same have one bucket, so a row of another bucket is not the
--- one. The room has two numbers for each of `size` rows: for a row the next older one of its bucket, and behind these, at the bucket itself, its newest row. Each is
--- a row's number and one, and 0 is none.
+-- one. The room has `2 * size` numbers: first for each row the next older one of its bucket, and then for each bucket its newest row, at the number that the bucket
+-- is. Each is a row's number and one, and 0 is none.
 use Prim.Native.Nat.{ℕ, zero, suc, _+_, _-_, _*_, _/_, _%_, _≤_, _<_}
 use mathlib.Core.Bool.{cond}
 use mathlib.Core.List.{List}

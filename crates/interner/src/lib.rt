@@ -43,7 +43,8 @@ fn mix(a: u8, b: u8, c: u8, d: u8, n: usize) -> usize
     (bytes + 55381 * (n % 256)) % 65536
 }
 
-// The bucket of the text from `start` up to `end`, by four of its bytes and its length: a place of the index, from `size` on. It asks that this is a part of the text, and for a size that is not 0.
+// The bucket of the text from `start` up to `end`, by four of its bytes and its length: a place of the index, one of `size` from `size` on. It asks that this is a part
+// of the text, and for a size that is not 0.
 fn bucket(text: &[u8], start: usize, end: usize, size: usize) -> usize
     requires { ⌜ Part (now text) start end × (0 < size) × (size < absent) ⌝ }
     ensures { λ r. ⌜ r ≡ bucket-of size (lexeme (now (text .entry)) start end) ⌝ }
@@ -70,7 +71,8 @@ fn holds(text: &[u8], symbols: &[u32], i: usize, start: usize, end: usize) -> bo
     same(text, from, upto, start, end)
 }
 
-// The row that has the bytes of the text from `start` up to `end`, whose bucket is `b`, or `count`. The newest row of the bucket is looked at first.
+// The row that has the bytes of the text from `start` up to `end`, whose bucket is `b`, or `count`. The newest row of the bucket is looked at first. How many buckets
+// there are, `size`, is for the contract alone.
 fn find(
     text: &[u8],
     symbols: &[u32],
