@@ -22,6 +22,7 @@ module _ {asked : ℕ → Type 0} {n : ℕ} where
   pub found-here : {i : ℕ} → Passed asked n i → (asked i → ⊥) → Searched asked n i
   found-here p a = record { most = p .most; before = p .before; lacks = λ h. a }
 
+  -- all are passed
   pub found-none : {i : ℕ} → Passed asked n i → n ≤ i → Searched asked n n
   found-none p h = record { most = omega arith; before = λ j k. p .before j (omega arith); lacks = λ k. absurd (omega arith) }
 

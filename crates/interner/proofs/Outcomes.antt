@@ -56,7 +56,7 @@ module _ {text l index : List ℕ} {s e size count : ℕ} (p : Ready text s e si
         outcome = Outcome.new none refl x refl;
         indexed = record {
           table = rw (x, y) (grown-table text (used count l) count s e whole (p .indexed .table) (p .part) none);
-          rows-are = rw (x, y) (grown-index text (used count l) count s e whole size (p .indexed .rows-are) (p .free) (p .indexed .index-room));
+          index-is = rw (x, y) (grown-index text (used count l) count s e whole size (p .indexed .index-is) (p .free) (p .indexed .index-room));
           index-room = omega (arith, p .indexed .index-room, linked-length count (bucket size (lexeme text s e)) index);
           few = omega (arith, p .free);
         };

@@ -44,7 +44,7 @@ fn mix(a: u8, b: u8, c: u8, d: u8, n: usize) -> usize
 }
 
 // The bucket of the text from `start` up to `end`, by four of its bytes and its length: a place of the index, one of `size` from `size` on. It asks that this is a part
-// of the text, and for a size that is not 0.
+// of the text, and for a size from 1 on that a u32 has.
 fn bucket(text: &[u8], start: usize, end: usize, size: usize) -> usize
     requires { ⌜ Part (now text) start end × (0 < size) × (size < absent) ⌝ }
     ensures { λ r. ⌜ r ≡ bucket-of size (lexeme (now (text .entry)) start end) ⌝ }
@@ -71,7 +71,7 @@ fn holds(text: &[u8], symbols: &[u32], i: usize, start: usize, end: usize) -> bo
     same(text, from, upto, start, end)
 }
 
-// The row that has the bytes of the text from `start` up to `end`, whose bucket is `b`, or `count`. The newest row of the bucket is looked at first. How many buckets
+// The row that has the bytes of the text from `start` up to `end`, whose bucket is `place`, or `count`. The newest row of the bucket is looked at first. How many buckets
 // there are, `size`, is for the contract alone.
 fn find(
     text: &[u8],
@@ -81,12 +81,12 @@ fn find(
     count: usize,
     start: usize,
     end: usize,
-    b: usize,
+    place: usize,
 ) -> usize
-    requires { ⌜ Wanted (now text) start end size count b (now symbols) (now index) ⌝ }
+    requires { ⌜ Wanted (now text) start end size count place (now symbols) (now index) ⌝ }
     ensures { λ r. ⌜ Sought (now (text .entry)) (lexeme (now (text .entry)) start end) (used count (now (symbols .entry))) count r ⌝ }
 {
-    let mut next = index[b] as usize;
+    let mut next = index[place] as usize;
     while 0 < next {
         let i = next - 1;
         if holds(text, symbols, i, start, end) {
@@ -114,17 +114,17 @@ pub fn get_or_intern(
 {
     let from = start as usize;
     let upto = end as usize;
-    let b = bucket(text, from, upto, size);
-    let i = find(text, symbols, index, size, count, from, upto, b);
+    let place = bucket(text, from, upto, size);
+    let i = find(text, symbols, index, size, count, from, upto, place);
     if i < count {
         return Interned {
             symbol: i as u32,
             count: count,
         };
     }
-    let older = index[b];
+    let older = index[place];
     index[count] = older;
-    index[b] = count as u32 + 1;
+    index[place] = count as u32 + 1;
     symbols[2 * count] = start;
     symbols[2 * count + 1] = end;
     Interned {

@@ -53,7 +53,7 @@ module _ {text ts l ps : List ℕ} {size n known : ℕ} (b : Before text ts size
       let s = b .size-is in
       record {
         part = record { ordered = omega (arith, q); inside = omega (arith, b .sound .inside) };
-        indexed = record { table = rw (b .entered .rows) (b .entered .table); rows-are = rw (b .entered .rows) (b .index); index-room = omega (arith, b .scratch-room); few = omega arith };
+        indexed = record { table = rw (b .entered .rows) (b .entered .table); index-is = rw (b .entered .rows) (b .index); index-room = omega (arith, b .scratch-room); few = omega arith };
         room = omega (arith, b .symbol-room);
         free = omega arith;
         number = omega (arith, b .few);
@@ -73,7 +73,7 @@ module _ {text ts l ps : List ℕ} {size n known : ℕ} (b : Before text ts size
       record {
         number = rw (t, ← b .entered .rows) (symbol-is f o);
         entered = record { rows = rw t rows; size = rw t size-of; table = rw (t, ← rows) (i .indexed .table) };
-        index = rw (t, ← rows) (i .indexed .rows-are);
+        index = rw (t, ← rows) (i .indexed .index-is);
         numbers = λ j. beyond f o (2 * count ts + j) (omega arith);
         symbol-size = long;
         scratch-size = wide;
