@@ -2,11 +2,15 @@
 // row, and that its number is not the absent one (`Free`). A list (L) is its first link row and its count; a name (N) is its symbol and its place, `from` up to
 // `upto`; a row's span comes last.
 // Ruled out, for each: its numbers in another order; another kind's number; an unused number that is not 0.
+pub mod kinds;
 pub mod room;
 
 ghost use mathlib.Core.List.{_∷_, []};
 ghost use Rattle.grammar.specs.Label.{Node as Form, number-of};
 ghost use Rattle.ast.specs.Inserted.{Free, Inserted};
+
+// The numbers of a node row.
+pub const NODE_WIDTH: usize = 10;
 
 // The handle of a row: its number and span, so that a merged span needs no look back into the room.
 pub struct Node {
@@ -15,7 +19,7 @@ pub struct Node {
     pub end: u32,
 }
 
-// One row more, of nine numbers.
+// One row more, of nine numbers and a 0 in the place of its parent.
 // Ruled out: a row that changes another one; a handle without its row's end.
 fn insert(
     nodes: &mut [u32],
@@ -33,10 +37,11 @@ fn insert(
     requires { ⌜ Free n (now nodes) ⌝ }
     ensures { λ r. ⌜ Inserted n kind start end (a ∷ b ∷ c ∷ d ∷ e ∷ f ∷ []) (now (nodes .entry)) (now (nodes .exit)) r ⌝ }
 {
-    let i = 9 * n;
+    let i = NODE_WIDTH * n;
     room::three(nodes, i, kind, start, end);
     room::three(nodes, i + 3, a, b, c);
     room::three(nodes, i + 6, d, e, f);
+    room::one(nodes, i + 9, 0);
     Node {
         id: n as u32,
         start: start,

@@ -15,6 +15,14 @@ pub(crate) fn three(room: &mut [u32], i: usize, x: u32, y: u32, z: u32)
     room[i + 2] = z;
 }
 
+// And the last number of a node row by itself.
+pub(crate) fn one(room: &mut [u32], i: usize, x: u32)
+    requires { ⌜ i + 1 ≤ length (now room) ⌝ }
+    ensures { λ _. ⌜ Written i (i + 1) (x ∷ []) (now (room .entry)) (now (room .exit)) ⌝ }
+{
+    room[i] = x;
+}
+
 // The first n numbers from a place of one room, put at a place of another.
 fn copy(to: &mut [u32], at: usize, from: &[u32], first: usize, n: usize)
     requires { ⌜ (at + n ≤ length (now to)) × (first + n ≤ length (now from)) ⌝ }

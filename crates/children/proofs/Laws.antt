@@ -1,21 +1,19 @@
 -- What `child` answers at each place, and what stands below a row of each kind.
 use Prim.Native.Nat.{ℕ, zero, suc, _+_, _-_, _*_, _/_, _%_, _≤_, _<_}
-use native.Mathlib.Decide.{decLt, ℕ-discrete}
+use native.Mathlib.Decide.{decLt}
 use native.Mathlib.Omega.{arith}
-use mathlib.Core.Bool.{Bool, true, false, _||_}
+use mathlib.Core.Bool.{true, false}
 use mathlib.Core.List.{List, [], _∷_}
 use mathlib.Core.Path.{_≡_, refl, sym, ap, _∙_}
-use lib.Dec.{T}
 use lib.ListN.{length, getD, drop, length-append, List·getD-append, List·getD-eq-default}
 use lib.Seq.{getD-append-add, getD-drop}
 use Rattle.grammar.specs.Handle.{absent}
-use Rattle.grammar.specs.Layout.{layout, layouts}
-use Rattle.grammar.specs.Pattern.{among}
+use Rattle.grammar.specs.Layout.{layout}
 use Rattle.grammar.specs.Room.{node-width, link-width}
-use Rattle.grammar.proofs.Tests.{None, not-among, within}
+use Rattle.grammar.proofs.Pieces.{Piece, single, list, pieces}
 use Rattle.children.specs.Below.{Number, three, nothing, one-more, listing, placed, Below, held, many-of, many, children, Child}
 use Rattle.children.specs.declared.Children.{Children}
-use Rattle.children.proofs.Pieces.{Piece, single, list, pieces, arranged, placed-pieces}
+use Rattle.children.proofs.Arranged.{arranged, placed-pieces}
 
 -- a number of a list, whatever there would be past it
 pub in-list : (xs : List ℕ) (i d e : ℕ) → i < length xs → getD xs i d ≡ getD xs i e
@@ -160,28 +158,3 @@ module _ (xs : List ℕ) (k : ℕ) where
   pub entry-list : (i : ℕ) → pieces (layout k) 0 ≡ list true i ∷ [] → {a b : ℕ} → a ≡ getD xs i 0 → b ≡ getD xs (suc i) 0 → record { first = absent; from = a; count = b; each = 2; second = absent; third = absent } ≡ placed (layout k) xs
   unfolding arranged listing
   entry-list i e f g = rw (f, g) (by-pieces (list true i ∷ []) e)
-
--- the pieces of neighbouring kinds, and of those that have none
-pub two-three : {k : ℕ} → 2 ≤ k → k < 4 → pieces (layout k) 0 ≡ single 0 ∷ single 1 ∷ []
-unfolding layout pieces
-two-three {k} h l = elim (ℕ-discrete k 2) [ yes e ↦ rw e refl | no y ↦ let e : k ≡ 3 = omega arith in rw e refl ]
-
-pub seven-nine : {k : ℕ} → 7 ≤ k → k < 10 → pieces (layout k) 0 ≡ single 3 ∷ []
-unfolding layout pieces
-seven-nine {k} h l = elim (ℕ-discrete k 7) [ yes e ↦ rw e refl | no y ↦ elim (ℕ-discrete k 8) [ yes e ↦ rw e refl | no z ↦ let e : k ≡ 9 = omega arith in rw e refl ] ]
-
--- the kinds from 10 on that hold rows
-abbrev parents : List ℕ
-parents = 15 ∷ 16 ∷ 17 ∷ 18 ∷ 19 ∷ 20 ∷ 21 ∷ 22 ∷ 23 ∷ []
-
-abbrev none : List Piece → Bool
-none [] = true
-none (p ∷ ps) = false
-
-pub others : {k : ℕ} → 10 ≤ k → None k parents → pieces (layout k) 0 ≡ []
-unfolding layout pieces
-others {k} l n = empty _ (elim (decLt k 27) [ yes z ↦ rw (not-among k parents n) at (within (λ j. among parents j || none (pieces (layout j) 0)) 10 17 k tt l (omega arith)) | no z ↦ rw (List·getD-eq-default layouts [] {n = k} (omega arith)) tt ])
-  where
-    empty : (ps : List Piece) → T (none ps) → ps ≡ []
-    empty [] t = refl
-    empty (p ∷ ps) t = absurd t

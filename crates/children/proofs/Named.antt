@@ -8,15 +8,16 @@ use mathlib.Core.Path.{_≡_, refl, sym, ap, _∙_}
 use lib.Dec.{T, eqb}
 use lib.ListN.{length, getD, drop, length-drop, List·getD-eq-default}
 use Rattle.grammar.specs.Handle.{absent}
-use Rattle.grammar.specs.Layout.{Slot, layout, layouts}
+use Rattle.grammar.specs.Layout.{layout, layouts}
 use Rattle.grammar.specs.Naming.{linked-nodes, linked-entries, naming, named-by}
 use Rattle.grammar.specs.Room.{node-width, link-width}
 use Rattle.grammar.specs.Rows.{Rows}
+use Rattle.grammar.proofs.Pieces.{Piece, single, list, pieces, linked, rows, naming-pieces}
 use Rattle.grammar.proofs.Tests.{within}
 use Rattle.children.specs.Below.{one-more, listing, placed, Below, held, many, children, Child}
 use Rattle.children.specs.declared.Children.{Children}
 use Rattle.children.proofs.Laws.{in-list, places-length}
-use Rattle.children.proofs.Pieces.{Piece, single, list, pieces, each-of, first-on, second-on, past-one, past-two, past-three, arranged, placed-pieces}
+use Rattle.children.proofs.Arranged.{each-of, arranged, placed-pieces}
 
 -- absent ones left out
 abbrev pub present : List ℕ → List ℕ
@@ -32,35 +33,6 @@ answers (suc n) f = f 0 ∷ answers n (λ i. f (suc i))
 pub answers-list : (xs : List ℕ) (f : ℕ → ℕ) → ((i : ℕ) → i < length xs → f i ≡ getD xs i absent) → answers (length xs) f ≡ xs
 answers-list [] f h = refl
 answers-list (x ∷ xs) f h = rw (h 0 (omega arith), answers-list xs (λ i. f (suc i)) (λ i l. h (suc i) (omega arith)))
-
--- the rows that pieces name
-abbrev linked : (two : Bool) (count : ℕ) (links : List ℕ) → List ℕ
-linked false n ls = linked-nodes n ls
-linked true n ls = linked-entries n ls
-
-module _ (ls xs : List ℕ) where
-  unfoldable rows : List Piece → List ℕ
-  rows [] = []
-  rows (single i ∷ ps) = getD xs i 0 ∷ rows ps
-  rows (list t i ∷ ps) = linked t (getD xs (suc i) 0) (drop (link-width * getD xs i 0) ls) ++ rows ps
-
-  after-row : (i : ℕ) {rs ts : List ℕ} → rs ≡ ts → getD (drop i xs) 0 0 ∷ rs ≡ getD xs i 0 ∷ ts
-  after-row i e = let f = first-on xs i in cc
-
-  after-list : (t : Bool) (i : ℕ) {rs ts : List ℕ} → rs ≡ ts → linked t (getD (drop i xs) 1 0) (drop (link-width * getD (drop i xs) 0 0) ls) ++ rs ≡ linked t (getD xs (suc i) 0) (drop (link-width * getD xs i 0) ls) ++ ts
-  after-list t i e = let f = first-on xs i in let g = second-on xs i in cc
-
-  naming-pieces : (ss : List Slot) (i : ℕ) → naming ls ss (drop i xs) ≡ rows (pieces ss i)
-  unfolding naming pieces rows
-  naming-pieces [] i = refl
-  naming-pieces (Slot.below n ∷ ss) i = ap (naming ls ss) (past-one xs i) ∙ naming-pieces ss (suc i)
-  naming-pieces (Slot.child ∷ ss) i = after-row i (ap (naming ls ss) (past-one xs i) ∙ naming-pieces ss (suc i))
-  naming-pieces (Slot.option ∷ ss) i = after-row i (ap (naming ls ss) (past-one xs i) ∙ naming-pieces ss (suc i))
-  naming-pieces (Slot.symbol ∷ ss) i = ap (naming ls ss) (past-one xs i) ∙ naming-pieces ss (suc i)
-  naming-pieces (Slot.name ∷ ss) i = ap (naming ls ss) (past-three xs i) ∙ naming-pieces ss (suc (suc (suc i)))
-  naming-pieces (Slot.nodes ∷ ss) i = after-list false i (ap (naming ls ss) (past-two xs i) ∙ naming-pieces ss (suc (suc i)))
-  naming-pieces (Slot.names ∷ ss) i = ap (naming ls ss) (past-two xs i) ∙ naming-pieces ss (suc (suc i))
-  naming-pieces (Slot.entries ∷ ss) i = after-list true i (ap (naming ls ss) (past-two xs i) ∙ naming-pieces ss (suc (suc i)))
 
 -- links that stand in the room hold what they name
 held-linked : (t : Bool) (n : ℕ) (ls : List ℕ) → link-width * n ≤ length ls → held (each-of t) n ls ≡ linked t n ls

@@ -1,13 +1,12 @@
 // What stands below a row of a tree, in the order of the text. Every function answers for any numbers: what is not there is ABSENT, so that a walk needs no promise
 // about the rows.
+use ast::NODE_WIDTH;
+use ast::kinds;
 ghost use Prim.Native.Nat.{_+_, _*_};
 ghost use mathlib.Core.Path.{_≡_};
 ghost use Rattle.grammar.specs.Handle.{absent};
 ghost use Rattle.grammar.specs.Room.{node-width, link-width};
 ghost use Rattle.children.specs.Below.{Number, three, Below, Linked, Places, Child};
-
-// The numbers of a node row.
-const NODE_WIDTH: usize = 9;
 
 // The numbers of a link row.
 const LINK_WIDTH: usize = 3;
@@ -92,17 +91,21 @@ pub fn below(nodes: &[u32], row: u32) -> Children
     let b = node(nodes, row, 4);
     let c = node(nodes, row, 5);
     match node(nodes, row, 0) {
-        1 => fixed(b, c, ABSENT),
-        2 | 3 | 6 | 22 => fixed(a, b, ABSENT),
-        4 | 16 | 23 => fixed(a, ABSENT, ABSENT),
-        5 => fixed(b, ABSENT, ABSENT),
-        7..=9 => fixed(node(nodes, row, 6), ABSENT, ABSENT),
-        15 => listed(a, b, c, 1, ABSENT),
-        17 => listed(ABSENT, a, b, 2, ABSENT),
-        18 => fixed(node(nodes, row, 8), ABSENT, ABSENT),
-        19 => fixed(c, ABSENT, ABSENT),
-        20 => listed(ABSENT, a, b, 1, c),
-        21 => fixed(a, b, c),
+        kinds::BINARY => fixed(b, c, ABSENT),
+        kinds::LOGICAL_AND | kinds::LOGICAL_OR | kinds::ASSIGN | kinds::WHILE_LOOP => fixed(
+            a,
+            b,
+            ABSENT,
+        ),
+        kinds::LOGICAL_NOT | kinds::PROPERTY_ACCESS | kinds::RETURN => fixed(a, ABSENT, ABSENT),
+        kinds::UNARY => fixed(b, ABSENT, ABSENT),
+        kinds::VARIABLE..=kinds::REF => fixed(node(nodes, row, 6), ABSENT, ABSENT),
+        kinds::FUNCTION_CALL => listed(a, b, c, 1, ABSENT),
+        kinds::MAP => listed(ABSENT, a, b, 2, ABSENT),
+        kinds::FUNCTION => fixed(node(nodes, row, 8), ABSENT, ABSENT),
+        kinds::LAMBDA => fixed(c, ABSENT, ABSENT),
+        kinds::BLOCK => listed(ABSENT, a, b, 1, c),
+        kinds::IF => fixed(a, b, c),
         _ => fixed(ABSENT, ABSENT, ABSENT),
     }
 }

@@ -59,7 +59,7 @@ pub fn lengths(
     if 64 < limit {
         return 3;
     }
-    if nodes / 9 < tokens {
+    if nodes / 10 < tokens {
         return 4;
     }
     if links / 3 < tokens {

@@ -20,9 +20,11 @@ pub mod Words
 pub mod Sizes
 pub mod Order
 pub mod Shapes
+pub mod Pieces
 pub mod Forest
 pub mod Decoding
 pub mod Trees
+pub mod Parents
 pub mod Calls
 pub mod Demands
 -- samples

@@ -6,6 +6,7 @@ use native.Mathlib.Omega.{arith}
 use Rattle.grammar.specs.Handle.{absent}
 use Rattle.grammar.specs.Layout.{layout}
 use Rattle.grammar.specs.Naming.{linked-nodes, linked-entries, naming, named-by, named-below, Rising}
+use Rattle.grammar.specs.Parent.{parent, parented-below}
 use Rattle.grammar.specs.Named.{Naming-right}
 
 -- what rises lies below, and from where it starts
@@ -14,7 +15,7 @@ lies (Rising.skip r) h = absurd (omega arith)
 lies (Rising.next l u r) h = (l, u, r)
 
 pub naming-right : Naming-right
-unfolding named-below named-by naming layout linked-nodes linked-entries
+unfolding parented-below parent named-below named-by naming layout linked-nodes linked-entries
 naming-right = record {
   names = refl;
   operators = refl;
@@ -27,4 +28,8 @@ naming-right = record {
   itself = λ t. let r : Rising 0 0 (0 ∷ []) = t .rising 0 (omega arith) in let h = lies r (omega arith) .1 in omega arith;
   earlier = λ t. let r : Rising 0 0 (1 ∷ []) = t .rising 0 (omega arith) in let h = lies r (omega arith) .1 in omega arith;
   falling = λ t. let r : Rising 2 0 (1 ∷ 0 ∷ []) = t .rising 2 (omega arith) in let h = lies (lies r (omega arith) .2) (omega arith) .0 in omega arith;
+  parents = refl;
+  root-zero = λ p. let h : _≡_ {A = ℕ} 0 absent = p .root in omega arith;
+  left-zero = λ p. let h : 0 < 0 = p .parents 0 (omega arith) .later in omega arith;
+  further = λ p. let h : _≡_ {A = ℕ} 0 1 = p .parents 0 (omega arith) .names in omega arith;
 }

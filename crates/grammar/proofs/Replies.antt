@@ -10,13 +10,16 @@ use Rattle.grammar.specs.Call.{Call}
 use Rattle.grammar.specs.Derivative.{nullable, after, matches}
 use Rattle.grammar.specs.Handle.{block-tail, block-list}
 use Rattle.grammar.specs.Kaori.{above, rules, kaori}
+use Rattle.grammar.specs.Layout.{layout}
 use Rattle.grammar.specs.Lexeme.{spelling}
+use Rattle.grammar.specs.Naming.{linked-nodes, linked-entries, naming, named-by}
 use Rattle.grammar.specs.Outcome.{Outcome, accepted, refusal, Comes}
+use Rattle.grammar.specs.Parent.{parent, parented-below, written}
 use Rattle.grammar.specs.Pattern.{literal}
 use Rattle.grammar.specs.Refusal.{refused}
 use Rattle.grammar.specs.Replies.{Reply, All-answered, replies}
 use Rattle.grammar.specs.Room.{Rooms}
-use Rattle.grammar.specs.Rows.{links-of, numbers, write, fill, put, make, walk, written}
+use Rattle.grammar.specs.Rows.{links-of, numbers, write, fill, put, make, walk, unparented}
 use Rattle.grammar.specs.Rule.{rule}
 use Rattle.grammar.specs.Symbol.{same, seek, interned, symbol-rows, symbol}
 use Rattle.grammar.specs.Token.{start, end}
@@ -49,5 +52,5 @@ all-answered (r ∷ rs) e =
     (replied (r .call) (verdict (r .call)) (coming (r .call .text) (r .call .tokens) (r .call .limit)) (λ p. right (r .call .text) (r .call .tokens) (r .call .limit) (answer (r .call .text) (r .call .tokens) (r .call .limit)) {o = p}) (cc), all-answered rs (cc))
 
 pub replies-right : All-answered replies
-unfolding reply verdict look-through each ask find by-test also implies denied carried text-is matched fitting parted sounds closes in-bytes in-tokens in-ends decLe literal spelling coming answer outcome-of reader kaori rules above matches after nullable ℕ-discrete decLt written walk make put fill write numbers links-of symbol symbol-rows interned seek same rule block-list block-tail
+unfolding reply verdict look-through each ask find by-test also implies denied carried text-is matched fitting parted sounds closes in-bytes in-tokens in-ends decLe literal spelling coming answer outcome-of reader kaori rules above matches after nullable ℕ-discrete decLt written parented-below parent named-by naming linked-nodes linked-entries layout unparented walk make put fill write numbers links-of symbol symbol-rows interned seek same rule block-list block-tail
 replies-right = all-answered replies refl

@@ -13,7 +13,7 @@ use Rattle.grammar.specs.Label.{Node, Label}
 use Rattle.grammar.specs.Operator.{levels}
 use Rattle.grammar.specs.Phrase.{empty, token, part, nested, node, choice, chain, once, refusal, Tree, none, more, deeper, made, Aim, Reads}
 use Rattle.grammar.specs.Room.{node-width, link-width}
-use Rattle.grammar.specs.Rows.{Rows, blank, links-of, numbers, write, fill, Walked, parts, put, make, walk, written}
+use Rattle.grammar.specs.Rows.{Rows, blank, links-of, numbers, write, fill, Walked, parts, put, make, walk, unparented}
 use Rattle.grammar.specs.Rule.{Field, number, child, named, list, Row, writes, fields, rule}
 use Rattle.grammar.proofs.Machine.{asked}
 use Rattle.grammar.proofs.Tables.{each, each-mapped, in-tables}
@@ -92,7 +92,7 @@ handles r = length (r .first) + length (r .rest)
 
 -- what r has grown to from the rows w and n handles, with k tokens
 pub record Grown (w : Rows) (n k : ℕ) (r : Walked) : Type 0 where
-  pub nodes : length (r .rows .nodes) ≤ length (w .nodes) + 9 * k
+  pub nodes : length (r .rows .nodes) ≤ length (w .nodes) + node-width * k
   pub links : length (r .rows .links) + 3 * handles r ≤ length (w .links) + 3 * (n + k)
 
 -- link rows that fields write
@@ -131,7 +131,7 @@ block-list-length (h ∷ g ∷ hs) = omega (arith, block-list-length (g ∷ hs))
 
 -- rows from w to v: one node row, and l link rows
 pub record Filled (l : ℕ) (w v : Rows) : Type 0 where
-  pub nodes : length (v .nodes) ≡ length (w .nodes) + 9
+  pub nodes : length (v .nodes) ≡ length (w .nodes) + node-width
   pub links : length (v .links) ≡ length (w .links) + 3 * l
 
 pub filled : (fs : List Field) (xs : List ℕ) (w : Rows) → Filled (lists fs) w (fill fs xs w)
@@ -253,9 +253,9 @@ module _ (ts : List ℕ) (symbol : ℕ → ℕ) where
 
   -- the rows of a script whose Eof stands at n fit rooms of n + 1 rows
   pub record Room (n : ℕ) (w : Rows) : Type 0 where
-    pub nodes : length (w .nodes) ≤ 9 * (n + 1)
+    pub nodes : length (w .nodes) ≤ node-width * (n + 1)
     pub links : length (w .links) ≤ 3 * (n + 1)
 
-  pub script-room : {kind : ℕ → ℕ} {n : ℕ} {t : Tree Label} → Script kind n t → Room n (written ts symbol t)
-  unfolding written walk spare paid
+  pub script-room : {kind : ℕ → ℕ} {n : ℕ} {t : Tree Label} → Script kind n t → Room n (unparented ts symbol t)
+  unfolding unparented walk spare paid
   script-room (Reads.labelled {b = b} x) = let (k, i, g) = pays x tt .pay blank in let h = labelled Label.Script 0 b g in omega arith

@@ -15,6 +15,7 @@ pub mod Rule
 pub mod Rows
 pub mod Layout
 pub mod Naming
+pub mod Parent
 pub mod Outcome
 pub mod Call
 pub mod Door

@@ -29,8 +29,8 @@ pub(crate) fn list_rows(nodes: &[u32], links: &[u32], symbols: &[u32], n: u32, l
     write(&room, all);
     let a = n as usize;
     if a <= 4096 {
-        if 9 * a <= nodes.len() {
-            lines(b"", 9, nodes, a);
+        if 10 * a <= nodes.len() {
+            lines(b"", 10, nodes, a);
         }
     }
     let b = l as usize;

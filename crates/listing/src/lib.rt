@@ -26,7 +26,7 @@ fn script(input: &[u8], size: usize, n: usize, out: &mut [u8; 262144]) -> usize
     let used = 3 * n;
     let mut tokens: [u32; 1536] = [0; 1536];
     fill(input, from, n, &mut tokens);
-    let mut nodes: [u32; 4608] = [0; 4608];
+    let mut nodes: [u32; 5120] = [0; 5120];
     let mut links: [u32; 1536] = [0; 1536];
     let mut symbols: [u32; 1024] = [0; 1024];
     let mut scratch: [u32; 1536] = [0; 1536];

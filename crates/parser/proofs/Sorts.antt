@@ -10,6 +10,7 @@ use Rattle.grammar.specs.Handle.{Handle, absent, row, link, is-tail, last}
 use Rattle.grammar.specs.Kaori.{Table, statement}
 use Rattle.grammar.specs.Label.{Label}
 use Rattle.grammar.specs.Phrase.{choice, Aim, whole}
+use Rattle.grammar.specs.Room.{node-width}
 use Rattle.grammar.specs.Rows.{Rows}
 use Rattle.grammar.proofs.Decoding.{Whole}
 use Rattle.grammar.proofs.Handles.{Known, All-known, Aligned, walk-sound}
@@ -23,7 +24,7 @@ use Rattle.reading.specs.State.{State, written, Within}
 -- what is written so far is whole rows
 whole-rows : {ts : List ℕ} {s : State} → Within ts s → Whole (written s)
 whole-rows {s = s} w =
-    let n = length-take-le (9 * s .cursor .nodes) (s .nodes) (omega (arith, w .rows, w .at, w .roomy .nodes)) in
+    let n = length-take-le (node-width * s .cursor .nodes) (s .nodes) (omega (arith, w .rows, w .at, w .roomy .nodes)) in
     let l = length-take-le (3 * s .cursor .links) (s .links) (omega (arith, w .links, w .at, w .roomy .links)) in
     record { nodes = omega arith; links = omega arith }
 
@@ -32,7 +33,7 @@ last-known All-known.nil = Known.other
 last-known (All-known.cons k All-known.nil) = k
 last-known (All-known.cons k (All-known.cons j ks)) = last-known (All-known.cons j ks)
 
-tail-row : {w : Rows} {h : Handle} → Known w h → is-tail h ≡ true → 9 * (row h + 1) ≤ length (w .nodes)
+tail-row : {w : Rows} {h : Handle} → Known w h → is-tail h ≡ true → node-width * (row h + 1) ≤ length (w .nodes)
 tail-row (Known.node h p q) e = h
 tail-row Known.name e = absurd (false≢true e)
 tail-row (Known.entry k v) e = absurd (false≢true e)
@@ -45,7 +46,7 @@ pub tail-present : {ts : List ℕ} {limit o : ℕ} {g : Aim Table Label} {s s′
 unfolding Aligned
 tail-present {ts} {s = s} {s′ = s′} {hs = hs} i w r e z =
     let k : All-known (written s′) hs = rw (r .rows) at (walk-sound ts (names-of ts (s .scratch)) (r .tree) (written s) (whole-rows w .nodes) .first) in
-    omega (arith, tail-row (last-known k) e, length-take (9 * s′ .cursor .nodes) (s′ .nodes))
+    omega (arith, tail-row (last-known k) e, length-take (node-width * s′ .cursor .nodes) (s′ .nodes))
 
 row-link : (h : Handle) → Fits one (h ∷ []) → link h ≡ row h ∷ 0 ∷ 0 ∷ []
 row-link (Handle.node i s e) f = refl

@@ -9,6 +9,7 @@ use Rattle.grammar.specs.Handle.{Handle}
 use Rattle.grammar.specs.Kaori.{Form, Table, kaori}
 use Rattle.grammar.specs.Label.{Label}
 use Rattle.grammar.specs.Phrase.{node, Aim, whole}
+use Rattle.grammar.specs.Room.{node-width}
 use Rattle.grammar.specs.Rows.{Walked}
 use Rattle.grammar.specs.Token.{count}
 use Rattle.grammar.proofs.Machine.{asked}
@@ -49,8 +50,8 @@ module _ {ts : List ℕ} where
       let gn = rw z at (g .nodes) in
       let gl = rw z at (g .links) in
       let ll = rw z at l in
-      let n = length-take (9 * s .cursor .nodes) (s .nodes) in
-      let n′ = length-take (9 * s′ .cursor .nodes) (s′ .nodes) in
+      let n = length-take (node-width * s .cursor .nodes) (s .nodes) in
+      let n′ = length-take (node-width * s′ .cursor .nodes) (s′ .nodes) in
       let m = length-take (3 * s .cursor .links) (s .links) in
       let m′ = length-take (3 * s′ .cursor .links) (s′ .links) in
       let rs = i .roomy in
@@ -90,8 +91,8 @@ module _ {ts : List ℕ} {limit : ℕ} where
       let roomy₁ = roomy-on (i .roomy) (r .rooms) in
       let roomy₂ = roomy-on roomy₁ (m .rooms) in
       let at₂ = m .at in
-      let n = length-take (9 * s₁ .cursor .nodes) (s₁ .nodes) in
-      let n′ = length-take (9 * s₂ .cursor .nodes) (s₂ .nodes) in
+      let n = length-take (node-width * s₁ .cursor .nodes) (s₁ .nodes) in
+      let n′ = length-take (node-width * s₂ .cursor .nodes) (s₂ .nodes) in
       let l = length-take (3 * s₁ .cursor .links) (s₁ .links) in
       let l′ = length-take (3 * s₂ .cursor .links) (s₂ .links) in
       record {

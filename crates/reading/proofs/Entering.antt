@@ -10,6 +10,7 @@ use Rattle.ast.specs.Written.{Written}
 use Rattle.ast.specs.declared.Node.{Node}
 use Rattle.grammar.specs.Handle.{Handle}
 use Rattle.grammar.specs.Label.{Label}
+use Rattle.grammar.specs.Room.{node-width}
 use Rattle.grammar.specs.Rows.{Walked, padded, make, keep}
 use Rattle.names.specs.Resolved.{names-of}
 use Rattle.reading.specs.Answers.{node-of}
@@ -19,8 +20,8 @@ use Rattle.reading.specs.declared.Cursor.{Cursor}
 use Rattle.reading.proofs.Laws.{Made}
 
 -- the number of whole rows
-pub row-number : (n : ℕ) (ns : List ℕ) → 9 * n ≤ length ns → length (take (9 * n) ns) / 9 ≡ n
-row-number n ns h = let e = length-take-le (9 * n) ns h in omega arith
+pub row-number : (n : ℕ) (ns : List ℕ) → node-width * n ≤ length ns → length (take (node-width * n) ns) / node-width ≡ n
+row-number n ns h = let e = length-take-le (node-width * n) ns h in omega arith
 
 pub link-number : (n : ℕ) (ls : List ℕ) → 3 * n ≤ length ls → length (take (3 * n) ls) / 3 ≡ n
 link-number n ls h = let e = length-take-le (3 * n) ls h in omega arith
@@ -32,14 +33,14 @@ grown-by c n = record { at = c .at; nodes = c .nodes + 1; links = c .links + n; 
 -- what a node writes: these numbers as its row, and these links
 abbrev pub entered : (c : Cursor) (ns ls : List ℕ) (k st en : ℕ) (fields links : List ℕ) → Walked
 entered c ns ls k st en fields links =
-    keep (record { nodes = take (9 * c .nodes) ns ++ padded (k ∷ st ∷ en ∷ fields); links = take (3 * c .links) ls ++ links }) (Handle.node (length (take (9 * c .nodes) ns) / 9) st en ∷ [])
+    keep (record { nodes = take (node-width * c .nodes) ns ++ padded (k ∷ st ∷ en ∷ fields); links = take (3 * c .links) ls ++ links }) (Handle.node (length (take (node-width * c .nodes) ns) / node-width) st en ∷ [])
 
 abbrev pub entered-alone : (c : Cursor) (ns ls : List ℕ) (k st en : ℕ) (fields : List ℕ) → Walked
 entered-alone c ns ls k st en fields =
-    keep (record { nodes = take (9 * c .nodes) ns ++ padded (k ∷ st ∷ en ∷ fields); links = take (3 * c .links) ls }) (Handle.node (length (take (9 * c .nodes) ns) / 9) st en ∷ [])
+    keep (record { nodes = take (node-width * c .nodes) ns ++ padded (k ∷ st ∷ en ∷ fields); links = take (3 * c .links) ls }) (Handle.node (length (take (node-width * c .nodes) ns) / node-width) st en ∷ [])
 
 module _ {ts : List ℕ} {f : Label} {a : ℕ} {xs zs : List Handle} {ns ns′ ls ss : List ℕ} {c : Cursor} {k st en : ℕ} {fields : List ℕ} {n : Node} where
-  pub row-made : Inserted (c .nodes) k st en fields ns ns′ n → 9 * c .nodes ≤ length ns →
+  pub row-made : Inserted (c .nodes) k st en fields ns ns′ n → node-width * c .nodes ≤ length ns →
       make ts (names-of ts ss) f a (c .at) (written (state ns ls ss c)) xs zs ≡ entered-alone c ns ls k st en fields →
       Made ts f a (state ns ls ss c) xs zs (node-of n ∷ []) (state ns′ ls ss (grown c))
   row-made i h e =
@@ -52,7 +53,7 @@ module _ {ts : List ℕ} {f : Label} {a : ℕ} {xs zs : List Handle} {ns ns′ l
         kept = refl;
       }
 
-  pub list-made : {ls′ links : List ℕ} (m : ℕ) → Inserted (c .nodes) k st en fields ns ns′ n → 9 * c .nodes ≤ length ns → Written (3 * c .links) (3 * (c .links + m)) links ls ls′ →
+  pub list-made : {ls′ links : List ℕ} (m : ℕ) → Inserted (c .nodes) k st en fields ns ns′ n → node-width * c .nodes ≤ length ns → Written (3 * c .links) (3 * (c .links + m)) links ls ls′ →
       make ts (names-of ts ss) f a (c .at) (written (state ns ls ss c)) xs zs ≡ entered c ns ls k st en fields links →
       Made ts f a (state ns ls ss c) xs zs (node-of n ∷ []) (state ns′ ls′ ss (grown-by c m))
   list-made m i h w e =

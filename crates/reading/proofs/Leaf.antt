@@ -13,6 +13,7 @@ use Rattle.grammar.specs.Kind.{Dot, True, False, Semicolon, StringLiteral, Iden
 use Rattle.grammar.specs.Label.{Label, Node as Form-of, number-of}
 use Rattle.grammar.specs.Phrase.{node, Tree, made, none, Aim, whole, begun, Reads}
 use Rattle.grammar.specs.Refusal.{Refused, Refuses}
+use Rattle.grammar.specs.Room.{node-width}
 use Rattle.grammar.specs.Rows.{make, put, fill, numbers, write, walk}
 use Rattle.grammar.specs.Rule.{rule}
 use Rattle.grammar.specs.Token.{kind, start, end, count}
@@ -57,7 +58,7 @@ pub single-read : {ts ns ls ss ns′ : List ℕ} {limit o x : ℕ} {c d : Cursor
 single-read {ts} {ns} {ls} {ss} {ns′} {x = x} {c = c} {place = place} {n = n} e r s t i =
     let b = single-below s in
     let j : Inserted (c .nodes) (number-of (single-node x)) (start ts (c .at)) (end ts (c .at)) (single-fields x) ns ns′ n = rw (t .after, t .node-is) at i in
-    let room : 9 * c .nodes ≤ length ns = omega (arith, r .within .rows, r .within .at, r .within .roomy .nodes) in
+    let room : node-width * c .nodes ≤ length ns = omega (arith, r .within .rows, r .within .at, r .within .roomy .nodes) in
     rw (e, t .after) (leaf-read r (t .kind-is) (more-tokens (r .lent) (r .within .at) (t .kind-is) (λ z. omega arith)) (row-made j room (single-row ts ns ls ss (c .at) (next c) s (t .kind-is))))
 
 -- where a token was just taken there is room for a row
@@ -72,7 +73,7 @@ unfolding make put fill numbers write rule
 string-read {ts} {ns} {ls} {ss} {ns′} {c = c} {n = n} e r t y i =
     let k = t .kind-is in
     let j : Inserted (c .nodes) (number-of Form-of.String) (start ts (c .at)) (end ts (c .at)) (names-of ts ss (c .at) ∷ []) ns ns′ n = rw (t .after, t .node-is, y) at i in
-    let room : 9 * c .nodes ≤ length ns = omega (arith, r .within .rows, r .within .at, r .within .roomy .nodes) in
+    let room : node-width * c .nodes ≤ length ns = omega (arith, r .within .rows, r .within .at, r .within .roomy .nodes) in
     rw (e, t .after) (leaf-read r k (more-tokens (r .lent) (r .within .at) k (λ z. omega arith)) (row-made j room refl))
 
 -- what was read as a name is one token: what it made
@@ -94,12 +95,12 @@ name-made r =
     }
 
 -- a name with a row is an identifier
-identifier-made : {ts ns ls ss ns′ : List ℕ} {a : ℕ} {s : State} {c : Cursor} {word n : Node} → Made ts Label.Name a s [] [] (name-of word ∷ []) (state ns ls ss c) → 9 * c .nodes ≤ length ns →
+identifier-made : {ts ns ls ss ns′ : List ℕ} {a : ℕ} {s : State} {c : Cursor} {word n : Node} → Made ts Label.Name a s [] [] (name-of word ∷ []) (state ns ls ss c) → node-width * c .nodes ≤ length ns →
     Inserted (c .nodes) (number-of Form-of.Identifier) (word .start) (word .end) (word .id ∷ word .start ∷ word .end ∷ []) ns ns′ n →
     Made ts (Label.Row Form-of.Identifier) a s [] [] (node-of n ∷ []) (state ns′ ls ss (grown c))
 unfolding make put fill numbers write rule
 identifier-made {ts} {ns} {ls} {a = a} {s = s} {c = c} {word = word} m h i =
-    let nodes : take (9 * s .cursor .nodes) (s .nodes) ≡ take (9 * c .nodes) ns = ap (λ w. w .rows .nodes) (m .makes) in
+    let nodes : take (node-width * s .cursor .nodes) (s .nodes) ≡ take (node-width * c .nodes) ns = ap (λ w. w .rows .nodes) (m .makes) in
     let links : take (3 * s .cursor .links) (s .links) ≡ take (3 * c .links) ls = ap (λ w. w .rows .links) (m .makes) in
     let id : names-of ts (s .scratch) a ≡ word .id = ap (λ w. getD (link (head (w .first))) 0 0) (m .makes) in
     let from-is : start ts a ≡ word .start = ap (λ w. from (head (w .first))) (m .makes) in
@@ -119,7 +120,7 @@ pub identifier-read : {ts ns ls ss ns′ : List ℕ} {limit o : ℕ} {c d : Curs
     Answered ts limit node-of (whole (leaf Form-of.Identifier Identifier)) o (state ns₀ ls₀ ss₀ c) ns′ ls ss q
 identifier-read {ts = ts} {ns = ns} {c = c} {d = d} e r z i =
     let (k, b, t) = read-name (z .reading .reads) in
-    let room : 9 * d .nodes ≤ length ns = omega (arith, z .within .rows, z .within .at, z .within .roomy .nodes) in
+    let room : node-width * d .nodes ≤ length ns = omega (arith, z .within .rows, z .within .at, z .within .roomy .nodes) in
     let h : c .at + 1 < count ts = omega (arith, z .within .at) in
     rw e (leaf-read r k h (identifier-made (name-made (z .reading)) room i))
 
@@ -137,7 +138,7 @@ module _ {ts ns₀ ls₀ ss₀ ns ls ss : List ℕ} {limit o : ℕ} {p : Form} {
   property-read {ns′} {e} {word} {n} f z i =
       let y : Success ts limit (whole name) o (state ns₀ ls₀ ss₀ (next c)) (name-of word ∷ []) (state ns ls ss e) = rw (t .after) at z in
       let j : Inserted (e .nodes) (number-of Form-of.PropertyAccess) (start ts (c .at)) (word .end) (object .id ∷ word .id ∷ word .start ∷ word .end ∷ []) ns ns′ n = rw (t .node-is) at i in
-      let room : 9 * e .nodes ≤ length ns = omega (arith, z .within .rows, z .within .at, z .within .roomy .nodes) in
+      let room : node-width * e .nodes ≤ length ns = omega (arith, z .within .rows, z .within .at, z .within .roomy .nodes) in
       let k = t .kind-is in
       rw f (goes (y .past) (going-link (r .within) (ap (kaori calls) k) (taken k (y .reading)) (row-made j room refl) (z .within .at)))
 

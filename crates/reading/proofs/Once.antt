@@ -14,6 +14,7 @@ use Rattle.grammar.specs.Handle.{Handle, row, absent}
 use Rattle.grammar.specs.Kaori.{Form, may-end, must-end, rules, kaori}
 use Rattle.grammar.specs.Kind.{Eof}
 use Rattle.grammar.specs.Phrase.{whole}
+use Rattle.grammar.specs.Room.{node-width}
 use Rattle.grammar.specs.Rows.{links-of, walk}
 use Rattle.grammar.proofs.Machine.{one-reading, read-not-refused, one-refusal}
 use Rattle.names.specs.Resolved.{names-of}
@@ -64,7 +65,7 @@ module _ {ts : List ℕ} {limit o : ℕ} {p : Form} {s s₁ s₂ : State} {hs hs
       let w : written s₁ ≡ written s₂ = ap (λ v. v .rows) e in
       let v = x .within in
       let u = y .within in
-      let n = rows-counted 9 (s₁ .cursor .nodes) (s₂ .cursor .nodes) (s₁ .nodes) (s₂ .nodes) (omega (arith, v .rows, v .at, v .roomy .nodes)) (omega (arith, u .rows, u .at, u .roomy .nodes))
+      let n = rows-counted node-width (s₁ .cursor .nodes) (s₂ .cursor .nodes) (s₁ .nodes) (s₂ .nodes) (omega (arith, v .rows, v .at, v .roomy .nodes)) (omega (arith, u .rows, u .at, u .roomy .nodes))
       (ap (λ r. r .nodes) w) in
       let l = rows-counted 3 (s₁ .cursor .links) (s₂ .cursor .links) (s₁ .links) (s₂ .links) (omega (arith, v .links, v .at, v .roomy .links))
       (omega (arith, u .links, u .at, u .roomy .links)) (ap (λ r. r .links) w) in

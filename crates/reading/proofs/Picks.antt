@@ -18,6 +18,7 @@ use Rattle.grammar.specs.Label as label
 use Rattle.grammar.specs.Operator.{joining, place, binary-operators}
 use Rattle.grammar.specs.Phrase.{empty, token, node, choice, refusal, whole}
 use Rattle.grammar.specs.Refusal.{Refuses}
+use Rattle.grammar.specs.Room.{node-width}
 use Rattle.grammar.specs.Rows.{make, put, fill, numbers, write}
 use Rattle.grammar.specs.Rule.{rule}
 use Rattle.grammar.specs.Token.{kind, start, end}
@@ -140,6 +141,6 @@ joined-row ts a b n m c ns ls ss = pick (eqb (kind ts a) And) (eqb (kind ts a) O
     pick false false = refl
 
 pub operator-made : {ts : List ℕ} {a x : ℕ} {n m k : Node} {c : Cursor} {ns ns′ ls ss : List ℕ} → x ≡ kind ts a →
-    Inserted (c .nodes) (number-of (joining x)) (n .start) (m .end) (joined-fields x (n .id) (m .id)) ns ns′ k → 9 * c .nodes ≤ length ns →
+    Inserted (c .nodes) (number-of (joining x)) (n .start) (m .end) (joined-fields x (n .id) (m .id)) ns ns′ k → node-width * c .nodes ≤ length ns →
     Made ts (Label.Row (joining (kind ts a))) a (state ns ls ss c) (node-of n ∷ []) (node-of m ∷ []) (node-of k ∷ []) (state ns′ ls ss (grown c))
 operator-made {ts} {a} {n = n} {m = m} {c = c} {ns = ns} {ls = ls} {ss = ss} e i h = row-made (rw e at i) h (joined-row ts a (c .at) n m c ns ls ss)

@@ -2,10 +2,12 @@
 -- the rows of a script's tree; and what is refused among them is the script's refusal.
 use Prim.Native.Nat.{ℕ, _+_, _-_, _*_, _/_, _≤_, _<_}
 use native.Mathlib.Decide.{ℕ-discrete}
+use native.Mathlib.Nat.{mul-div-cancel-left}
 use native.Mathlib.Omega.{arith}
-use mathlib.Core.List.{List, [], _∷_}
+use mathlib.Core.List.{List, [], _∷_, _++_}
 use mathlib.Core.Path.{_≡_, refl, sym, ap, subst, _∙_}
-use lib.ListN.{length, take}
+use lib.ListN.{length, take, drop, length-append, length-drop}
+use lib.Seq.{length-take-le, take-at}
 use Rattle.ast.specs.Inserted.{Inserted}
 use Rattle.ast.specs.Written.{Written, Cleared}
 use Rattle.ast.specs.declared.Node.{Node}
@@ -20,19 +22,24 @@ use Rattle.grammar.specs.Handle.{absent}
 use Rattle.grammar.specs.Kaori.{script-items, Script}
 use Rattle.grammar.specs.Kind.{Eof}
 use Rattle.grammar.specs.Label.{Label}
+use Rattle.grammar.specs.Naming.{height}
 use Rattle.grammar.specs.Outcome.{Comes}
+use Rattle.grammar.specs.Parent.{parented, written}
 use Rattle.grammar.specs.Phrase.{empty, chain, whole, made, Tree, Reads, depth}
 use Rattle.grammar.specs.Refusal.{Refused, Refuses}
-use Rattle.grammar.specs.Room.{Rooms, cleared, filled}
-use Rattle.grammar.specs.Rows.{Rows, numbers as field-numbers, write, fill, put, make, walk, written}
+use Rattle.grammar.specs.Room.{node-width, Rooms, cleared, filled}
+use Rattle.grammar.specs.Rows.{Rows, numbers as field-numbers, write, fill, put, make, walk, unparented}
 use Rattle.grammar.specs.Symbol.{symbol-rows, symbol}
 use Rattle.grammar.specs.Token.{kind, count}
 use Rattle.grammar.proofs.Answers.{admitted-lent}
 use Rattle.grammar.proofs.Demands.{refused-place}
 use Rattle.grammar.proofs.Outcomes.{ends-at-eof}
+use Rattle.grammar.proofs.Parents.{parented-length}
 use Rattle.grammar.proofs.Symbols.{rows-few}
+use Rattle.grammar.proofs.Trees.{one-tree}
 use Rattle.names.specs.Resolved.{Open, Resolved, names-of}
 use Rattle.names.proofs.Readers.{names-are}
+use Rattle.parents.specs.Adopted.{first, Sound, Adopted}
 use Rattle.reading.specs.Answers.{Listed, List-case, Lists}
 use Rattle.reading.specs.Reading.{refusal, Refusing}
 use Rattle.reading.specs.State.{State, state, Opened}
@@ -47,22 +54,49 @@ use Rattle.syntax.specs.declared.Numbers.{Numbers}
 wiped : {l m : List ℕ} → Cleared 0 l m → m ≡ cleared l
 wiped {l} z = let e : length l - 0 ≡ length l = omega arith in z .zeros ∙ rw e
 
--- the root's row and links are written, and zeros after them
-pub rooted : {c : Cursor} {known : ℕ} {ns ls ys ss ns₁ ls₁ ns₂ ls₂ ys₂ ss₂ : List ℕ} {n : Node} {r : Numbers} → Root-fits c known (rooms ns ls ys ss) →
-    Written (3 * c .links) (3 * (c .links + c .held)) (take (3 * c .held) ss) ls ls₁ → Inserted (c .nodes) 20 0 0 (c .links ∷ c .held ∷ absent ∷ []) ns ns₁ n →
-    Cleared (9 * (c .nodes + 1)) ns₁ ns₂ → Cleared (3 * (c .links + c .held)) ls₁ ls₂ → Cleared (2 * known) ys ys₂ → Cleared 0 ss ss₂ →
-    numbers r ≡ record { code = 0; nodes = c .nodes + 1; links = c .links + c .held; symbols = known; at = 0; start = 0; end = 0; expected = 255 } →
-    Rooted c known (rooms ns ls ys ss) (rooms ns₂ ls₂ ys₂ ss₂) r
-rooted {c} {known} {ns} {ls} {ys} {ss} {ns₁} {ls₁} {ns₂} {ls₂} f w i zn zl zy zs e =
-    let v = i .row in
-    let nodes : length (with-root c (rooms ns ls ys ss) .nodes) / 9 ≡ c .nodes + 1 = ap (λ l. length l / 9) (sym (v .rows)) ∙
-    row-number 9 (c .nodes + 1) ns₁ (omega arith) (omega (arith, v .size, f .nodes)) in
-    let links : length (with-root c (rooms ns ls ys ss) .links) / 3 ≡ c .links + c .held = ap (λ l. length l / 3) (sym (w .rows)) ∙
-    row-number 3 (c .links + c .held) ls₁ (omega arith) (omega (arith, w .size, f .links)) in
-    let symbols : length (take (2 * known) ys) / 2 ≡ known = row-number 2 known ys (omega arith) (f .symbols) in
-    let n : ns₂ ≡ filled (with-root c (rooms ns ls ys ss) .nodes) ns = cleared-filled (omega (arith, v .size, f .nodes)) zn ∙ rw (v .rows, v .size) in
-    let l : ls₂ ≡ filled (with-root c (rooms ns ls ys ss) .links) ls = cleared-filled (omega (arith, w .size, f .links)) zl ∙ rw (w .rows, w .size) in
-    record { numbers-are = e ∙ rw (nodes, links, symbols); rooms-are = rw (n, l, cleared-filled (f .symbols) zy, wiped zs) }
+-- the root's row and links are written
+module _ {c : Cursor} {known : ℕ} {ns ls ys ss ns₁ ls₁ : List ℕ} {n : Node} (f : Root-fits c known (rooms ns ls ys ss))
+    (l : Written (3 * c .links) (3 * (c .links + c .held)) (take (3 * c .held) ss) ls ls₁) (i : Inserted (c .nodes) 20 0 0 (c .links ∷ c .held ∷ absent ∷ []) ns ns₁ n) where
+  abbrev all : Rows
+  all = with-root c (rooms ns ls ys ss)
+
+  abbrev used : List ℕ
+  used = take (3 * (c .links + c .held)) ls₁
+
+  written-rows : first (c .nodes + 1) used ns₁ ≡ all
+  written-rows = rw (i .row .rows, l .rows)
+
+  nodes-length : length (all .nodes) ≡ node-width * (c .nodes + 1)
+  nodes-length = ap length (sym (i .row .rows)) ∙ length-take-le (node-width * (c .nodes + 1)) ns₁ (omega (arith, i .row .size, f .nodes))
+
+  tall : height all ≡ c .nodes + 1
+  tall = rw nodes-length (mul-div-cancel-left (c .nodes + 1) (omega arith))
+
+  stand : node-width * height all ≡ length (all .nodes)
+  stand = rw (tall, nodes-length) refl
+
+  pub used-length : 3 * (c .links + c .held) ≡ length used
+  used-length = sym (length-take-le (3 * (c .links + c .held)) ls₁ (omega (arith, l .size, f .links)))
+
+  -- what is asked where the parents are put in
+  pub sound : Sound (c .nodes + 1) used ns₁
+  sound = record { room = omega (arith, i .row .size, f .nodes); rising = λ j h. rw written-rows (f .tree .rising j (rw tall h)) }
+
+  -- and they are, and zeros follow
+  pub rooted : {ns₂ ns₃ ls₂ ys₂ ss₂ : List ℕ} {r : Numbers} → Adopted (c .nodes + 1) used ns₁ ns₂ → Cleared (node-width * (c .nodes + 1)) ns₂ ns₃ → Cleared (3 * (c .links + c .held)) ls₁ ls₂ → Cleared (2 * known) ys ys₂ → Cleared 0 ss ss₂ →
+      numbers r ≡ record { code = 0; nodes = c .nodes + 1; links = c .links + c .held; symbols = known; at = 0; start = 0; end = 0; expected = 255 } →
+      Rooted c known (rooms ns ls ys ss) (rooms ns₃ ls₂ ys₂ ss₂) r
+  rooted {ns₂} {ns₃} {ls₂} a zn zl zy zs e =
+      let size : length (parented all .nodes) ≡ node-width * (c .nodes + 1) = parented-length all stand ∙ nodes-length in
+      let put : ns₂ ≡ parented all .nodes ++ drop (node-width * (c .nodes + 1)) ns₁ = a .room ∙ ap (λ w. parented w .nodes ++ drop (node-width * (c .nodes + 1)) ns₁) written-rows in
+      let kept : length ns₂ ≡ length ns = ap length put ∙ length-append (parented all .nodes) (drop (node-width * (c .nodes + 1)) ns₁) ∙ (simp length-drop (omega (arith, size, i .row .size, f .nodes))) in
+      let front : take (node-width * (c .nodes + 1)) ns₂ ≡ parented all .nodes = ap (take (node-width * (c .nodes + 1))) put ∙ take-at (parented all .nodes) _ (node-width * (c .nodes + 1)) size in
+      let nodes : length (parented all .nodes) / node-width ≡ c .nodes + 1 = rw size (mul-div-cancel-left (c .nodes + 1) (omega arith)) in
+      let links : length (all .links) / 3 ≡ c .links + c .held = ap (λ xs. length xs / 3) (sym (l .rows)) ∙ row-number 3 (c .links + c .held) ls₁ (omega arith) (omega (arith, l .size, f .links)) in
+      let symbols : length (take (2 * known) ys) / 2 ≡ known = row-number 2 known ys (omega arith) (f .symbols) in
+      let ns-are : ns₃ ≡ filled (parented all .nodes) ns = cleared-filled (omega (arith, kept, f .nodes)) zn ∙ rw (front, kept) in
+      let ls-are : ls₂ ≡ filled (all .links) ls = cleared-filled (omega (arith, l .size, f .links)) zl ∙ rw (l .rows, l .size) in
+      record { numbers-are = e ∙ rw (nodes, links, symbols); rooms-are = rw (ns-are, ls-are, cleared-filled (f .symbols) zy, wiped zs) }
 
 -- all rooms are cleared
 pub cut : {ts : List ℕ} {q : Refusal} {ns ls ys ss ns₁ ls₁ ys₁ ss₁ : List ℕ} {r : Numbers} → Cleared 0 ns ns₁ → Cleared 0 ls ls₁ → Cleared 0 ys ys₁ → Cleared 0 ss ss₁ →
@@ -136,6 +170,14 @@ module _ {text ts : List ℕ} {limit : ℕ} {before : Rooms} (d : Let-in text ts
       unfolding tree
       reads-script = Reads.labelled (l .reading .reads)
 
+      -- the rows that are read with the numbers of the scratch room are the tree's, with the grammar's symbols
+      read-rows : unparented ts (names-of ts scratch) tree ≡ with-root c (rooms ns ls symbols ss)
+      unfolding unparented walk make put fill field-numbers write tree
+      read-rows = let n : c .held ≡ length (l .items) = omega (arith, l .count) in rw (l .reading .rows, first-link (l .within), l .rows, n)
+
+      script-rows : unparented ts (symbol text ts) tree ≡ with-root c (rooms ns ls symbols ss)
+      script-rows = ap (λ σ. unparented ts σ tree) (sym (names-are (lent .whole) v)) ∙ read-rows
+
       pub fitting : Root-fits c known (rooms ns ls symbols ss)
       fitting =
           let w = l .within in
@@ -148,15 +190,8 @@ module _ {text ts : List ℕ} {limit : ℕ} {before : Rooms} (d : Let-in text ts
             symbols = omega (arith, v .symbol-size, d .admitted .roomy .symbols);
             scratch = omega (arith, w .links, w .at, r .scratch);
             few = omega (arith, w .rows, w .links, w .at, lent .whole .most);
+            tree = rw (← script-rows) (one-tree ts (symbol text ts) reads-script (omega (arith, w .at, lent .whole .most)));
           }
-
-      -- the rows that are read with the numbers of the scratch room are the tree's, with the grammar's symbols
-      read-rows : written ts (names-of ts scratch) tree ≡ with-root c (rooms ns ls symbols ss)
-      unfolding written walk make put fill field-numbers write tree
-      read-rows = let n : c .held ≡ length (l .items) = omega (arith, l .count) in rw (l .reading .rows, first-link (l .within), l .rows, n)
-
-      script-rows : written ts (symbol text ts) tree ≡ with-root c (rooms ns ls symbols ss)
-      script-rows = ap (λ σ. written ts σ tree) (sym (names-are (lent .whole) v)) ∙ read-rows
 
       -- the Eof that ends it is the last token
       ends-last : c .at ≡ count ts - 1
@@ -169,6 +204,7 @@ module _ {text ts : List ℕ} {limit : ℕ} {before : Rooms} (d : Let-in text ts
       tree-fits = omega (arith, l .reading .fits)
 
       pub accepted-answer : {after : Rooms} {r : Numbers} → Rooted c known (rooms ns ls symbols ss) after r → Parsed text ts limit before after r
+      unfolding written
       accepted-answer {after} {r} a =
           let m = l .reading .rooms in
           let w = written ts (symbol text ts) tree in
@@ -176,7 +212,7 @@ module _ {text ts : List ℕ} {limit : ℕ} {before : Rooms} (d : Let-in text ts
           let alike : Alike before (rooms ns ls symbols ss) = record { nodes = m .nodes; links = m .links; symbols = v .symbol-size; scratch = m .scratch ∙ v .scratch-size } in
           let x = subst (λ n. Script (kind ts) n tree) ends-last reads-script in
           let n : numbers r ≡ success w found = a .numbers-are ∙ rw (script-rows, v .entered .rows) in
-          let o : after ≡ rooms-filled w found before = a .rooms-are ∙ rw (script-rows, v .entered .rows) (filled-alike (with-root c (rooms ns ls symbols ss)) found alike) in
+          let o : after ≡ rooms-filled w found before = a .rooms-are ∙ rw (script-rows, v .entered .rows) (filled-alike (parented (with-root c (rooms ns ls symbols ss))) found alike) in
           record { answers = rw (n, o) (Answers.accepted (d .admitted) (Comes.read x tree-fits)) }
 
 -- what the statements' answer says, by its case

@@ -9,6 +9,8 @@ use Rattle.grammar.specs.Call.{Call}
 use Rattle.grammar.specs.Door.{Admitted}
 use Rattle.grammar.specs.Handle.{absent}
 use Rattle.grammar.specs.Label.{Node, number-of}
+use Rattle.grammar.specs.Naming.{One-tree}
+use Rattle.grammar.specs.Parent.{parented}
 use Rattle.grammar.specs.Room.{Rooms, node-width, link-width, symbol-width, scratch-width}
 use Rattle.grammar.specs.Rows.{Rows, padded}
 use Rattle.grammar.specs.Token.{start, end}
@@ -43,7 +45,7 @@ pub record Cut (ts : List ℕ) (q : Refusal) (before after : Rooms) (r : Numbers
   pub numbers-are : numbers r ≡ refused-numbers ts q
   pub rooms-are : after ≡ rooms-cleared before
 
--- the rows of a script whose statements are read and held, with its root: 'Root: 0, 0', and no tail
+-- the rows of a script whose statements are read and held, with its root: 'Root: 0, 0', and no tail; their parents are not put in
 abbrev pub with-root : Cursor → Rooms → Rows
 with-root c r = record {
   nodes = take (node-width * c .nodes) (r .nodes) ++ padded (number-of Node.Block ∷ 0 ∷ 0 ∷ c .links ∷ c .held ∷ absent ∷ []);
@@ -56,17 +58,18 @@ known-rows known r = take (symbol-width * known) (r .symbols)
 
 -- the numbers of a reading that is whole
 abbrev pub accepted-numbers : Cursor → (known : ℕ) → Rooms → Answer
-accepted-numbers c known r = success (with-root c r) (known-rows known r)
+accepted-numbers c known r = success (parented (with-root c r)) (known-rows known r)
 
--- there is room for that
+-- there is room for that, and the rows are those of one tree
 pub record Root-fits (c : Cursor) (known : ℕ) (r : Rooms) : Type 0 where
   pub nodes : node-width * (c .nodes + 1) ≤ length (r .nodes)
   pub links : link-width * (c .links + c .held) ≤ length (r .links)
   pub symbols : symbol-width * known ≤ length (r .symbols)
   pub scratch : scratch-width * c .held ≤ length (r .scratch)
   pub few : c .nodes + c .links + c .held + known < 65536
+  pub tree : One-tree (with-root c r)
 
--- a script is read: its rows, then zeros to the end of each room
+-- a script is read: its rows with their parents, then zeros to the end of each room
 pub record Rooted (c : Cursor) (known : ℕ) (before after : Rooms) (r : Numbers) : Type 0 where
   pub numbers-are : numbers r ≡ accepted-numbers c known before
-  pub rooms-are : after ≡ rooms-filled (with-root c before) (known-rows known before) before
+  pub rooms-are : after ≡ rooms-filled (parented (with-root c before)) (known-rows known before) before

@@ -1,4 +1,6 @@
-// The public entry: a port of `parse` of parser.rs. The door, then the symbols of all names, the statements up to Eof, the root's row, and zeros.
+// The public entry: a port of `parse` of parser.rs. The door, then the symbols of all names, the statements up to Eof, the root's row, the
+// parents, and zeros.
+use ast::NODE_WIDTH;
 use ast::Node;
 use ast::room::clear;
 use ast::room::link;
@@ -7,6 +9,7 @@ use door::Entry;
 use door::check;
 use door::lengths;
 use names::resolve;
+use parents::adopt;
 use parser::readers::statement;
 use reading::Cursor;
 use reading::Read;
@@ -102,7 +105,8 @@ fn statements(
     Read::Node(list, now)
 }
 
-// The answer of a script that is read: the statements that are held become the root's links, the root is the last row, and zeros follow in each room. `known` is the number of symbol rows.
+// The answer of a script that is read: the statements that are held become the root's links, the root is the last row, each row gets its parent, and zeros follow in
+// each room. `known` is the number of symbol rows.
 fn root(
     nodes: &mut [u32],
     links: &mut [u32],
@@ -120,7 +124,8 @@ fn root(
     let n = end.nodes;
     link(links, first, scratch, 0, count);
     let last = ast::block(nodes, n, first as u32, count as u32, ABSENT, 0, 0);
-    clear(nodes, 9 * (n + 1));
+    adopt(nodes, &links[..3 * used], last.id + 1);
+    clear(nodes, NODE_WIDTH * (n + 1));
     clear(links, 3 * used);
     clear(symbols, 2 * known);
     clear(scratch, 0);

@@ -1,9 +1,10 @@
--- What is told of the rows of an accepted call, in its node room and by its count: the last row is the root, a Block with the span 0, 0.
-use Prim.Native.Nat.{ℕ, _-_, _*_, _≤_, _<_}
+-- What is told of the rows of an accepted call, in its node room and by its count: the last row is the root, a Block with the span 0, 0 and no parent; and the
+-- parent of another row is the one row that names it.
+use Prim.Native.Nat.{ℕ, _+_, _-_, _*_, _≤_, _<_}
 use native.Mathlib.Omega.{arith}
 use mathlib.Core.List.{List, [], _∷_, _++_, append-assoc}
-use mathlib.Core.Path.{_≡_, ap, _∙_}
-use lib.ListN.{length, getD, replicate, length-append}
+use mathlib.Core.Path.{_≡_, refl, ap, _∙_}
+use lib.ListN.{length, getD, replicate, length-append, List·getD-append}
 use lib.Seq.{getD-append-add}
 use Rattle.grammar.specs.Answer.{success, rooms-filled}
 use Rattle.grammar.specs.Call.{Call}
@@ -11,14 +12,15 @@ use Rattle.grammar.specs.Door.{Admitted}
 use Rattle.grammar.specs.Handle.{absent}
 use Rattle.grammar.specs.Label.{Node, number-of}
 use Rattle.grammar.specs.Outcome.{accepted, Comes}
-use Rattle.grammar.specs.Room.{node-width}
-use Rattle.grammar.specs.Rows.{Rows, padded}
+use Rattle.grammar.specs.Parent.{tenth, Parent-of}
+use Rattle.grammar.specs.Room.{node-width, own-width}
+use Rattle.grammar.specs.Rows.{Rows, lined}
 use Rattle.grammar.specs.Symbol.{symbol}
-use Rattle.grammar.proofs.Calls.{accepted-rows}
+use Rattle.grammar.proofs.Calls.{written-whole, accepted-rows}
 use Rattle.grammar.proofs.Decoding.{Whole}
-use Rattle.grammar.proofs.Trees.{script-whole}
-use Rattle.view.specs.View.{number, Last-told, Kind-told, Span-told}
+use Rattle.view.specs.View.{number, Last-told, Kind-told, Span-told, Parent-told}
 use Rattle.view.specs.declared.KindAnswer.{KindAnswer}
+use Rattle.view.specs.declared.ParentAnswer.{ParentAnswer}
 use Rattle.view.specs.declared.RowAnswer.{RowAnswer}
 use Rattle.view.specs.declared.SpanAnswer.{SpanAnswer}
 
@@ -27,7 +29,7 @@ number-at : (before ys after : List ℕ) (row i : ℕ) → node-width * row ≡ 
 number-at before ys after row i e = rw (e, append-assoc before ys after) (getD-append-add before (ys ++ after) i 0)
 
 accepted-whole : {text ts ss : List ℕ} {limit : ℕ} {w : Rows} → Comes text ts limit (accepted w ss) → Whole w
-accepted-whole {text} {ts} (Comes.read x h) = script-whole ts (symbol text ts) x
+accepted-whole {text} {ts} (Comes.read x h) = written-whole ts (symbol text ts) x
 
 module _ {c : Call} {w : Rows} {ss : List ℕ} (d : Admitted c) (o : Comes (c .text) (c .tokens) (c .limit) (accepted w ss)) where
   abbrev nodes : List ℕ
@@ -37,7 +39,7 @@ module _ {c : Call} {w : Rows} {ss : List ℕ} (d : Admitted c) (o : Comes (c .t
   count = success w ss .nodes
 
   abbrev root : List ℕ
-  root = padded (number-of Node.Block ∷ 0 ∷ 0 ∷ accepted-rows d o .root .1 ∷ accepted-rows d o .root .2 ∷ absent ∷ [])
+  root = lined (number-of Node.Block ∷ 0 ∷ 0 ∷ accepted-rows d o .root .1 ∷ accepted-rows d o .root .2 ∷ absent ∷ []) absent
 
   abbrev zeros : List ℕ
   zeros = replicate (length (c .rooms .nodes) - length (w .nodes)) 0
@@ -63,3 +65,11 @@ module _ {c : Call} {w : Rows} {ss : List ℕ} (d : Admitted c) (o : Comes (c .t
 
   pub root-span : {r : SpanAnswer} → Span-told nodes count (count - 1) r → r ≡ record { code = 0; start = 0; end = 0 }
   root-span p = rw (root-number 1, root-number 2) at (p .there enough (omega (arith, some)))
+
+  pub root-parent : {r : ParentAnswer} → Parent-told nodes count (count - 1) r → r ≡ record { code = 0; parent = absent }
+  root-parent p = rw (root-number own-width) at (p .there enough (omega (arith, some)))
+
+  pub parent-names : {r : ParentAnswer} (j : ℕ) → j + 1 < count → Parent-told nodes count j r → (r .code ≡ 0) × Parent-of w j (r .parent)
+  parent-names j h p =
+      let e : number nodes j own-width ≡ tenth w j = List·getD-append (w .nodes) zeros 0 (node-width * j + own-width) (omega (arith, accepted-whole o .nodes)) in
+      rw (p .there enough (omega arith), e) (refl, accepted-rows d o .parents .parents j h)

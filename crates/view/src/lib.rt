@@ -1,9 +1,9 @@
-// A look at the finished rows: the last row, and the kind and span of a row. The functions on a slice of node numbers and a count come first; a view holds
+// A look at the finished rows: the last row, and the kind, span and parent of a row. The functions on a slice of node numbers and a count come first; a view holds
 // the two together.
-ghost use Rattle.view.specs.View.{Last-told, Kind-told, Span-told};
+ghost use Rattle.view.specs.View.{Last-told, Kind-told, Span-told, Parent-told};
 
 // The numbers of a node row.
-const WIDTH: usize = 9;
+const WIDTH: usize = 10;
 
 // The answers: code 0, or refusal 15 with the other numbers 0.
 pub struct RowAnswer {
@@ -20,6 +20,11 @@ pub struct SpanAnswer {
     pub code: u32,
     pub start: u32,
     pub end: u32,
+}
+
+pub struct ParentAnswer {
+    pub code: u32,
+    pub parent: u32,
 }
 
 // The number of the last of `count` rows.
@@ -83,6 +88,28 @@ pub fn span_of(nodes: &[u32], count: usize, row: usize) -> SpanAnswer
     }
 }
 
+// The row of which a row is a child; 4294967295 for the last row of a script.
+// Ruled out: another number of the row; a row's parent where the row is not below the count.
+pub fn parent_of(nodes: &[u32], count: usize, row: usize) -> ParentAnswer
+    ensures { λ r. ⌜ Parent-told (now (nodes .entry)) count row r ⌝ }
+{
+    let refused = ParentAnswer {
+        code: 15,
+        parent: 0,
+    };
+    if nodes.len() / WIDTH < count {
+        return refused;
+    }
+    if row >= count {
+        return refused;
+    }
+    let at = WIDTH * row;
+    ParentAnswer {
+        code: 0,
+        parent: nodes[at + 9],
+    }
+}
+
 // A view of the finished rows: the node numbers, and how many rows stand in them.
 pub struct View<'a> {
     pub nodes: &'a [u32],
@@ -111,4 +138,12 @@ pub fn span<'a>(v: View<'a>, row: usize) -> SpanAnswer
     ensures { λ r. ⌜ Span-told (now (v .entry .nodes)) (v .entry .count) row r ⌝ }
 {
     span_of(v.nodes, v.count, row)
+}
+
+// The parent of a row of a view.
+// Ruled out: a parent for a row number not below the count; the parent of another row.
+pub fn parent<'a>(v: View<'a>, row: usize) -> ParentAnswer
+    ensures { λ r. ⌜ Parent-told (now (v .entry .nodes)) (v .entry .count) row r ⌝ }
+{
+    parent_of(v.nodes, v.count, row)
 }

@@ -47,7 +47,7 @@ pub one-answered : {input before after other : List ℕ} {n m : ℕ} → Output-
 one-answered x y = one-put (rw (one-output (x .right) (y .right)) at (x .put)) (y .put)
 
 -- the example: for `a;` the rows of its script
-pub example : listed 2 1 1 (10 ∷ 0 ∷ 1 ∷ 0 ∷ 0 ∷ 1 ∷ 0 ∷ 0 ∷ 0 ∷ 20 ∷ 0 ∷ 0 ∷ 0 ∷ 1 ∷ 4294967295 ∷ 0 ∷ 0 ∷ 0 ∷ []) (0 ∷ 0 ∷ 0 ∷ []) (0 ∷ 1 ∷ []) ≡ bytes "ok 2 1 1\n0 10 0 1 0 0 1 0 0 0\n1 20 0 0 0 1 4294967295 0 0 0\nlink 0 0 0 0\nsym 0 0 1\n"
+pub example : listed 2 1 1 (10 ∷ 0 ∷ 1 ∷ 0 ∷ 0 ∷ 1 ∷ 0 ∷ 0 ∷ 0 ∷ 1 ∷ 20 ∷ 0 ∷ 0 ∷ 0 ∷ 1 ∷ 4294967295 ∷ 0 ∷ 0 ∷ 0 ∷ 4294967295 ∷ []) (0 ∷ 0 ∷ 0 ∷ []) (0 ∷ 1 ∷ []) ≡ bytes "ok 2 1 1\n0 10 0 1 0 0 1 0 0 0 1\n1 20 0 0 0 1 4294967295 0 0 0 4294967295\nlink 0 0 0 0\nsym 0 0 1\n"
 unfolding listed rows row line fields decimal digits
 example = refl
 

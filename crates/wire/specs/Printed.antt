@@ -1,5 +1,6 @@
 -- What the program `rows` prints for an answer and the rooms. Document 01, Samples: 'Counts of node, link and symbol rows; row number and nine numbers; link
--- row and three; symbol row, start, end. A refusal prints `refused`, code, at, start, end, expected; then a line with the message, perhaps empty.'
+-- row and three; symbol row, start, end. A refusal prints `refused`, code, at, start, end, expected; then a line with the message, perhaps empty.' Document 02, L11:
+-- a node row has ten numbers, and the listing follows.
 use Prim.Native.Nat.{ℕ, zero, suc, _*_}
 use mathlib.Core.Bool.{cond}
 use mathlib.Core.List.{List, [], _∷_, _++_}

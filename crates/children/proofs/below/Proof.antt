@@ -1,16 +1,16 @@
 -- `below` meets its contract: the numbers that each kind's children stand in are those that its layout names.
-use Prim.Native.Nat.{ℕ, _≤_}
+use Prim.Native.Nat.{ℕ}
 use borrow.Author.Needs.{needs}
 use native.Mathlib.Omega.{arith}
 use mathlib.Core.List.{List}
-use mathlib.Core.Logic.{inl, inr, ⊎-elim}
+use mathlib.Core.Logic.{⊎-elim}
 use mathlib.Core.Path.{_≡_, refl, _∙_}
 use lib.ListN.{getD}
 use Rattle.grammar.specs.Layout.{layout}
+use Rattle.grammar.proofs.Pieces.{pieces, left-pair, left-binding, none-below, left-none}
 use Rattle.children.specs.Below.{placed, Below}
 use Rattle.children.specs.declared.Children.{Children}
-use Rattle.children.proofs.Laws.{after, Inside, field, by-kind, no-room, no-piece, one-row, two-rows, three-rows, row-list, list-row, entry-list, two-three, seven-nine, others}
-use Rattle.children.proofs.Pieces.{pieces}
+use Rattle.children.proofs.Laws.{after, Inside, field, by-kind, no-room, no-piece, one-row, two-rows, three-rows, row-list, list-row, entry-list}
 use Rattle.children.proofs.below.Statement.{statement}
 use Rattle.children.proofs.below.Tie as tie
 
@@ -42,12 +42,6 @@ b m = field (row m) (room m) 1 (m .before .before .node2 .ensures) (omega arith)
 
 d : (m : tie.After-node4) → m .before .node3 .result ≡ getD (xs m) 2 0
 d m = field (row m) (room m) 2 (m .before .node3 .ensures) (omega arith)
-
-past-one : {k : ℕ} → 1 ≤ k → (k ≡ 1 → ⊥) → 2 ≤ k
-past-one h n = omega arith
-
-past-six : {k : ℕ} → 4 ≤ k → (k ≡ 4 → ⊥) → (k ≡ 5 → ⊥) → (k ≡ 6 → ⊥) → 7 ≤ k
-past-six h x y z = omega arith
 
 returns : tie.Need-returns
 returns c = no-room (c .before .if1 .taken) (c .fixed .ensures)
@@ -91,19 +85,14 @@ returns-10 c = let m = c .before .before in met m (c .fixed7 .ensures ∙ three-
 returns-11 : tie.Need-returns-11
 returns-11 c =
     let m = c .before .before .before .before .before .before in
-    let r = c .before .before .before .before .before .match .rest in
-    met m (c .fixed8 .ensures ∙ one-row (xs m) (k m) 3 (seven-nine (past-six (c .before .before .before .if3 .left) (λ e. r .0 .0 .0 .0 .0 .0 .0 .1 (inl e)) (r .0 .0 .0 .0 .0 .0 .1) (λ e. r .0 .0 .0 .0 .0 .0 .0 .0 .1 (inl e))) (c .before .before .if4 .taken)) (field (row m) (room m) 3 (c .before .node6 .ensures) (omega arith)))
+    met m (c .fixed8 .ensures ∙ one-row (xs m) (k m) 3 (left-binding (c .before .before .before .before .before .match .rest) (c .before .before .before .if3 .left) (c .before .before .if4 .taken)) (field (row m) (room m) 3 (c .before .node6 .ensures) (omega arith)))
 
 returns-12 : tie.Need-returns-12
-unfolding layout pieces
-returns-12 c =
-    let m = c .before .before .before in
-    let r = c .before .before .match .rest in
-    met m (c .fixed9 .ensures ∙ no-piece (xs m) (k m) (⊎-elim (λ w. let e : k m ≡ 0 = omega (arith, w .taken) in rw e refl) (λ w. others (w .2 .left) (r .0 .0 .0 .0 .0 .1, ((λ e. r .0 .0 .0 .0 .0 .0 .0 .1 (inr (inl e))), (r .0 .0 .0 .0 .1, (r .0 .0 .0 .1, (r .0 .0 .1, (r .0 .1, (r .1, ((λ e. r .0 .0 .0 .0 .0 .0 .0 .0 .1 (inr e)), ((λ e. r .0 .0 .0 .0 .0 .0 .0 .1 (inr (inr e))), tt)))))))))) (c .before .if2 .came)))
+returns-12 c = let m = c .before .before .before in met m (c .fixed9 .ensures ∙ no-piece (xs m) (k m) (⊎-elim (λ w. none-below (w .taken)) (λ w. left-none (c .before .before .match .rest) (w .2 .left)) (c .before .if2 .came)))
 
 returns-13 : tie.Need-returns-13
 unfolding layout pieces
-returns-13 c = let m = c .before .before in met m (c .fixed10 .ensures ∙ two-rows (xs m) (k m) 0 1 (⊎-elim (λ w. ⊎-elim (λ e. rw e refl) (λ e. rw e refl) (w .keys2)) (λ w. two-three (past-one (w .1 .left) (w .0 .rest .0 .0 .0 .0 .0 .0 .0 .0 .0 .1)) (w .2 .taken)) (c .before .match .came)) (a m) (b m))
+returns-13 c = let m = c .before .before in met m (c .fixed10 .ensures ∙ two-rows (xs m) (k m) 0 1 (⊎-elim (λ w. ⊎-elim (λ e. rw e refl) (λ e. rw e refl) (w .keys2)) (λ w. left-pair (w .0 .rest) (w .1 .left) (w .2 .taken)) (c .before .match .came)) (a m) (b m))
 
 pub below-spec : {M : Type 1} → statement M
 below-spec = tie.close (tie.spec (λ c. search needs) (λ c. search needs) (λ c κs. search needs) returns (λ c κs. search needs) (λ c κs. search needs) (λ c κs. search needs) (λ c κs. search needs) (λ c κs. search needs) (λ c κs. search needs) (λ c κs. search needs) (λ c κs. search needs) (λ c κs. search needs) (λ c κs. search needs) (λ c κs. search needs) (λ c κs. search needs) (λ c κs. search needs) (λ c κs. search needs) (λ c κs. search needs) (λ c κs. search needs) (λ c κs. search needs) (λ c κs. search needs) returns-2 returns-3 returns-4 returns-5 returns-6 returns-7 returns-8 returns-9 returns-10 returns-11 returns-12 returns-13)

@@ -1,41 +1,52 @@
--- `root` meets its contract: the root's row and links are written, and zeros follow them.
+-- `root` meets its contract: the root's row and links are written, the parents put in, and zeros follow.
 use borrow.Author.Needs.{needs}
 use native.Mathlib.Omega.{arith}
-use Rattle.syntax.proofs.Scripts.{rooted}
+use Rattle.syntax.proofs.Scripts.{used-length, sound, rooted}
 use Rattle.syntax.proofs.root.Statement.{statement}
 use Rattle.syntax.proofs.root.Tie as tie
 
 -- back from where one part is known to where the one before it is
-abbrev to-cleared : tie.After-clear3 → tie.After-clear
-to-cleared c = c .before .before .before .before .before .before .before .before
+abbrev to-block : tie.After-adopt → tie.After-block
+to-block c = c .before .before .before .before .before .before
 
-abbrev to-block : tie.After-clear → tie.After-block
-to-block c = c .before .before .before .before
+abbrev to-link : tie.After-block → tie.After-link
+to-link c = c .before .before .before .before
 
-abbrev to-start : tie.After-block → tie.Start
-to-start c = c .before .before .before .before .before .before .before .before .before .before .before
+abbrev to-start : tie.After-link → tie.Start
+to-start c = c .before .before .before .before .before .before .before
 
-add-t20 : tie.Need-add-t20
-add-t20 c =
-    let d = c .before .before .before .before .before .before .before in
-    rw (to-block (to-cleared d) .block .ensures .handle) (omega (arith, to-start (to-block (to-cleared d)) .pre .few))
+slice-aggregate-adopt : tie.Need-slice-aggregate-adopt
+slice-aggregate-adopt c = let b = c .before .before .before .before in used-length (to-start (to-link b) .pre) (to-link b .link .ensures) (b .block .ensures)
 
-cast-t19 : tie.Need-cast-t19
-cast-t19 c = omega (arith, to-start (to-block (to-cleared (c .before .before .before .before .before .before .before))) .pre .few)
+add-adopt : tie.Need-add-adopt
+add-adopt c = let b = c .before .before .before .before .before in rw (b .block .ensures .handle) (omega (arith, to-start (to-link b) .pre .few))
 
-cast-t31 : tie.Need-cast-t31
-cast-t31 c = omega (arith, to-start (to-block (to-cleared (c .before .before .before .before .before .before .before))) .pre .few)
+adopt-requires : tie.Need-adopt-requires
+adopt-requires c κs = let b = c .before .before .before .before .before in rw (b .block .ensures .handle) (sound (to-start (to-link b) .pre) (to-link b .link .ensures) (b .block .ensures))
+
+mul-clear-3 : tie.Need-mul-clear-3
+mul-clear-3 c = omega (arith, to-start (to-link (to-block (c .before .before .before .before .before .before .before .before .before .before .before))) .pre .few)
+
+add-t19 : tie.Need-add-t19
+add-t19 c = let b = to-block (c .before .before .before .before .before .before .before .before .before .before .before .before .before .before .before .before .before .before .before) in rw (b .block .ensures .handle) (omega (arith, to-start (to-link b) .pre .few))
+
+cast-t20 : tie.Need-cast-t20
+cast-t20 c = omega (arith, to-start (to-link (to-block (c .before .before .before .before .before .before .before .before .before .before .before .before .before .before .before .before .before .before .before))) .pre .few)
+
+cast-t35 : tie.Need-cast-t35
+cast-t35 c = omega (arith, to-start (to-link (to-block (c .before .before .before .before .before .before .before .before .before .before .before .before .before .before .before .before .before .before .before))) .pre .few)
 
 returns : tie.Need-returns
 returns c =
-    let d = c .before .before .before .before .before .before .before in
-    rooted (to-start (to-block (to-cleared d)) .pre) (to-block (to-cleared d) .before .before .before .before .link .ensures) (to-block (to-cleared d) .block .ensures)
-    (to-cleared d .clear .ensures) (c .before .before .before .before .before .before .before .before .before .before .before .clear2 .ensures) (d .clear3 .ensures)
-    (c .before .before .before .clear4 .ensures) (rw (to-block (to-cleared d) .block .ensures .handle))
+    let a = c .before .before .before .before .before .before .before .before .before .before .before .before .before .before .before .before .before .before .before in
+    let b = to-block a in
+    let h = b .block .ensures .handle in
+    rooted (to-start (to-link b) .pre) (to-link b .link .ensures) (b .block .ensures) (rw h at (a .adopt .ensures)) (c .before .before .before .before .before .before .before .before .before .before .before .before .before .before .before .clear .ensures) (c .before .before .before .before .before .before .before .before .before .before .before .clear2 .ensures) (c .before .before .before .before .before .before .before .clear3 .ensures)
+    (c .before .before .before .clear4 .ensures) (rw h)
 
 pub root-spec : {M : Type 1} → statement M
 root-spec =
     tie.close
-    (tie.spec (λ c. search needs) (λ c κs. search needs) (λ c. search needs) (λ c. search needs) (λ c κs. search needs) (λ c. search needs) (λ c. search needs) (λ c κs. search needs)
-    (λ c. search needs) (λ c κs. search needs) (λ c. search needs) (λ c κs. search needs) (λ c κs. search needs) add-t20 cast-t19 cast-t31 (λ c. search needs) (λ c. search needs)
-    (λ c. search needs) (λ c. search needs) returns)
+    (tie.spec (λ c. search needs) (λ c κs. search needs) (λ c. search needs) (λ c. search needs) (λ c κs. search needs) (λ c. search needs) (λ c. search needs) slice-aggregate-adopt add-adopt
+    adopt-requires (λ c. search needs) (λ c. search needs) (λ c κs. search needs) (λ c. search needs) (λ c κs. search needs) mul-clear-3 (λ c κs. search needs) (λ c κs. search needs) add-t19
+    cast-t20 cast-t35 (λ c. search needs) (λ c. search needs) (λ c. search needs) (λ c. search needs) returns)

@@ -13,6 +13,7 @@ use Rattle.grammar.specs.Handle.{Handle}
 use Rattle.grammar.specs.Kind.{Import}
 use Rattle.grammar.specs.Label.{Node as Form, Label}
 use Rattle.grammar.specs.Refusal.{Refuses}
+use Rattle.grammar.specs.Room.{node-width}
 use Rattle.grammar.specs.Rows.{links-of, numbers, write, fill, put, make}
 use Rattle.grammar.specs.Rule.{rule}
 use Rattle.grammar.specs.Token.{start, end}
@@ -32,7 +33,7 @@ use Rattle.reading.proofs.lists.import.Tie as tie
 -- the row of an import: the second list's links come after the first's
 made : {ts ns ns′ ls ls′ ss : List ℕ} {a : ℕ} {c : Cursor} {xs zs : List Handle} {n : Node} (m : ℕ) → Inserted (c .nodes) 26 (start ts a) (end ts (c .at))
     (c .links ∷ length xs ∷ (c .links + length xs) ∷ length zs ∷ []) ns ns′ n →
-    9 * c .nodes ≤ length ns → 3 * c .links ≤ length ls → Written (3 * c .links) (3 * (c .links + m)) (links-of xs ++ links-of zs) ls ls′ → Made ts (Label.Row Form.Import) a
+    node-width * c .nodes ≤ length ns → 3 * c .links ≤ length ls → Written (3 * c .links) (3 * (c .links + m)) (links-of xs ++ links-of zs) ls ls′ → Made ts (Label.Row Form.Import) a
     (state ns ls ss c) xs zs (node-of n ∷ []) (state ns′ ls′ ss (grown-by c m))
 unfolding make put fill numbers write rule
 made {ls = ls} {c = c} {xs = xs} {zs = zs} m i g h w =
