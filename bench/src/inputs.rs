@@ -1,5 +1,8 @@
 //! The scripts that are timed.
-use kaori_syntax::Rooms;
+use kaori_syntax::{LINK_WIDTH, NODE_WIDTH, Rooms, SCRATCH_WIDTH, SYMBOL_WIDTH};
+
+/// The numbers of a row of each room together.
+pub const ROOM_WIDTH: usize = NODE_WIDTH + LINK_WIDTH + SYMBOL_WIDTH + SCRATCH_WIDTH;
 
 pub struct Input {
     pub name: &'static str,
@@ -65,10 +68,12 @@ fn input(name: &'static str, text: String) -> Input {
     let mut rooms = Rooms::for_tokens(tokens.len() / 3);
     let answer = rooms.read(text.as_bytes(), 64);
     let used = answer.as_ref().map_or(0, |tree| {
-        9 * tree.node_rows().len() + 3 * tree.link_rows().len() + 2 * tree.symbol_rows().len()
+        NODE_WIDTH * tree.node_rows().len()
+            + LINK_WIDTH * tree.link_rows().len()
+            + SYMBOL_WIDTH * tree.symbol_rows().len()
     });
     let refused = answer.is_err();
-    let cleared = 17 * (tokens.len() / 3) - used;
+    let cleared = ROOM_WIDTH * (tokens.len() / 3) - used;
     Input { name, text, tokens, typical: false, refused, cleared }
 }
 

@@ -17,7 +17,7 @@ use std::{
     time::{Duration, Instant},
 };
 
-use inputs::Input;
+use inputs::{Input, ROOM_WIDTH};
 use kaori::{
     compiler::{Compiler, fresh_interner},
     syntax::{
@@ -93,8 +93,8 @@ fn bench(time: Duration) {
             typical = typical.min(ratio);
         }
         worst = worst.min(ratio);
-        // rooms of twice the rows have 17 more numbers a token to clear
-        let zeroing = (t.wide - t.ours) / (17.0 * tokens) * input.cleared as f64;
+        // rooms of twice the rows have `ROOM_WIDTH` more numbers a token to clear
+        let zeroing = (t.wide - t.ours) / (ROOM_WIDTH as f64 * tokens) * input.cleared as f64;
         let reading = t.ours - t.door - zeroing;
         let per = |ns: f64| format!("{:.1}", ns / tokens);
         println!(

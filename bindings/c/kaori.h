@@ -22,7 +22,7 @@ extern "C" {
 /* How many numbers a token of a list has, and a row of each room. A room's rows are its whole rows. */
 enum {
     KAORI_TOKEN_WIDTH = 3,
-    KAORI_NODE_WIDTH = 9,
+    KAORI_NODE_WIDTH = 10,
     KAORI_LINK_WIDTH = 3,
     KAORI_SYMBOL_WIDTH = 2,
     KAORI_SCRATCH_WIDTH = 3
@@ -75,7 +75,7 @@ enum {
 /* `expected` where no certain kind was required. */
 enum { KAORI_NO_KIND = 255 };
 
-/* The absent number of a row: a block's tail, an `else`, a map entry's value. */
+/* The absent number of a row: a block's tail, an `else`, a map entry's value, the root's parent. */
 #define KAORI_ABSENT UINT32_C(4294967295)
 
 /* Kinds of tokens. */
@@ -111,10 +111,12 @@ enum {
     KAORI_EOF
 };
 
-/* Kinds of nodes. A row is: kind, where its span starts and ends in the text, and six numbers more, of which the unused
-   are 0. Behind each kind stand those that are used. A child is a row's number, always an earlier one. NAME is three
-   numbers: symbol, start, end. LIST is two: first link row, how many. Children come before parents; the last row is the
-   script's root, a block with the span 0, 0 and no tail. */
+/* Kinds of nodes. A row is ten numbers: kind, where its span starts and ends in the text, six more, of which the unused
+   are 0, and its parent's row. Behind each kind stand those of the six that are used. A child is a row's number, always
+   an earlier one. NAME is three numbers: symbol, start, end. LIST is two: first link row, how many. The parent is the one
+   row, always a later one, that has this row as a child or in a list. The last row is the script's root, a block with the
+   span 0, 0 and no tail; its parent is absent, and no other row's is. So from any row, parent by parent, the root is
+   reached. */
 enum {
     KAORI_NODE_BINARY = 1,      /* operator, left, right; operators from 0: + - * / % == != > >= < <= */
     KAORI_NODE_AND,             /* left, right */
@@ -143,6 +145,9 @@ enum {
     KAORI_NODE_CONTINUE,        /* nothing */
     KAORI_NODE_IMPORT           /* LIST of path names, LIST of names */
 };
+
+/* Which of a node row's numbers is its parent's row, counted from 0. */
+enum { KAORI_PARENT = 9 };
 
 /* A link row is an item of a list: a node (its row, 0, 0), a name (symbol, start, end) or a map's entry (key's row,
    value's row or absent, 0). A symbol row is where the symbol first stands in the text, start and end; a name's symbol

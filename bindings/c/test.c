@@ -61,13 +61,13 @@ static uint32_t from_text(rooms *r, const char *text, uint32_t limit, size_t lis
 /* `a;` and its Eof, and what stands in the rooms for it. */
 static const uint32_t list[] = {KAORI_IDENTIFIER, 0, 1, KAORI_SEMICOLON, 1, 2, KAORI_EOF, 2, 2};
 static const uint32_t accepted[] = {0, 2, 1, 1, 0, 0, 0, KAORI_NO_KIND};
-static const uint32_t two_rows[] = {KAORI_NODE_IDENTIFIER, 0, 1, 0, 0, 1, 0, 0, 0, KAORI_NODE_BLOCK, 0, 0, 0, 1, KAORI_ABSENT, 0, 0, 0};
+static const uint32_t two_rows[] = {KAORI_NODE_IDENTIFIER, 0, 1, 0, 0, 1, 0, 0, 0, 1, KAORI_NODE_BLOCK, 0, 0, 0, 1, KAORI_ABSENT, 0, 0, 0, KAORI_ABSENT};
 
 static int holds_it(const rooms *r) {
     return memcmp(r->answer, accepted, sizeof accepted) == 0 && memcmp(r->nodes, two_rows, sizeof two_rows) == 0 &&
-           all(r->nodes + 18, LENGTH(r->nodes) - 18, 0) && all(r->links, LENGTH(r->links), 0) && r->symbols[0] == 0 &&
-           r->symbols[1] == 1 && all(r->symbols + 2, LENGTH(r->symbols) - 2, 0) &&
-           all(r->scratch, LENGTH(r->scratch), 0) && fences(r);
+           all(r->nodes + LENGTH(two_rows), LENGTH(r->nodes) - LENGTH(two_rows), 0) &&
+           all(r->links, LENGTH(r->links), 0) && r->symbols[0] == 0 && r->symbols[1] == 1 &&
+           all(r->symbols + 2, LENGTH(r->symbols) - 2, 0) && all(r->scratch, LENGTH(r->scratch), 0) && fences(r);
 }
 
 static int answered(const rooms *r, uint32_t code, uint32_t at, uint32_t start, uint32_t end, uint32_t expected) {
@@ -113,6 +113,37 @@ static void reading(void) {
     EXPECT(from_text(&r, "", 64, 3, 8) == KAORI_OK && r.tokens[0] == KAORI_EOF && r.answer[KAORI_NODES] == 1);
 }
 
+/* Rooms of just enough rows for three tokens, and before that each in turn with a number less. */
+static void rows_counted(void) {
+    static const size_t enough[] = {KAORI_NODE_WIDTH * 3, KAORI_LINK_WIDTH * 3, KAORI_SYMBOL_WIDTH * 3, KAORI_SCRATCH_WIDTH * 3};
+    for (size_t small = 0; small <= LENGTH(enough); small++) {
+        rooms r = fresh();
+        size_t n[LENGTH(enough)];
+        for (size_t i = 0; i < LENGTH(enough); i++) n[i] = enough[i] - (i == small);
+        uint32_t code = kaori_parse((const uint8_t *)"a;", 2, list, 9, 64, r.nodes, n[0], r.links, n[1], r.symbols, n[2],
+                                    r.scratch, n[3], r.answer, 8);
+        if (small < LENGTH(enough))
+            EXPECT(code == KAORI_SMALL_ROOM && answered(&r, 4, 0, 0, 0, KAORI_NO_KIND) && four_are(&r, OLD));
+        else
+            EXPECT(code == KAORI_OK && memcmp(r.nodes, two_rows, sizeof two_rows) == 0 && fences(&r) &&
+                   all(r.nodes + LENGTH(two_rows), n[0] - LENGTH(two_rows), 0) && r.nodes[n[0]] == OLD);
+    }
+}
+
+/* f, a, -a, the call, the root: each row's parent, and from the inmost name outward. */
+static void parents(void) {
+    static const uint32_t named_by[] = {3, 2, 3, 4, KAORI_ABSENT}, outward[] = {1, 2, 3, 4};
+    rooms r = fresh();
+    EXPECT(from_text(&r, "f(-a);", 64, LENGTH(r.tokens), 8) == KAORI_OK && r.answer[KAORI_NODES] == LENGTH(named_by));
+    for (size_t i = 0; i < LENGTH(named_by); i++) EXPECT(r.nodes[KAORI_NODE_WIDTH * i + KAORI_PARENT] == named_by[i]);
+    uint32_t row = 1;
+    for (size_t i = 0; i < LENGTH(outward) && row < LENGTH(named_by); i++) {
+        EXPECT(row == outward[i]);
+        row = r.nodes[KAORI_NODE_WIDTH * row + KAORI_PARENT];
+    }
+    EXPECT(row == KAORI_ABSENT);
+}
+
 static void telling(void) {
     uint8_t room[54];
     memset(room, '.', sizeof room);
@@ -143,6 +174,8 @@ static void telling(void) {
 int main(void) {
     parsing();
     reading();
+    rows_counted();
+    parents();
     telling();
     return failed != 0;
 }

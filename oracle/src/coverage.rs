@@ -109,7 +109,7 @@ fn productions(case: &Case, rows: &Rows) -> Vec<String> {
     let mut names = Vec::new();
     let node = |id: u32| NODES[rows.nodes[id as usize][0] as usize - 1];
     for row in &rows.nodes {
-        let [kind, _, _, a, b, c, d, e, _] = *row;
+        let [kind, _, _, a, b, c, d, e, ..] = *row;
         names.push(format!("node {}", NODES[kind as usize - 1]));
         match kind {
             1 => names.push(format!("Binary operator {a}")),

@@ -16,6 +16,9 @@ use crate::{
 };
 
 pub const ABSENT: u32 = u32::MAX;
+/// The numbers of a node row, and which of them is its parent's row.
+pub const NODE_WIDTH: usize = 10;
+pub const PARENT: usize = 9;
 /// `expected` where no certain kind was required.
 pub const NO_KIND: u32 = 255;
 
@@ -27,7 +30,7 @@ pub enum Outcome {
 
 #[derive(Clone, PartialEq, Eq, Debug, Default)]
 pub struct Rows {
-    pub nodes: Vec<[u32; 9]>,
+    pub nodes: Vec<[u32; NODE_WIDTH]>,
     pub links: Vec<[u32; 3]>,
     pub symbols: Vec<[u32; 2]>,
 }
@@ -48,11 +51,14 @@ pub fn rows(case: &Case, ast: &Ast) -> Rows {
     for id in writer.ids.all.clone() {
         let (kind, numbers) = writer.fields(ast.node(id));
         let Span { start, end } = ast.span(id);
-        let mut row = [0; 9];
+        let mut row = [0; NODE_WIDTH];
         row[..3].copy_from_slice(&[kind, start, end]);
         row[3..3 + numbers.len()].copy_from_slice(&numbers);
+        row[PARENT] = ABSENT; // until its parent is written
         writer.rows.nodes.push(row);
     }
+    let (_, others) = writer.rows.nodes.split_last().expect("a root");
+    assert!(others.iter().all(|row| row[PARENT] != ABSENT), "a row without a parent");
     writer.rows.symbols = symbols(case);
     writer.rows
 }
@@ -82,17 +88,18 @@ struct Writer {
 }
 
 impl Writer {
-    /// A node's kind, and the numbers after its span. Its lists are written to the link rows.
+    /// A node's kind, and the numbers after its span. Its lists are written to the link rows, and it is put into its
+    /// children's rows.
     fn fields(&mut self, node: &Node) -> (u32, Vec<u32>) {
         match node {
             Node::Binary { operator, left, right } => {
-                (1, vec![*operator as u32, self.id(*left), self.id(*right)])
+                (1, vec![*operator as u32, self.child(*left), self.child(*right)])
             }
-            Node::LogicalAnd { left, right } => (2, vec![self.id(*left), self.id(*right)]),
-            Node::LogicalOr { left, right } => (3, vec![self.id(*left), self.id(*right)]),
-            Node::LogicalNot(child) => (4, vec![self.id(*child)]),
-            Node::Unary { operator, operand } => (5, vec![*operator as u32, self.id(*operand)]),
-            Node::Assign { left, right } => (6, vec![self.id(*left), self.id(*right)]),
+            Node::LogicalAnd { left, right } => (2, vec![self.child(*left), self.child(*right)]),
+            Node::LogicalOr { left, right } => (3, vec![self.child(*left), self.child(*right)]),
+            Node::LogicalNot(child) => (4, vec![self.child(*child)]),
+            Node::Unary { operator, operand } => (5, vec![*operator as u32, self.child(*operand)]),
+            Node::Assign { left, right } => (6, vec![self.child(*left), self.child(*right)]),
             Node::Variable { left, right } => (7, self.binding(left, *right)),
             Node::Constant { left, right } => (8, self.binding(left, *right)),
             Node::Ref { left, right } => (9, self.binding(left, *right)),
@@ -103,58 +110,64 @@ impl Writer {
             Node::Nil => (14, vec![]),
             Node::FunctionCall { callee, arguments } => {
                 let [first, count] = self.nodes(arguments);
-                (15, vec![self.id(*callee), first, count])
+                (15, vec![self.child(*callee), first, count])
             }
             Node::PropertyAccess { object, property } => {
                 let [symbol, start, end] = named(property);
-                (16, vec![self.id(*object), symbol, start, end])
+                (16, vec![self.child(*object), symbol, start, end])
             }
             Node::Map { entries } => {
-                let row = |writer: &Self, entry: &(NodeId, Option<NodeId>)| {
-                    [writer.id(entry.0), writer.option(entry.1), 0]
+                let row = |writer: &mut Self, entry: &(NodeId, Option<NodeId>)| {
+                    [writer.child(entry.0), writer.option(entry.1), 0]
                 };
                 (17, self.list(entries, row).to_vec())
             }
             Node::Function { name, parameters, block } => {
                 let [symbol, start, end] = named(name);
                 let [first, count] = self.names(parameters);
-                (18, vec![symbol, start, end, first, count, self.id(*block)])
+                (18, vec![symbol, start, end, first, count, self.child(*block)])
             }
             Node::Lambda { parameters, block } => {
                 let [first, count] = self.names(parameters);
-                (19, vec![first, count, self.id(*block)])
+                (19, vec![first, count, self.child(*block)])
             }
             Node::Block { statements, tail } => {
                 let [first, count] = self.nodes(statements);
                 (20, vec![first, count, self.option(*tail)])
             }
             Node::If { condition, then_branch, else_branch } => {
-                let children = [self.id(*condition), self.id(*then_branch), self.option(*else_branch)];
+                let children = [self.child(*condition), self.child(*then_branch), self.option(*else_branch)];
                 (21, children.to_vec())
             }
-            Node::WhileLoop { condition, block } => (22, vec![self.id(*condition), self.id(*block)]),
-            Node::Return(child) => (23, vec![self.id(*child)]),
+            Node::WhileLoop { condition, block } => (22, vec![self.child(*condition), self.child(*block)]),
+            Node::Return(child) => (23, vec![self.child(*child)]),
             Node::Break => (24, vec![]),
             Node::Continue => (25, vec![]),
             Node::Import { path, bindings } => (26, [self.names(path), self.names(bindings)].concat()),
         }
     }
 
-    fn id(&self, id: NodeId) -> u32 {
-        self.ids.numbers[&id]
+    /// The number of a child's row. It gets its parent: the row that is being written.
+    fn child(&mut self, id: NodeId) -> u32 {
+        let number = self.ids.numbers[&id];
+        let parent = self.rows.nodes.len() as u32;
+        let place = &mut self.rows.nodes[number as usize][PARENT];
+        assert_eq!(*place, ABSENT, "row {number} has two parents");
+        *place = parent;
+        number
     }
 
-    fn option(&self, id: Option<NodeId>) -> u32 {
-        id.map_or(ABSENT, |id| self.id(id))
+    fn option(&mut self, id: Option<NodeId>) -> u32 {
+        id.map_or(ABSENT, |id| self.child(id))
     }
 
-    fn binding(&self, left: &Spanned<Symbol>, right: NodeId) -> Vec<u32> {
+    fn binding(&mut self, left: &Spanned<Symbol>, right: NodeId) -> Vec<u32> {
         let [symbol, start, end] = named(left);
-        vec![symbol, start, end, self.id(right)]
+        vec![symbol, start, end, self.child(right)]
     }
 
     /// Writes a list; gives its first link row and its count.
-    fn list<T>(&mut self, items: &[T], row: impl Fn(&Self, &T) -> [u32; 3]) -> [u32; 2] {
+    fn list<T>(&mut self, items: &[T], row: impl Fn(&mut Self, &T) -> [u32; 3]) -> [u32; 2] {
         let first = self.rows.links.len();
         for item in items {
             let link = row(self, item);
@@ -164,7 +177,7 @@ impl Writer {
     }
 
     fn nodes(&mut self, items: &[NodeId]) -> [u32; 2] {
-        self.list(items, |writer, id| [writer.id(*id), 0, 0])
+        self.list(items, |writer, id| [writer.child(*id), 0, 0])
     }
 
     fn names(&mut self, items: &[Spanned<Symbol>]) -> [u32; 2] {

@@ -1,4 +1,5 @@
-//! Document 01's example, samples and depths, and the points it leaves open, as the oracle answers them.
+//! Document 01's example, samples and depths, and the points it leaves open, as the oracle answers them; and each row's
+//! parent.
 use oracle::{answer, answer_with, list::script};
 
 fn first_line(text: &str, limit: u32) -> String {
@@ -21,7 +22,13 @@ fn the_example() {
         b"\x4B\x54\x2C\x02\x00\x00\x00\x02\x00\x00\x00",
     ]
     .concat();
-    let output = "ok 2 1 1\n0 10 0 1 0 0 1 0 0 0\n1 20 0 0 0 1 4294967295 0 0 0\nlink 0 0 0 0\nsym 0 0 1\n";
+    let output = "\
+ok 2 1 1
+0 10 0 1 0 0 1 0 0 0 1
+1 20 0 0 0 1 4294967295 0 0 0 4294967295
+link 0 0 0 0
+sym 0 0 1
+";
     assert_eq!(answer(&input), output.as_bytes());
     assert_eq!(script("a;").encode(), input);
 }
@@ -38,16 +45,29 @@ fn broken_records() {
 
 #[test]
 fn accepted_samples() {
-    assert_eq!(node_rows(""), ["20 0 0 0 0 4294967295 0 0 0"]);
-    let rows = ["10 4 5 0 4 5 0 0 0", "10 10 11 1 10 11 0 0 0", "2 4 11 0 1 0 0 0 0", "4 0 3 2 0 0 0 0 0"];
+    assert_eq!(node_rows(""), ["20 0 0 0 0 4294967295 0 0 0 4294967295"]);
+    let rows =
+        ["10 4 5 0 4 5 0 0 0 2", "10 10 11 1 10 11 0 0 0 2", "2 4 11 0 1 0 0 0 0 3", "4 0 3 2 0 0 0 0 0 4"];
     assert_eq!(node_rows("not a and b;")[..4], rows);
-    assert_eq!(node_rows("f(a,);")[2], "15 1 5 0 0 1 0 0 0");
-    assert_eq!(node_rows("a.b;")[1], "16 1 3 0 1 2 3 0 0");
-    assert_eq!(node_rows("import a:;")[0], "26 0 10 0 1 1 0 0 0");
-    assert_eq!(node_rows("{ let x = 1 }")[2], "20 0 13 0 0 1 0 0 0");
-    assert_eq!(node_rows("{ if a {} ; }")[3], "20 0 13 0 1 4294967295 0 0 0");
-    assert_eq!(node_rows("if a {} + 1;")[4], "20 0 0 0 2 4294967295 0 0 0");
+    assert_eq!(node_rows("f(a,);")[2], "15 1 5 0 0 1 0 0 0 3");
+    assert_eq!(node_rows("a.b;")[1], "16 1 3 0 1 2 3 0 0 2");
+    assert_eq!(node_rows("import a:;")[0], "26 0 10 0 1 1 0 0 0 1");
+    assert_eq!(node_rows("{ let x = 1 }")[2], "20 0 13 0 0 1 0 0 0 3");
+    assert_eq!(node_rows("{ if a {} ; }")[3], "20 0 13 0 1 4294967295 0 0 0 4");
+    assert_eq!(node_rows("if a {} + 1;")[4], "20 0 0 0 2 4294967295 0 0 0 4294967295");
     assert_eq!(first_line("\"a\"; a;", 64), "ok 3 2 1");
+}
+
+/// A script with every kind of row, and for each the row that has it as a child.
+#[test]
+fn parents() {
+    let text = "import a.b: c; fun f(x, y) { return -x; } let y = 1 + f(2, 3).b; const z = #{a: \"s\", b}; \
+                ref r = |q| not q and true or nil; while a { break; continue } if a {} else { y = z }";
+    let parents = "39 2 3 4 5 39 12 10 10 10 11 12 13 39 17 17 17 18 39 21 21 23 23 24 25 26 39 31 30 30 31 39 \
+                   38 38 36 36 37 38 39 4294967295";
+    let rows = node_rows(text);
+    let told: Vec<_> = rows.iter().map(|row| row.rsplit_once(' ').unwrap().1).collect();
+    assert_eq!(told.join(" "), parents);
 }
 
 #[test]
@@ -79,7 +99,7 @@ fn refused_samples() {
     ] {
         assert_eq!(first_line(text, limit), line, "{text} at {limit}");
     }
-    assert_eq!(node_rows("{ import a }")[0], "26 2 12 0 1 1 0 0 0");
+    assert_eq!(node_rows("{ import a }")[0], "26 2 12 0 1 1 0 0 0 1");
 }
 
 #[test]

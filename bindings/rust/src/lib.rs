@@ -40,6 +40,26 @@
 //! # Ok::<(), kaori_syntax::Refusal>(())
 //! ```
 //!
+//! And from a row outward, parent by parent, as from a word that is clicked on:
+//!
+//! ```
+//! use kaori_syntax::{Node, Rooms};
+//!
+//! let mut rooms = Rooms::for_tokens(64);
+//! let tree = rooms.read(b"fun draw(i) { while i < 9 { show(i + 1); } }", 64)?;
+//!
+//! // around the `i` of `i + 1`: the sum, the call, a block, the loop, a block, the function, the root
+//! let Some(name) = tree.rows().find(|row| row.span.start == 33) else { panic!() };
+//! assert!(matches!(name.node, Node::Identifier(_)));
+//! assert_eq!(tree.outward(name.number).count(), 8);
+//! let function = tree.outward(name.number).find_map(|row| match row.node {
+//!     Node::Function { name, .. } => tree.symbol(name.symbol),
+//!     _ => None,
+//! });
+//! assert_eq!(function, Some(&b"draw"[..]));
+//! # Ok::<(), kaori_syntax::Refusal>(())
+//! ```
+//!
 //! A refusal has a code, a place and a message:
 //!
 //! ```
@@ -56,7 +76,7 @@
 mod node;
 mod raw;
 
-pub use node::{BinaryOp, Entries, Name, Names, Node, Nodes, Row, Rows, Span, Tree, UnaryOp};
+pub use node::{BinaryOp, Entries, Name, Names, Node, Nodes, Outward, Row, Rows, Span, Tree, UnaryOp};
 
 /// The most tokens of a script, the Eof at its end counted.
 pub const MAX_TOKENS: usize = 4096;
@@ -65,37 +85,48 @@ pub const MAX_TEXT: usize = 65_536;
 /// The greatest depth limit.
 pub const MAX_DEPTH: u32 = 64;
 
+/// The numbers of a token in a list.
+pub const TOKEN_WIDTH: usize = 3;
+/// The numbers of a node row.
+pub const NODE_WIDTH: usize = 10;
+/// The numbers of a link row.
+pub const LINK_WIDTH: usize = 3;
+/// The numbers of a symbol row.
+pub const SYMBOL_WIDTH: usize = 2;
+/// The numbers of a scratch row.
+pub const SCRATCH_WIDTH: usize = 3;
+
 const NO_KIND: u32 = 255;
 
-/// What the reader writes into, lent for a call: rows of 9, 3, 2 and 3 numbers. Each room needs as many rows as there are
-/// tokens; what it holds does not matter.
+/// What the reader writes into, lent for a call. Each room needs as many rows as there are tokens; what it holds does not
+/// matter.
 ///
 /// After a success each room has the script's rows and then zeros, `scratch` zeros alone. After a refusal with code 1 to 7
 /// or 16 all are as they were; after one with code 8 to 11 all are zeros.
 #[derive(Debug)]
 pub struct Lent<'a> {
-    /// Nine numbers a row.
+    /// [`NODE_WIDTH`] numbers a row.
     pub nodes: &'a mut [u32],
-    /// Three numbers a row.
+    /// [`LINK_WIDTH`] numbers a row.
     pub links: &'a mut [u32],
-    /// Two numbers a row.
+    /// [`SYMBOL_WIDTH`] numbers a row.
     pub symbols: &'a mut [u32],
-    /// Three numbers a row; of use to the reader alone.
+    /// [`SCRATCH_WIDTH`] numbers a row; of use to the reader alone.
     pub scratch: &'a mut [u32],
 }
 
 /// Rooms of the crate's own, to be lent again and again.
 #[derive(Clone, Debug, Default)]
 pub struct Rooms {
-    /// Nine numbers a row.
+    /// [`NODE_WIDTH`] numbers a row.
     pub nodes: Vec<u32>,
-    /// Three numbers a row.
+    /// [`LINK_WIDTH`] numbers a row.
     pub links: Vec<u32>,
-    /// Two numbers a row.
+    /// [`SYMBOL_WIDTH`] numbers a row.
     pub symbols: Vec<u32>,
-    /// Three numbers a row.
+    /// [`SCRATCH_WIDTH`] numbers a row.
     pub scratch: Vec<u32>,
-    /// For the tokens that [`Rooms::read`] makes: three numbers each.
+    /// For the tokens that [`Rooms::read`] makes: [`TOKEN_WIDTH`] numbers each.
     pub list: Vec<u32>,
 }
 
@@ -105,11 +136,11 @@ impl Rooms {
     pub fn for_tokens(tokens: usize) -> Rooms {
         let rows = tokens.min(MAX_TOKENS);
         Rooms {
-            nodes: vec![0; 9 * rows],
-            links: vec![0; 3 * rows],
-            symbols: vec![0; 2 * rows],
-            scratch: vec![0; 3 * rows],
-            list: vec![0; 3 * rows],
+            nodes: vec![0; NODE_WIDTH * rows],
+            links: vec![0; LINK_WIDTH * rows],
+            symbols: vec![0; SYMBOL_WIDTH * rows],
+            scratch: vec![0; SCRATCH_WIDTH * rows],
+            list: vec![0; TOKEN_WIDTH * rows],
         }
     }
 
@@ -244,7 +275,7 @@ pub fn place(text: &[u8], offset: usize) -> Option<Place> {
 /// assert_eq!(rooms.read(b"a; b; c; d;", 64).unwrap_err().code, 1); // 9 tokens
 ///
 /// // the same in arrays of the caller's
-/// let (mut list, mut nodes, mut links, mut symbols, mut scratch) = ([0; 24], [0; 72], [0; 24], [0; 16], [0; 24]);
+/// let (mut list, mut nodes, mut links, mut symbols, mut scratch) = ([0; 24], [0; 80], [0; 24], [0; 16], [0; 24]);
 /// let lent = Lent { nodes: &mut nodes, links: &mut links, symbols: &mut symbols, scratch: &mut scratch };
 /// assert_eq!(read(b"((a));", &mut list, 3, lent)?.rows().count(), 2);
 /// # Ok::<(), kaori_syntax::Refusal>(())
@@ -287,7 +318,7 @@ fn tree<'a>(
         return Ok(Tree::new(text, (nodes, node_rows), (links, link_rows), (symbols, symbol_rows)));
     }
     let expected = (expected != NO_KIND).then_some(expected);
-    let found = (at as usize).checked_mul(3).and_then(|kind| tokens.get(kind)).copied();
+    let found = (at as usize).checked_mul(TOKEN_WIDTH).and_then(|kind| tokens.get(kind)).copied();
     let found = found.filter(|_| (6..=11).contains(&code));
     Err(Refusal { code, at, span: Span { start, end }, expected, found })
 }

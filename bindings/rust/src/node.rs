@@ -1,4 +1,5 @@
 //! The rows of a script as nodes.
+use crate::{LINK_WIDTH, NODE_WIDTH, SYMBOL_WIDTH};
 
 const ABSENT: u32 = u32::MAX;
 
@@ -6,9 +7,9 @@ const ABSENT: u32 = u32::MAX;
 #[derive(Clone, Copy, Debug)]
 pub struct Tree<'a> {
     text: &'a [u8],
-    nodes: &'a [[u32; 9]],
-    links: &'a [[u32; 3]],
-    symbols: &'a [[u32; 2]],
+    nodes: &'a [[u32; NODE_WIDTH]],
+    links: &'a [[u32; LINK_WIDTH]],
+    symbols: &'a [[u32; SYMBOL_WIDTH]],
 }
 
 /// A place in the text: from `start` up to `end`.
@@ -28,6 +29,8 @@ pub struct Row<'a> {
     /// Its place in the text; 0, 0 for the root. A row made of children may start later than its text, as in ast.rs: the sum in
     /// `f(x) + 1` starts at `(`.
     pub span: Span,
+    /// The row that has it as a child, which is a later one; none for the root.
+    pub parent: Option<u32>,
     /// What it is.
     pub node: Node<'a>,
 }
@@ -155,15 +158,15 @@ pub enum Node<'a> {
 
 /// A list of nodes, by the numbers of their rows.
 #[derive(Clone, Copy, PartialEq, Eq, Debug)]
-pub struct Nodes<'a>(&'a [[u32; 3]]);
+pub struct Nodes<'a>(&'a [[u32; LINK_WIDTH]]);
 
 /// A list of names.
 #[derive(Clone, Copy, PartialEq, Eq, Debug)]
-pub struct Names<'a>(&'a [[u32; 3]]);
+pub struct Names<'a>(&'a [[u32; LINK_WIDTH]]);
 
 /// The entries of a map: a key's row, and a value's where there is one.
 #[derive(Clone, Copy, PartialEq, Eq, Debug)]
-pub struct Entries<'a>(&'a [[u32; 3]]);
+pub struct Entries<'a>(&'a [[u32; LINK_WIDTH]]);
 
 /// What the three lists share.
 macro_rules! list {
@@ -212,6 +215,28 @@ impl<'a> Iterator for Rows<'a> {
     }
 }
 
+/// A row, its parent, that one's parent, and so on: what encloses a row, the root last.
+#[derive(Clone, Debug)]
+pub struct Outward<'a> {
+    tree: Tree<'a>,
+    next: Option<u32>,
+}
+
+impl<'a> Iterator for Outward<'a> {
+    type Item = Row<'a>;
+
+    fn next(&mut self) -> Option<Row<'a>> {
+        let row = self.tree.row(self.next.take()?)?;
+        // whatever the rows hold, numbers rise, so that there is an end
+        self.next = row.parent.filter(|&parent| row.number < parent);
+        Some(row)
+    }
+
+    fn size_hint(&self) -> (usize, Option<usize>) {
+        (0, Some(self.next.map_or(0, |next| self.tree.nodes.len().saturating_sub(next as usize))))
+    }
+}
+
 fn option(number: u32) -> Option<u32> {
     (number != ABSENT).then_some(number)
 }
@@ -231,24 +256,48 @@ impl<'a> Tree<'a> {
         Tree { text, nodes: used(nodes), links: used(links), symbols: used(symbols) }
     }
 
-    /// The node rows as numbers: kind, start, end and six more, as bindings/c/kaori.h has them.
-    pub fn node_rows(&self) -> &'a [[u32; 9]] {
+    /// The node rows as numbers: kind, start, end, six more, and the parent's row, as bindings/c/kaori.h has them.
+    pub fn node_rows(&self) -> &'a [[u32; NODE_WIDTH]] {
         self.nodes
     }
 
     /// The link rows as numbers.
-    pub fn link_rows(&self) -> &'a [[u32; 3]] {
+    pub fn link_rows(&self) -> &'a [[u32; LINK_WIDTH]] {
         self.links
     }
 
     /// The symbol rows as numbers: where each symbol first stands in the text.
-    pub fn symbol_rows(&self) -> &'a [[u32; 2]] {
+    pub fn symbol_rows(&self) -> &'a [[u32; SYMBOL_WIDTH]] {
         self.symbols
     }
 
     /// All rows, the root last.
     pub fn rows(&self) -> Rows<'a> {
         Rows { tree: *self, next: 0 }
+    }
+
+    /// The row of this number and what encloses it, from the inside out: the row itself, its parent, and so on to the root.
+    /// Nothing, if there are not so many rows.
+    ///
+    /// ```
+    /// use kaori_syntax::{Node, Rooms};
+    ///
+    /// let mut rooms = Rooms::for_tokens(16);
+    /// let tree = rooms.read(b"if not typed { advance(); }", 64)?;
+    /// // `typed` is row 0; it stands in the `not`, which stands in the `if`, which stands in the script
+    /// let mut outward = tree.outward(0).map(|row| row.node);
+    /// assert!(matches!(outward.next(), Some(Node::Identifier(_))));
+    /// assert!(matches!(outward.next(), Some(Node::LogicalNot(0))));
+    /// assert!(matches!(outward.next(), Some(Node::If { .. })));
+    /// assert!(matches!(outward.next(), Some(Node::Block { .. })));
+    /// assert!(outward.next().is_none());
+    ///
+    /// assert_eq!(tree.root().map(|row| row.parent), Some(None));
+    /// assert_eq!(tree.outward(100).count(), 0);
+    /// # Ok::<(), kaori_syntax::Refusal>(())
+    /// ```
+    pub fn outward(&self, number: u32) -> Outward<'a> {
+        Outward { tree: *self, next: Some(number) }
     }
 
     /// The last row: the block of the script's statements.
@@ -264,7 +313,7 @@ impl<'a> Tree<'a> {
 
     /// The row of this number. None: there are not so many.
     pub fn row(&self, number: u32) -> Option<Row<'a>> {
-        let &[kind, start, end, a, b, c, d, e, f] = self.nodes.get(number as usize)?;
+        let &[kind, start, end, a, b, c, d, e, f, parent] = self.nodes.get(number as usize)?;
         let name = Name { symbol: a, span: Span { start: b, end: c } };
         let node = match kind {
             1 => Node::Binary { operator: binary(a)?, left: b, right: c },
@@ -298,10 +347,10 @@ impl<'a> Tree<'a> {
             26 => Node::Import { path: Names(self.list(a, b)?), bindings: Names(self.list(c, d)?) },
             _ => return None,
         };
-        Some(Row { number, span: Span { start, end }, node })
+        Some(Row { number, span: Span { start, end }, parent: option(parent), node })
     }
 
-    fn list(&self, first: u32, count: u32) -> Option<&'a [[u32; 3]]> {
+    fn list(&self, first: u32, count: u32) -> Option<&'a [[u32; LINK_WIDTH]]> {
         let first = first as usize;
         self.links.get(first..first.checked_add(count as usize)?)
     }
@@ -316,4 +365,40 @@ fn binary(number: u32) -> Option<BinaryOp> {
 
 fn unary(number: u32) -> Option<UnaryOp> {
     [UnaryOp::Negate, UnaryOp::Deref].get(number as usize).copied()
+}
+
+#[cfg(test)]
+mod tests {
+    use super::*;
+
+    /// The numbers of three rows of these kinds and parents, from one outward.
+    fn outward(kinds: [u32; 3], parents: [u32; 3], from: u32) -> Vec<u32> {
+        let row = |i: usize| [kinds[i], 0, 0, 0, 0, 0, 0, 0, 0, parents[i]];
+        let nodes = [row(0), row(1), row(2), [14; NODE_WIDTH]].concat(); // the room has a row more
+        let tree = Tree::new(b"", (&nodes, 3), (&[], 0), (&[], 0));
+        tree.outward(from).map(|row| row.number).collect()
+    }
+
+    #[test]
+    fn any_parents() {
+        const NUMBERS: [u32; 7] = [0, 1, 2, 3, 4, ABSENT - 1, ABSENT];
+        for turn in 0..343 {
+            let parents = [turn / 49, turn / 7 % 7, turn % 7].map(|i| NUMBERS[i]);
+            for from in NUMBERS {
+                let rows = outward([14; 3], parents, from);
+                assert_eq!(rows.first().copied(), (from < 3).then_some(from));
+                assert!(rows.is_sorted_by(|one, next| one < next && parents[*one as usize] == *next));
+                // nothing more that could be next
+                assert!(rows.last().is_none_or(|&last| !(last + 1..3).contains(&parents[last as usize])));
+            }
+        }
+    }
+
+    #[test]
+    fn rows_of_no_kind() {
+        assert_eq!(outward([14, 0, 14], [1, 2, ABSENT], 0), [0]);
+        assert_eq!(outward([14, 14, 27], [2, 2, ABSENT], 0), [0]);
+        assert_eq!(outward([27, 14, 14], [1, 2, ABSENT], 0), [0; 0]);
+        assert_eq!(outward([0, 14, 14], [1, 2, ABSENT], 1), [1, 2]);
+    }
 }

@@ -2,7 +2,7 @@
 //! frames (4 bytes of length, little-endian), a case and its answer in turn, as the program `rows` reads and prints them.
 mod rows;
 
-use kaori_syntax::Rooms;
+use kaori_syntax::{LINK_WIDTH, NODE_WIDTH, Rooms, SYMBOL_WIDTH};
 use rows::{answer, decode, frame};
 
 const LIST: &[u8] = include_bytes!("../../../crates/replay/stdin");
@@ -11,7 +11,7 @@ const COUNTED: &str = include_str!("../../../crates/replay/stdout");
 
 /// What document 01 says of the rooms after a call whose rooms held 7 throughout.
 fn check_rooms(rooms: &Rooms, code: u32, counts: [usize; 3]) {
-    let used = [9 * counts[0], 3 * counts[1], 2 * counts[2], 0];
+    let used = [NODE_WIDTH * counts[0], LINK_WIDTH * counts[1], SYMBOL_WIDTH * counts[2], 0];
     for (room, used) in [&rooms.nodes, &rooms.links, &rooms.symbols, &rooms.scratch].into_iter().zip(used) {
         let rest = if (1..=7).contains(&code) { 7 } else { 0 };
         assert!(room[used..].iter().all(|&number| number == rest), "code {code}");

@@ -1,5 +1,8 @@
 //! Rooms of all sizes, rows that are not there, and whatever else can be handed over: every call answers and nothing panics.
-use kaori_syntax::{Lent, Node, Rooms, Tree, parse, place, read};
+use kaori_syntax::{
+    LINK_WIDTH, Lent, NODE_WIDTH, Node, Rooms, SCRATCH_WIDTH, SYMBOL_WIDTH, TOKEN_WIDTH, Tree, parse, place,
+    read,
+};
 
 #[test]
 fn rooms_of_any_size() {
@@ -11,11 +14,16 @@ fn rooms_of_any_size() {
         }
     }
     let mut rooms = Rooms::for_tokens(16);
-    rooms.links.truncate(3 * 13 - 1);
+    rooms.nodes.truncate(NODE_WIDTH * 13);
+    assert!(rooms.read(text, 64).is_ok());
+    rooms.nodes.truncate(NODE_WIDTH * 13 - 1);
+    assert_eq!(rooms.read(text, 64).unwrap_err().code, 4);
+    let mut rooms = Rooms::for_tokens(16);
+    rooms.links.truncate(LINK_WIDTH * 13 - 1);
     assert_eq!(rooms.read(text, 64).unwrap_err().code, 4);
     assert!(Rooms::for_tokens(1).read(b"", 64).is_ok());
     assert_eq!(Rooms::default().read(b"", 64).unwrap_err().code, 1);
-    assert_eq!(Rooms::for_tokens(usize::MAX).nodes.len(), 9 * 4096);
+    assert_eq!(Rooms::for_tokens(usize::MAX).nodes.len(), 10 * 4096);
 }
 
 #[test]
@@ -25,6 +33,25 @@ fn rows_that_are_not_there() {
     assert!(tree.row(2).is_none() && tree.row(u32::MAX).is_none());
     assert!(tree.symbol(1).is_none() && tree.symbol(u32::MAX).is_none());
     assert_eq!(tree.rows().size_hint(), (0, Some(2)));
+    for number in [2, 3, u32::MAX] {
+        assert!(tree.outward(number).next().is_none() && tree.outward(number).size_hint() == (0, Some(0)));
+    }
+}
+
+#[test]
+fn outward() {
+    let mut rooms = Rooms::for_tokens(16);
+    let tree = rooms.read(b"#{k: f(-x), v};", 64).unwrap(); // k, f, x, -x, the call, v, the map, the root
+    let parents: Vec<_> = tree.rows().map(|row| row.parent).collect();
+    assert_eq!(parents, [Some(6), Some(4), Some(3), Some(4), Some(6), Some(6), Some(7), None]);
+    let numbers = |from: u32| tree.outward(from).map(|row| row.number).collect::<Vec<_>>();
+    assert_eq!((numbers(2), numbers(5), numbers(7)), (vec![2, 3, 4, 6, 7], vec![5, 6, 7], vec![7]));
+    let mut rows = tree.outward(2);
+    assert_eq!(rows.size_hint(), (0, Some(6)));
+    assert_eq!(rows.next(), tree.row(2));
+    assert_eq!(rows.size_hint(), (0, Some(5)));
+    assert_eq!(rows.by_ref().last(), tree.root());
+    assert_eq!((rows.size_hint(), rows.next()), ((0, Some(0)), None));
 }
 
 #[test]
@@ -79,29 +106,68 @@ impl Dice {
     }
 }
 
-/// Follows every number of every row.
+/// The rows that a node names, in their order, and the symbols of its names and strings.
+fn named(node: &Node) -> (Vec<u32>, Vec<u32>) {
+    let rows = match *node {
+        Node::Binary { left, right, .. }
+        | Node::LogicalAnd { left, right }
+        | Node::LogicalOr { left, right }
+        | Node::Assign { left, right } => vec![left, right],
+        Node::LogicalNot(child) | Node::Unary { operand: child, .. } | Node::Return(child) => vec![child],
+        Node::Variable { right, .. } | Node::Constant { right, .. } | Node::Ref { right, .. } => vec![right],
+        Node::FunctionCall { callee, arguments } => [callee].into_iter().chain(arguments.iter()).collect(),
+        Node::PropertyAccess { object, .. } => vec![object],
+        Node::Map { entries } => {
+            entries.iter().flat_map(|(key, value)| [key].into_iter().chain(value)).collect()
+        }
+        Node::Function { block, .. } | Node::Lambda { block, .. } => vec![block],
+        Node::Block { statements, tail } => statements.iter().chain(tail).collect(),
+        Node::If { condition, then_branch, else_branch } => {
+            [condition, then_branch].into_iter().chain(else_branch).collect()
+        }
+        Node::WhileLoop { condition, block } => vec![condition, block],
+        _ => vec![],
+    };
+    let symbols = match *node {
+        Node::Variable { left: name, .. }
+        | Node::Constant { left: name, .. }
+        | Node::Ref { left: name, .. }
+        | Node::Identifier(name)
+        | Node::PropertyAccess { property: name, .. } => vec![name.symbol],
+        Node::Function { name, parameters, .. } => {
+            parameters.iter().chain([name]).map(|name| name.symbol).collect()
+        }
+        Node::Lambda { parameters, .. } => parameters.iter().map(|name| name.symbol).collect(),
+        Node::Import { path, bindings } => {
+            path.iter().chain(bindings.iter()).map(|name| name.symbol).collect()
+        }
+        Node::String(symbol) => vec![symbol],
+        _ => vec![],
+    };
+    (rows, symbols)
+}
+
+/// Follows every number of every row, inward and outward.
 fn walk(tree: &Tree) {
     let mut rows = 0;
+    let mut parents = vec![None; tree.node_rows().len()];
     for row in tree.rows() {
         assert_eq!(row.number, rows);
         rows += 1;
-        let earlier = |child: u32| assert!(child < row.number && tree.row(child).is_some());
-        match row.node {
-            Node::FunctionCall { callee, arguments } => arguments.iter().chain([callee]).for_each(earlier),
-            Node::Block { statements, tail } => statements.iter().chain(tail).for_each(earlier),
-            Node::Map { entries } => entries.iter().for_each(|(key, value)| {
-                earlier(key);
-                value.into_iter().for_each(earlier)
-            }),
-            Node::Function { name, parameters, block } => {
-                earlier(block);
-                assert!(parameters.iter().chain([name]).all(|name| tree.symbol(name.symbol).is_some()));
-            }
-            Node::String(symbol) => assert!(tree.symbol(symbol).is_some()),
-            _ => {}
+        let (children, symbols) = named(&row.node);
+        assert!(symbols.iter().all(|&symbol| tree.symbol(symbol).is_some()));
+        for child in children {
+            assert!(child < row.number && tree.row(child).is_some());
+            assert_eq!(parents[child as usize].replace(row.number), None);
         }
     }
     assert!(rows as usize == tree.node_rows().len() && rows > 0);
+    assert!(tree.rows().map(|row| row.parent).eq(parents.iter().copied()));
+    assert_eq!(parents.iter().position(|parent| parent.is_none()), Some(parents.len() - 1));
+    for row in tree.rows() {
+        assert_eq!(tree.outward(row.number).next(), Some(row));
+        assert_eq!(tree.outward(row.number).last(), tree.root());
+    }
 }
 
 #[test]
@@ -117,14 +183,14 @@ fn anything_at_all() {
         let text = text.as_bytes();
         let limit = dice.number(64);
         let mut rooms = Rooms {
-            nodes: dice.numbers(9 * 16, 70),
-            links: dice.numbers(3 * 16, 70),
-            symbols: dice.numbers(2 * 16, 70),
-            scratch: dice.numbers(3 * 16, 70),
-            list: dice.numbers(3 * 16, 70),
+            nodes: dice.numbers(NODE_WIDTH * 16, 70),
+            links: dice.numbers(LINK_WIDTH * 16, 70),
+            symbols: dice.numbers(SYMBOL_WIDTH * 16, 70),
+            scratch: dice.numbers(SCRATCH_WIDTH * 16, 70),
+            list: dice.numbers(TOKEN_WIDTH * 16, 70),
         };
         if dice.roll(4) == 0 {
-            let short = dice.roll(150);
+            let short = dice.roll(NODE_WIDTH * 16 + 6);
             for room in [&mut rooms.nodes, &mut rooms.links, &mut rooms.symbols, &mut rooms.list] {
                 room.truncate(short);
             }
@@ -163,10 +229,11 @@ fn anything_at_all() {
 #[test]
 fn slices_of_the_callers() {
     let (mut list, mut nodes, mut links, mut symbols, mut scratch) =
-        ([9; 10], [9; 28], [9; 10], [9; 7], [9; 11]);
+        ([9; 10], [9; 31], [9; 10], [9; 7], [9; 11]);
     let lent = Lent { nodes: &mut nodes, links: &mut links, symbols: &mut symbols, scratch: &mut scratch };
     assert_eq!(read(b"a;", &mut list, 64, lent).map(|tree| tree.rows().count()), Ok(2));
-    assert_eq!((list[9], nodes[27], links[9], symbols[6], scratch), (0, 0, 0, 0, [0; 11]));
+    assert_eq!((list[9], nodes[19], links[9], symbols[6], scratch), (0, u32::MAX, 0, 0, [0; 11]));
+    assert_eq!(nodes[20..], [0; 11]);
     let lent = Lent { nodes: &mut [], links: &mut [], symbols: &mut [], scratch: &mut [] };
     assert_eq!(parse(b"a;", &list[..9], 64, lent).unwrap_err().code, 4);
     let lent = Lent { nodes: &mut [], links: &mut [], symbols: &mut [], scratch: &mut [] };

@@ -1,7 +1,7 @@
 //! What the program `rows` reads and prints, over this crate: each printed row is made again from its node.
 use std::fmt::Write;
 
-use kaori_syntax::{Name, Node, Refusal, Tree};
+use kaori_syntax::{NODE_WIDTH, Name, Node, Refusal, Tree};
 
 /// The printed rows of a script, each made again from its node; an unused number is 0.
 fn printed(tree: &Tree) -> String {
@@ -11,10 +11,11 @@ fn printed(tree: &Tree) -> String {
     let mut links = Vec::new();
     for row in tree.rows() {
         let (kind, numbers) = fields(&row.node, &mut links);
-        let mut all = vec![row.number, kind, row.span.start, row.span.end];
+        let mut all = vec![kind, row.span.start, row.span.end];
         all.extend(&numbers);
-        all.resize(10, 0);
-        writeln!(out, "{}", words(&all)).unwrap();
+        all.resize(NODE_WIDTH - 1, 0);
+        all.push(row.parent.unwrap_or(u32::MAX));
+        writeln!(out, "{} {}", row.number, words(&all)).unwrap();
     }
     for (i, link) in links.iter().enumerate() {
         writeln!(out, "link {i} {}", words(link)).unwrap();
