@@ -10,7 +10,7 @@ use mathlib.Core.Path.{_≡_, refl, sym, ap, _∙_}
 use lib.Dec.{eqb}
 use lib.ListN.{length, getD, List·getD-eq-default}
 use borrow.Author.Tests.{ne-eqb}
-use Rattle.diagnostics.specs.Line.{Newline, Return, at, ends, next, lineOf, Placed}
+use Rattle.diagnostics.specs.Line.{Newline, Return, at, ends, next, lineOf, Placed, Byte-placed}
 use Rattle.diagnostics.specs.declared.Place.{Place}
 
 -- the three ways to tell whether a line ends: a byte that is no return, a return with a byte after it, and a last return
@@ -25,22 +25,14 @@ return-followed text i e = rw (e, add-one i) refl
 pub return-last : (text : List ℕ) (i : ℕ) → getD text i 0 ≡ Return → i + 1 ≡ length text → true ≡ ends text i
 return-last text i e h = ap (λ (x : ℕ). not (eqb x Newline)) (sym (List·getD-eq-default text 0 (omega arith))) ∙ return-followed text i e
 
--- line and column are those of the offset i
-pub record Reached (text : List ℕ) (i line column : ℕ) : Type 0 where
-  pub here : at line column ≡ lineOf text i
-
-pub begun : {text : List ℕ} → Reached text 0 1 1
-unfolding lineOf
-begun = record { here = refl }
-
 -- past a byte that ends its line, and past another
-pub next-line : {text : List ℕ} {i line column : ℕ} → Reached text i line column → ends text i ≡ true → Reached text (i + 1) (line + 1) 1
+pub next-line : {text : List ℕ} {i : ℕ} {here : Place} → Byte-placed text i here → ends text i ≡ true → at (here .line + 1) 1 ≡ lineOf text (i + 1)
 unfolding lineOf
-next-line {text} {i} p h = record { here = rw (add-one i, h) (ap (next true) (p .here)) }
+next-line {i = i} s h = rw (add-one i, h) (ap (next true) (s .there))
 
-pub next-column : {text : List ℕ} {i line column : ℕ} → Reached text i line column → ends text i ≡ false → Reached text (i + 1) line (column + 1)
+pub next-column : {text : List ℕ} {i : ℕ} {here : Place} → Byte-placed text i here → ends text i ≡ false → at (here .line) (here .column + 1) ≡ lineOf text (i + 1)
 unfolding lineOf
-next-column {text} {i} p h = record { here = rw (add-one i, h) (ap (next false) (p .here)) }
+next-column {i = i} s h = rw (add-one i, h) (ap (next false) (s .there))
 
 -- no line or column is greater than the offset and one
 pub record Small (i : ℕ) (s : Place) : Type 0 where
@@ -56,8 +48,8 @@ small text (suc i) = then (ends text i) (lineOf text i) (small text i)
     then true s h = record { line = omega (arith, h .line); column = omega arith }
     then false s h = record { line = omega (arith, h .line); column = omega (arith, h .column) }
 
-pub reached-small : {text : List ℕ} {i line column : ℕ} → Reached text i line column → Small i (at line column)
-reached-small {text} {i} p = rw (p .here) (small text i)
+pub byte-small : {text : List ℕ} {i : ℕ} {here : Place} → Byte-placed text i here → Small i here
+byte-small {text} {i} s = rw (s .there) (small text i)
 
 -- the contract settles the answer
 pub one-place : {text : List ℕ} {offset : ℕ} {r s : Place} → Placed text offset r → Placed text offset s → r ≡ s

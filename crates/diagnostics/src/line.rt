@@ -1,14 +1,22 @@
-// The line and the column of an offset in a text, and where what is written on a line ends.
+// The line and the column of an offset in a text, the offset of a line and a column, and where what is written on a line ends.
 use crate::Place;
-ghost use Prim.Native.Nat.{_≤_, _<_};
+ghost use Prim.Native.Nat.{_+_, _≤_, _<_};
 ghost use mathlib.Core.Path.{_≡_};
 ghost use lib.ListN.{length};
 ghost use Rattle.grammar.specs.Run.{Ran};
-ghost use Rattle.diagnostics.specs.Line.{Placed, ends, inner};
+ghost use Rattle.spelling.specs.Decides.{Decides};
+ghost use Rattle.diagnostics.specs.Line.{Byte-placed, Is-at, Placed, Offset-given, ends, lineOf, inner};
 
 pub const NEWLINE: u8 = 10;
 
 pub const RETURN: u8 = 13;
+
+// Where a text starts.
+const START: Place = Place {
+    code: 0,
+    line: 1,
+    column: 1,
+};
 
 // Whether the line ends with byte i of a text: a newline, or a return that no newline follows. It asks that the text has a byte i.
 // Ruled out: true for the return of a pair; false for a return that is the last byte.
@@ -24,6 +32,25 @@ pub fn ends_line(text: &[u8], i: usize) -> bool
         return true;
     }
     text[i + 1] != NEWLINE
+}
+
+// The place after byte i of a text, from the place of that byte.
+fn after(text: &[u8], i: usize, here: Place) -> Place
+    requires { ⌜ Byte-placed (now text) i here ⌝ }
+    ensures { λ r. ⌜ r ≡ lineOf (now (text .entry)) (i + 1) ⌝ }
+{
+    if ends_line(text, i) {
+        return Place {
+            code: 0,
+            line: here.line + 1,
+            column: 1,
+        };
+    }
+    Place {
+        code: 0,
+        line: here.line,
+        column: here.column + 1,
+    }
 }
 
 // The place of an offset, by one pass over the bytes before it.
@@ -46,23 +73,44 @@ pub fn place(text: &[u8], offset: usize) -> Place
             column: 0,
         };
     }
-    let mut line: u32 = 1;
-    let mut column: u32 = 1;
+    let mut here = START;
     let mut i = 0;
     while i < offset {
-        if ends_line(text, i) {
-            line += 1;
-            column = 1;
-        } else {
-            column += 1;
-        }
+        here = after(text, i, here);
         i += 1;
     }
-    Place {
-        code: 0,
-        line: line,
-        column: column,
+    here
+}
+
+// Whether a place has this line and this column.
+fn is_at(here: Place, line: u32, column: u32) -> bool
+    ensures { λ r. ⌜ Decides (Is-at line column here) r ⌝ }
+{
+    if here.line != line {
+        return false;
     }
+    here.column == column
+}
+
+// The offset that has a line and a column, by one pass over the bytes before it; the text's length and one where no offset has them, and for a text over 65,536 bytes.
+// Ruled out: the start of the next line for a column past a line's end; the text's length for a line that is not there.
+pub fn offset(text: &[u8], line: u32, column: u32) -> usize
+    ensures { λ r. ⌜ Offset-given (now (text .entry)) line column r ⌝ }
+{
+    let n = text.len();
+    if n > 65536 {
+        return n + 1;
+    }
+    let mut here = START;
+    let mut i = 0;
+    while !is_at(here, line, column) {
+        if i == n {
+            return n + 1;
+        }
+        here = after(text, i, here);
+        i += 1;
+    }
+    i
 }
 
 // Whether a byte is part of what is written on a line, and of no line's end.
