@@ -1,4 +1,5 @@
-// The command `kaori`, for those who write scripts: what a script reads as, and what is wrong with it.
+// The command `kaori`, for those who write scripts: what a script reads as, what is wrong with it, and what stands at a place of it.
+mod at;
 mod cover;
 mod listing;
 mod page;
@@ -8,6 +9,7 @@ mod script;
 mod tree;
 mod words;
 
+use at::decimal;
 use check::same;
 use libc::STDERR_FILENO;
 use libc::STDOUT_FILENO;
@@ -20,28 +22,35 @@ fn help() {
     io::write_all(STDOUT_FILENO, b"kaori shows how Kaori reads a script.\n\n");
     io::write_all(
         STDOUT_FILENO,
-        b"  kaori check FILE ..   says what is wrong with a script, and where; nothing if it is good\n",
+        b"  kaori check FILE ..         says what is wrong with a script, and where; nothing if it is good\n",
     );
     io::write_all(
         STDOUT_FILENO,
-        b"  kaori tree FILE ..    shows each statement with its groups in parentheses, and its tree\n",
+        b"  kaori tree FILE ..          shows each statement with its groups in parentheses, and its tree\n",
     );
     io::write_all(
         STDOUT_FILENO,
-        b"  kaori rows FILE ..    lists the rows of the tree, for programs\n",
+        b"  kaori rows FILE ..          lists the rows of the tree, for programs\n",
     );
     io::write_all(
         STDOUT_FILENO,
-        b"  kaori all FILE ..     the tree and then the rows\n",
+        b"  kaori all FILE ..           the tree and then the rows\n",
     );
-    io::write_all(STDOUT_FILENO, b"  kaori help            this text\n\n");
+    io::write_all(
+        STDOUT_FILENO,
+        b"  kaori at FILE LINE COLUMN   shows what stands at a place, from the innermost node outward\n",
+    );
+    io::write_all(
+        STDOUT_FILENO,
+        b"  kaori help                  this text\n\n",
+    );
     io::write_all(
         STDOUT_FILENO,
         b"A script has at most 65,536 bytes and 4,095 tokens, and is nested at most 64 deep.\n",
     );
     io::write_all(
         STDOUT_FILENO,
-        b"Exit status: 0 if all scripts are good, 1 if one is not, 2 if a file cannot be read.\n",
+        b"Exit status: 0 if all scripts are good, 1 if one is not, 2 if a file cannot be read or has no such place.\n",
     );
 }
 
@@ -143,8 +152,57 @@ fn files(wish: Wish, first: usize) -> u32
     status
 }
 
+// The number from 1 on that argument i writes; 0, with a complaint, where it writes none.
+fn number(i: usize) -> u32 {
+    let mut word = io::buffer();
+    let n = os::arg(i, &mut word);
+    if os::errno() != 0 {
+        fail(b"number");
+        return 0;
+    }
+    let value = decimal(&word[..n]);
+    if value == 0 {
+        complain(&word[..n], b": not a number from 1 to 999,999,999");
+    }
+    value
+}
+
+// What stands at the place that three arguments name: a file, a line and a column.
+fn place(first: usize) -> u32
+    requires { ⌜ first ≤ 3 ⌝ }
+    ensures { λ r. ⌜ r ≤ 2 ⌝ }
+{
+    let mut out = io::buffer();
+    if os::arg_count() != first + 3 {
+        complain(b"at", b" takes a file, a line and a column; see kaori help");
+        return 2;
+    }
+    let line = number(first + 1);
+    if line == 0 {
+        return 2;
+    }
+    let column = number(first + 2);
+    if column == 0 {
+        return 2;
+    }
+    argument(
+        Wish {
+            report: true,
+            tree: false,
+            rows: false,
+            heads: false,
+            line: line,
+            column: column,
+        },
+        first,
+        false,
+        &mut out,
+    )
+}
+
 // What a command asks for, and the files that follow it.
 fn command(word: &[u8], first: usize) -> u32
+    requires { ⌜ first ≤ 3 ⌝ }
     ensures { λ r. ⌜ r ≤ 2 ⌝ }
 {
     if same(word, b"check") {
@@ -154,6 +212,8 @@ fn command(word: &[u8], first: usize) -> u32
                 tree: false,
                 rows: false,
                 heads: false,
+                line: 0,
+                column: 0,
             },
             first,
         );
@@ -165,6 +225,8 @@ fn command(word: &[u8], first: usize) -> u32
                 tree: true,
                 rows: false,
                 heads: true,
+                line: 0,
+                column: 0,
             },
             first,
         );
@@ -176,6 +238,8 @@ fn command(word: &[u8], first: usize) -> u32
                 tree: false,
                 rows: true,
                 heads: true,
+                line: 0,
+                column: 0,
             },
             first,
         );
@@ -187,9 +251,14 @@ fn command(word: &[u8], first: usize) -> u32
                 tree: true,
                 rows: true,
                 heads: true,
+                line: 0,
+                column: 0,
             },
             first,
         );
+    }
+    if same(word, b"at") {
+        return place(first);
     }
     if same(word, b"help") {
         help();

@@ -1,4 +1,5 @@
 // One file: its text is read, then its tokens and rows are made, and what the command asks for is shown.
+use crate::at::show_at;
 use crate::cover::cover;
 use crate::cover::part_of;
 use crate::listing::list_refusal;
@@ -19,18 +20,23 @@ use children::below;
 use children::child;
 use children::node;
 use children::places;
+use diagnostics::line::offset;
 use diagnostics::line::place;
+use libc::STDERR_FILENO;
 use reader::read;
 use syntax::Numbers;
 use wire::output::found;
 ghost use Prim.Native.Nat.{_≤_};
 
-// What is asked for: the report of a refusal, the statements with their trees, the rows; and the names of files above them.
+// What is asked for: the report of a refusal, the statements with their trees, the rows; the names of files above them; and what stands at a line and a column,
+// unless the line is 0.
 pub struct Wish {
     pub report: bool,
     pub tree: bool,
     pub rows: bool,
     pub heads: bool,
+    pub line: u32,
+    pub column: u32,
 }
 
 // The line where a statement starts.
@@ -116,6 +122,44 @@ fn show_read(
     show_all(text, nodes, links, &covers, out, rows - 1);
 }
 
+// One line on standard error: a file has no such place.
+fn lacks(path: &[u8], line: u32, column: u32) {
+    io::write_all(STDERR_FILENO, b"kaori: ");
+    io::write_all(STDERR_FILENO, path);
+    io::write_all(STDERR_FILENO, b": no place ");
+    io::print_decimal(STDERR_FILENO, line as u64);
+    io::write_all(STDERR_FILENO, b":");
+    io::print_decimal(STDERR_FILENO, column as u64);
+    io::write_all(STDERR_FILENO, b" in it\n");
+}
+
+// What stands at the place that is asked for. The answer is the status.
+fn show_place(
+    wish: Wish,
+    path: &[u8],
+    text: &[u8],
+    list: &[u32],
+    nodes: &[u32],
+    links: &[u32],
+    rows: u32,
+    out: &mut [u8; 4096],
+) -> u32
+    ensures { λ r. ⌜ r ≤ 2 ⌝ }
+{
+    let here = offset(text, wish.line, wish.column);
+    if here > text.len() {
+        lacks(path, wish.line, wish.column);
+        return 2;
+    }
+    if rows == 0 {
+        return 0;
+    }
+    let mut covers = two_each();
+    cover(list, count(list), nodes, links, rows, &mut covers);
+    show_at(text, nodes, &covers, out, rows - 1, here);
+    0
+}
+
 // What is shown of a script that is refused: a report, and its numbers as the listing has them.
 fn show_refused(
     wish: Wish,
@@ -148,16 +192,16 @@ fn three_each() -> [u32; 12288] {
     [0; 12288]
 }
 
-fn nine_each() -> [u32; 36864] {
-    [0; 36864]
+fn ten_each() -> [u32; 40960] {
+    [0; 40960]
 }
 
-// Reads a text, and shows what is asked for. The answer is the status: 0 for a good script, 1 for one that is refused.
+// Reads a text, and shows what is asked for. The answer is the status: 0 for a good script, 1 for one that is refused, 2 for a place that it does not have.
 pub(crate) fn script(wish: Wish, path: &[u8], text: &[u8], out: &mut [u8; 4096]) -> u32
-    ensures { λ r. ⌜ r ≤ 1 ⌝ }
+    ensures { λ r. ⌜ r ≤ 2 ⌝ }
 {
     let mut list = three_each();
-    let mut nodes = nine_each();
+    let mut nodes = ten_each();
     let mut links = three_each();
     let mut symbols = two_each();
     let mut scratch = three_each();
@@ -173,6 +217,9 @@ pub(crate) fn script(wish: Wish, path: &[u8], text: &[u8], out: &mut [u8; 4096])
     if a.code != 0 {
         show_refused(wish, path, text, &list, a, out);
         return 1;
+    }
+    if wish.line != 0 {
+        return show_place(wish, path, text, &list, &nodes, &links, a.nodes, out);
     }
     if wish.tree {
         show_read(text, &list, &nodes, &links, a.nodes, out);

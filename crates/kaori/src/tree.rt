@@ -1,4 +1,5 @@
 // The tree of a statement: a line for each node, with its place, its name and operator, and the text that it covers.
+use crate::cover::Part;
 use crate::cover::part_of;
 use crate::page::end_line;
 use crate::page::pad;
@@ -30,7 +31,7 @@ fn put_place(text: &[u8], offset: u32, out: &mut [u8; 4096], at: usize) -> usize
 }
 
 // A node's name, with its operator where it has one.
-fn put_node(nodes: &[u32], row: u32, out: &mut [u8; 4096], at: usize) -> usize
+pub(crate) fn put_node(nodes: &[u32], row: u32, out: &mut [u8; 4096], at: usize) -> usize
     requires { ⌜ at ≤ 4096 ⌝ }
     ensures { λ r. ⌜ r ≤ 4096 ⌝ }
 {
@@ -54,6 +55,28 @@ fn put_tail(tail: bool, out: &mut [u8; 4096], at: usize) -> usize
     at
 }
 
+// What a line starts with: where a part of the text starts, and the indent of a level.
+pub(crate) fn lead(text: &[u8], part: Part, level: u32, out: &mut [u8; 4096]) -> usize
+    ensures { λ r. ⌜ r ≤ 4096 ⌝ }
+{
+    let margin = pad(4, out, 0);
+    let placed = put_place(text, part.start, out, margin);
+    indent(13, level, out, placed)
+}
+
+// Ends a line with what the part has; nothing where the part is empty.
+pub(crate) fn finish(text: &[u8], part: Part, out: &mut [u8; 4096], at: usize)
+    requires { ⌜ at ≤ 4096 ⌝ }
+{
+    if part.start == part.end {
+        end_line(out, at);
+        return;
+    }
+    let gap = pad(46, out, at);
+    let all = put_excerpt(text, part.start, part.end, 52, out, gap);
+    end_line(out, all);
+}
+
 // The line of a node.
 fn line(
     text: &[u8],
@@ -65,14 +88,10 @@ fn line(
     tail: bool,
 ) {
     let part = part_of(covers, row);
-    let margin = pad(4, out, 0);
-    let placed = put_place(text, part.start, out, margin);
-    let deep = indent(13, level, out, placed);
-    let named = put_node(nodes, row, out, deep);
+    let led = lead(text, part, level, out);
+    let named = put_node(nodes, row, out, led);
     let marked = put_tail(tail, out, named);
-    let gap = pad(46, out, marked);
-    let all = put_excerpt(text, part.start, part.end, 52, out, gap);
-    end_line(out, all);
+    finish(text, part, out, marked);
 }
 
 // Whether a place of a row is its tail: only a block has one.
