@@ -9,8 +9,13 @@ ghost use mathlib.Core.List.{_∷_, []};
 ghost use Rattle.grammar.specs.Label.{Node as Form, number-of};
 ghost use Rattle.ast.specs.Inserted.{Free, Inserted};
 
-// The numbers of a node row.
+// The numbers of a node row, and which of them is its parent's row.
 pub const NODE_WIDTH: usize = 10;
+
+pub const PARENT: usize = 9;
+
+// No row.
+pub const ABSENT: u32 = 4294967295;
 
 // The handle of a row: its number and span, so that a merged span needs no look back into the room.
 pub struct Node {
@@ -41,7 +46,7 @@ fn insert(
     room::three(nodes, i, kind, start, end);
     room::three(nodes, i + 3, a, b, c);
     room::three(nodes, i + 6, d, e, f);
-    room::one(nodes, i + 9, 0);
+    room::one(nodes, i + PARENT, 0);
     Node {
         id: n as u32,
         start: start,

@@ -1,5 +1,6 @@
 // What stands below a row of a tree, in the order of the text. Every function answers for any numbers: what is not there is ABSENT, so that a walk needs no promise
 // about the rows.
+use ast::ABSENT;
 use ast::NODE_WIDTH;
 use ast::kinds;
 ghost use Prim.Native.Nat.{_+_, _*_};
@@ -10,9 +11,6 @@ ghost use Rattle.children.specs.Below.{Number, three, Below, Linked, Pla
 
 // The numbers of a link row.
 const LINK_WIDTH: usize = 3;
-
-// No row.
-pub const ABSENT: u32 = 4294967295;
 
 // Number i of a node row.
 // Ruled out: the number before it; 0 past the room.

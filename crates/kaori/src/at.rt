@@ -5,11 +5,9 @@ use crate::page::put;
 use crate::tree::finish;
 use crate::tree::lead;
 use crate::tree::put_node;
+use ast::PARENT;
 use children::node;
 ghost use Prim.Native.Nat.{_≤_};
-
-// The number of a node row that names its parent.
-const PARENT: u32 = 9;
 
 // The digit that a byte writes; 10 for a byte that is none.
 fn digit(byte: u8) -> u32
@@ -90,7 +88,7 @@ fn outward(
     let mut row = first;
     while row <= root {
         line(text, nodes, covers, out, row, root);
-        let above = node(nodes, row, PARENT);
+        let above = node(nodes, row, PARENT as u32);
         if above <= row {
             return;
         }

@@ -5,7 +5,7 @@ use crate::page::put_byte;
 use crate::words::indent;
 use crate::words::put_sign;
 use crate::words::put_text;
-use children::ABSENT;
+use ast::ABSENT;
 use children::Children;
 use children::below;
 use children::child;

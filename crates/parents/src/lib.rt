@@ -1,6 +1,8 @@
 // Each row's parent, put in once all rows are written: one pass over the rows, in their order. What a row names is read off by its kind, as the grammar's Layout.antt
 // and Naming.antt have it; any numbers have an answer, if the room has the row.
+use ast::ABSENT;
 use ast::NODE_WIDTH;
+use ast::PARENT;
 use ast::kinds;
 ghost use Prim.Native.Nat.{_*_};
 ghost use mathlib.Core.Bool.{_&&_};
@@ -12,12 +14,6 @@ ghost use Rattle.grammar.specs.Label.{Node as Form, number-of};
 ghost use Rattle.grammar.specs.Naming.{linked-nodes, linked-entries, named-by};
 ghost use Rattle.grammar.specs.Room.{link-width};
 ghost use Rattle.parents.specs.Adopted.{rows, claim, claims, orphaned, In-room, Sound, Adopted};
-
-// No row.
-const ABSENT: u32 = 4294967295;
-
-// Where a row has its parent.
-const PARENT: usize = 9;
 
 // Row x has `row` as its parent, if it is an earlier one.
 fn take(nodes: &mut [u32], row: u32, x: u32)

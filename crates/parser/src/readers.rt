@@ -1,4 +1,5 @@
 // The readers that call each other: a block holds statements, a statement holds expressions, an expression may hold a block.
+use ast::ABSENT;
 use ast::Node;
 use ast::room::push;
 use reading::Cursor;
@@ -34,9 +35,6 @@ ghost use Rattle.grammar.specs.Token.{kind};
 ghost use Rattle.reading.specs.Answers.{node-of, entry-of};
 ghost use Rattle.reading.specs.Clauses.{ready, opened, answered, lists, fills, states, called, onward};
 ghost use Rattle.reading.specs.Parts.{Binder, Sign, Other, form-of, binding-node};
-
-// No row.
-const ABSENT: u32 = 4294967295;
 
 // A statement: its row, and at its node's end the row once more if it may be a tail, or else absent; the node's start is 0.
 // It asks for a list that the door lets in, a cursor at a token of it, room in each room for a row of each token, no more rows so far than tokens before the

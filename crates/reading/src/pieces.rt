@@ -3,6 +3,7 @@ use crate::Cursor;
 use crate::Read;
 use crate::Refusal;
 use crate::codes;
+use ast::ABSENT;
 use ast::Node;
 use token::kinds;
 use token::list::kind_at;
@@ -17,9 +18,6 @@ ghost use Rattle.grammar.specs.Operator.{joining};
 ghost use Rattle.grammar.specs.Token.{count};
 ghost use Rattle.reading.specs.Parts.{grown, Ended, Untailed, binding-node, joined-fields};
 ghost use Rattle.reading.specs.declared.Read.{Read};
-
-// No row.
-const ABSENT: u32 = 4294967295;
 
 // The row of two operands and the operator of this kind between them. It asks that the room has that row (`Free`).
 // Ruled out: a Binary for `and`; the operands in each other's place.

@@ -54,20 +54,28 @@ use Rattle.syntax.specs.declared.Numbers.{Numbers}
 wiped : {l m : List ℕ} → Cleared 0 l m → m ≡ cleared l
 wiped {l} z = let e : length l - 0 ≡ length l = omega arith in z .zeros ∙ rw e
 
+-- the number of the root's row and one is how many rows there are
+pub counted : {n : Node} {m st en : ℕ} {ls ns ms : List ℕ} → n ≡ record { id = m; start = st; end = en } → Adopted (n .id + 1) ls ns ms → Adopted (m + 1) ls ns ms
+counted e a = rw e at a
+
 -- the root's row and links are written
 module _ {c : Cursor} {known : ℕ} {ns ls ys ss ns₁ ls₁ : List ℕ} {n : Node} (f : Root-fits c known (rooms ns ls ys ss))
     (l : Written (3 * c .links) (3 * (c .links + c .held)) (take (3 * c .held) ss) ls ls₁) (i : Inserted (c .nodes) 20 0 0 (c .links ∷ c .held ∷ absent ∷ []) ns ns₁ n) where
   abbrev all : Rows
   all = with-root c (rooms ns ls ys ss)
 
+  -- the link rows with the root's, and where the node rows with the root end
   abbrev used : List ℕ
   used = take (3 * (c .links + c .held)) ls₁
+
+  abbrev upto : ℕ
+  upto = node-width * (c .nodes + 1)
 
   written-rows : first (c .nodes + 1) used ns₁ ≡ all
   written-rows = rw (i .row .rows, l .rows)
 
-  nodes-length : length (all .nodes) ≡ node-width * (c .nodes + 1)
-  nodes-length = ap length (sym (i .row .rows)) ∙ length-take-le (node-width * (c .nodes + 1)) ns₁ (omega (arith, i .row .size, f .nodes))
+  nodes-length : length (all .nodes) ≡ upto
+  nodes-length = ap length (sym (i .row .rows)) ∙ length-take-le upto ns₁ (omega (arith, i .row .size, f .nodes))
 
   tall : height all ≡ c .nodes + 1
   tall = rw nodes-length (mul-div-cancel-left (c .nodes + 1) (omega arith))
@@ -83,14 +91,14 @@ module _ {c : Cursor} {known : ℕ} {ns ls ys ss ns₁ ls₁ : List ℕ} {n : No
   sound = record { room = omega (arith, i .row .size, f .nodes); rising = λ j h. rw written-rows (f .tree .rising j (rw tall h)) }
 
   -- and they are, and zeros follow
-  pub rooted : {ns₂ ns₃ ls₂ ys₂ ss₂ : List ℕ} {r : Numbers} → Adopted (c .nodes + 1) used ns₁ ns₂ → Cleared (node-width * (c .nodes + 1)) ns₂ ns₃ → Cleared (3 * (c .links + c .held)) ls₁ ls₂ → Cleared (2 * known) ys ys₂ → Cleared 0 ss ss₂ →
+  pub rooted : {ns₂ ns₃ ls₂ ys₂ ss₂ : List ℕ} {r : Numbers} → Adopted (c .nodes + 1) used ns₁ ns₂ → Cleared upto ns₂ ns₃ → Cleared (3 * (c .links + c .held)) ls₁ ls₂ → Cleared (2 * known) ys ys₂ → Cleared 0 ss ss₂ →
       numbers r ≡ record { code = 0; nodes = c .nodes + 1; links = c .links + c .held; symbols = known; at = 0; start = 0; end = 0; expected = 255 } →
       Rooted c known (rooms ns ls ys ss) (rooms ns₃ ls₂ ys₂ ss₂) r
   rooted {ns₂} {ns₃} {ls₂} a zn zl zy zs e =
-      let size : length (parented all .nodes) ≡ node-width * (c .nodes + 1) = parented-length all stand ∙ nodes-length in
-      let put : ns₂ ≡ parented all .nodes ++ drop (node-width * (c .nodes + 1)) ns₁ = a .room ∙ ap (λ w. parented w .nodes ++ drop (node-width * (c .nodes + 1)) ns₁) written-rows in
-      let kept : length ns₂ ≡ length ns = ap length put ∙ length-append (parented all .nodes) (drop (node-width * (c .nodes + 1)) ns₁) ∙ (simp length-drop (omega (arith, size, i .row .size, f .nodes))) in
-      let front : take (node-width * (c .nodes + 1)) ns₂ ≡ parented all .nodes = ap (take (node-width * (c .nodes + 1))) put ∙ take-at (parented all .nodes) _ (node-width * (c .nodes + 1)) size in
+      let size : length (parented all .nodes) ≡ upto = parented-length all stand ∙ nodes-length in
+      let put : ns₂ ≡ parented all .nodes ++ drop upto ns₁ = a .room ∙ ap (λ w. parented w .nodes ++ drop upto ns₁) written-rows in
+      let kept : length ns₂ ≡ length ns = ap length put ∙ length-append (parented all .nodes) (drop upto ns₁) ∙ (simp length-drop (omega (arith, size, i .row .size, f .nodes))) in
+      let front : take upto ns₂ ≡ parented all .nodes = ap (take upto) put ∙ take-at (parented all .nodes) _ upto size in
       let nodes : length (parented all .nodes) / node-width ≡ c .nodes + 1 = rw size (mul-div-cancel-left (c .nodes + 1) (omega arith)) in
       let links : length (all .links) / 3 ≡ c .links + c .held = ap (λ xs. length xs / 3) (sym (l .rows)) ∙ row-number 3 (c .links + c .held) ls₁ (omega arith) (omega (arith, l .size, f .links)) in
       let symbols : length (take (2 * known) ys) / 2 ≡ known = row-number 2 known ys (omega arith) (f .symbols) in

@@ -1,5 +1,6 @@
 // The public entry: a port of `parse` of parser.rs. The door, then the symbols of all names, the statements up to Eof, the root's row, the
 // parents, and zeros.
+use ast::ABSENT;
 use ast::NODE_WIDTH;
 use ast::Node;
 use ast::room::clear;
@@ -28,9 +29,6 @@ ghost use Rattle.grammar.specs.Phrase.{empty, chain, whole};
 ghost use Rattle.grammar.specs.Token.{count};
 ghost use Rattle.reading.specs.Clauses.{opened, lists};
 ghost use Rattle.syntax.specs.Parsed.{numbers, rooms, Parsed, Let-in, Cut, Root-fits, Rooted};
-
-// No row.
-const ABSENT: u32 = 4294967295;
 
 // The answer of a call: a code, which is 0 or a refusal's; how many rows each room has, 0 for a refusal; and a refusal's place and the kind that was
 // required there (255: no certain kind).

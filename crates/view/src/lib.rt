@@ -2,8 +2,10 @@
 // the two together.
 ghost use Rattle.view.specs.View.{Last-told, Kind-told, Span-told, Parent-told};
 
-// The numbers of a node row.
+// The numbers of a node row, and which of them is its parent's row.
 const WIDTH: usize = 10;
+
+const PARENT: usize = 9;
 
 // The answers: code 0, or refusal 15 with the other numbers 0.
 pub struct RowAnswer {
@@ -88,7 +90,7 @@ pub fn span_of(nodes: &[u32], count: usize, row: usize) -> SpanAnswer
     }
 }
 
-// The row of which a row is a child; 4294967295 for the last row of a script.
+// The row of which a row is a child; the absent number for a script's root.
 // Ruled out: another number of the row; a row's parent where the row is not below the count.
 pub fn parent_of(nodes: &[u32], count: usize, row: usize) -> ParentAnswer
     ensures { λ r. ⌜ Parent-told (now (nodes .entry)) count row r ⌝ }
@@ -106,7 +108,7 @@ pub fn parent_of(nodes: &[u32], count: usize, row: usize) -> ParentAnswer
     let at = WIDTH * row;
     ParentAnswer {
         code: 0,
-        parent: nodes[at + 9],
+        parent: nodes[at + PARENT],
     }
 }
 

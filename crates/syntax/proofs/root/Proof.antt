@@ -1,11 +1,14 @@
 -- `root` meets its contract: the root's row and links are written, the parents put in, and zeros follow.
 use borrow.Author.Needs.{needs}
 use native.Mathlib.Omega.{arith}
-use Rattle.syntax.proofs.Scripts.{used-length, sound, rooted}
+use Rattle.syntax.proofs.Scripts.{used-length, counted, sound, rooted}
 use Rattle.syntax.proofs.root.Statement.{statement}
 use Rattle.syntax.proofs.root.Tie as tie
 
 -- back from where one part is known to where the one before it is
+abbrev to-adopt : tie.After-clear4 → tie.After-adopt
+to-adopt c = c .before .before .before .before .before .before .before .before .before .before .before .before .before .before .before .before
+
 abbrev to-block : tie.After-adopt → tie.After-block
 to-block c = c .before .before .before .before .before .before
 
@@ -28,20 +31,20 @@ mul-clear-3 : tie.Need-mul-clear-3
 mul-clear-3 c = omega (arith, to-start (to-link (to-block (c .before .before .before .before .before .before .before .before .before .before .before))) .pre .few)
 
 add-t19 : tie.Need-add-t19
-add-t19 c = let b = to-block (c .before .before .before .before .before .before .before .before .before .before .before .before .before .before .before .before .before .before .before) in rw (b .block .ensures .handle) (omega (arith, to-start (to-link b) .pre .few))
+add-t19 c = let b = to-block (to-adopt (c .before .before .before)) in rw (b .block .ensures .handle) (omega (arith, to-start (to-link b) .pre .few))
 
 cast-t20 : tie.Need-cast-t20
-cast-t20 c = omega (arith, to-start (to-link (to-block (c .before .before .before .before .before .before .before .before .before .before .before .before .before .before .before .before .before .before .before))) .pre .few)
+cast-t20 c = omega (arith, to-start (to-link (to-block (to-adopt (c .before .before .before)))) .pre .few)
 
 cast-t35 : tie.Need-cast-t35
-cast-t35 c = omega (arith, to-start (to-link (to-block (c .before .before .before .before .before .before .before .before .before .before .before .before .before .before .before .before .before .before .before))) .pre .few)
+cast-t35 c = omega (arith, to-start (to-link (to-block (to-adopt (c .before .before .before)))) .pre .few)
 
 returns : tie.Need-returns
 returns c =
-    let a = c .before .before .before .before .before .before .before .before .before .before .before .before .before .before .before .before .before .before .before in
+    let a = to-adopt (c .before .before .before) in
     let b = to-block a in
     let h = b .block .ensures .handle in
-    rooted (to-start (to-link b) .pre) (to-link b .link .ensures) (b .block .ensures) (rw h at (a .adopt .ensures)) (c .before .before .before .before .before .before .before .before .before .before .before .before .before .before .before .clear .ensures) (c .before .before .before .before .before .before .before .before .before .before .before .clear2 .ensures) (c .before .before .before .before .before .before .before .clear3 .ensures)
+    rooted (to-start (to-link b) .pre) (to-link b .link .ensures) (b .block .ensures) (counted h (a .adopt .ensures)) (c .before .before .before .before .before .before .before .before .before .before .before .before .before .before .before .clear .ensures) (c .before .before .before .before .before .before .before .before .before .before .before .clear2 .ensures) (c .before .before .before .before .before .before .before .clear3 .ensures)
     (c .before .before .before .clear4 .ensures) (rw h)
 
 pub root-spec : {M : Type 1} → statement M
