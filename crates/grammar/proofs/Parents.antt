@@ -76,13 +76,13 @@ width (names ∷ ss) = 2 + width ss
 width (entries ∷ ss) = 2 + width ss
 
 -- the first n numbers are the same
-pub record Alike (n : ℕ) (xs ys : List ℕ) : Type 0 where
+pub record Same-first (n : ℕ) (xs ys : List ℕ) : Type 0 where
   pub at : (k : ℕ) → k < n → getD xs k 0 ≡ getD ys k 0
 
-past : (m : ℕ) {n : ℕ} {xs ys : List ℕ} → Alike (m + n) xs ys → Alike n (drop m xs) (drop m ys)
+past : (m : ℕ) {n : ℕ} {xs ys : List ℕ} → Same-first (m + n) xs ys → Same-first n (drop m xs) (drop m ys)
 past m {n} {xs} {ys} a = record { at = λ k h. getD-drop m xs k 0 ∙ a .at (m + k) (omega arith) ∙ sym (getD-drop m ys k 0) }
 
-naming-alike : (ls : List ℕ) (ss : List Slot) {xs ys : List ℕ} → Alike (width ss) xs ys → naming ls ss xs ≡ naming ls ss ys
+naming-alike : (ls : List ℕ) (ss : List Slot) {xs ys : List ℕ} → Same-first (width ss) xs ys → naming ls ss xs ≡ naming ls ss ys
 unfolding naming
 naming-alike ls [] a = refl
 naming-alike ls (below n ∷ ss) a = naming-alike ls ss (past 1 a)
@@ -117,7 +117,7 @@ module _ (v w : Rows) (i : ℕ) (e : own v i ≡ own w i) where
   kind-own : getD (v .nodes) (node-width * i) 0 ≡ getD (w .nodes) (node-width * i) 0
   kind-own = let z : node-width * i + 0 ≡ node-width * i = omega arith in rw z at (own-at 0 (omega arith))
 
-  fields-own : Alike 6 (drop (node-width * i + 3) (v .nodes)) (drop (node-width * i + 3) (w .nodes))
+  fields-own : Same-first 6 (drop (node-width * i + 3) (v .nodes)) (drop (node-width * i + 3) (w .nodes))
   fields-own = record { at = λ m h. let f : node-width * i + (3 + m) ≡ node-width * i + 3 + m = omega arith in getD-drop (node-width * i + 3) (v .nodes) m 0 ∙ (rw f at (own-at (3 + m) (omega arith))) ∙ sym (getD-drop (node-width * i + 3) (w .nodes) m 0) }
 
   pub named-own : v .links ≡ w .links → named-by v i ≡ named-by w i

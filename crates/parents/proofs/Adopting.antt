@@ -16,7 +16,7 @@ use Rattle.grammar.specs.Room.{node-width, own-width}
 use Rattle.grammar.specs.Rows.{Rows}
 use Rattle.grammar.proofs.Forest.{times-append}
 use Rattle.grammar.proofs.Parents.{rising-below, no-parent, named-own, own-at, parented-length, parented-own, parented-tenth}
-use Rattle.parents.specs.Adopted.{rows, claims, orphaned, first, Sound, Adopted}
+use Rattle.parents.specs.Adopted.{rows, claims, orphaned, first, Adoptable, Adopted}
 use Rattle.parents.proofs.Laws.{claims-length, claims-apart, claims-tenth}
 
 -- the tenth number of row j
@@ -33,7 +33,7 @@ pub record Adopting (count : ℕ) (ls before : List ℕ) (n : ℕ) (ns : List �
 pub begun : (count : ℕ) (ls before : List ℕ) → Adopting count ls before 0 before
 begun count ls before = record { size = refl; own = λ i k h. refl; put = λ j h. absurd (omega arith); later = λ j h. refl }
 
-module _ {count : ℕ} {ls before : List ℕ} (s : Sound count ls before) (few : count ≤ absent) where
+module _ {count : ℕ} {ls before : List ℕ} (s : Adoptable count ls before) (few : count ≤ absent) where
   -- the rows that were there at the start
   abbrev w : Rows
   w = first count ls before

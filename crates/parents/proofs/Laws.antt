@@ -83,20 +83,20 @@ two-more zero ls = refl
 two-more (suc i) ls = ap (λ (xs : List ℕ). getD ls 0 0 ∷ getD ls 1 0 ∷ xs) (two-more i (drop link-width ls) ∙ rw (next-link ls i 0, next-link ls i 1))
 
 -- the first i of the links from a link on are claimed, as nodes or as entries
-pub record Taken (linked : ℕ → List ℕ → List ℕ) (row : ℕ) (ls : List ℕ) (from i : ℕ) (before now : List ℕ) : Type 0 where
+pub record Claimed (linked : ℕ → List ℕ → List ℕ) (row : ℕ) (ls : List ℕ) (from i : ℕ) (before now : List ℕ) : Type 0 where
   pub taken : now ≡ claims row (linked i (drop (link-width * from) ls)) before
   pub size : length now ≡ length before
 
-pub no-nodes : {row from : ℕ} {ls ns : List ℕ} → Taken linked-nodes row ls from 0 ns ns
+pub no-nodes : {row from : ℕ} {ls ns : List ℕ} → Claimed linked-nodes row ls from 0 ns ns
 unfolding linked-nodes claims
 no-nodes = record { taken = refl; size = refl }
 
-pub no-entries : {row from : ℕ} {ls ns : List ℕ} → Taken linked-entries row ls from 0 ns ns
+pub no-entries : {row from : ℕ} {ls ns : List ℕ} → Claimed linked-entries row ls from 0 ns ns
 unfolding linked-entries claims
 no-entries = record { taken = refl; size = refl }
 
 module _ {row from i : ℕ} {ls before now : List ℕ} where
-  pub node-more : {after : List ℕ} → Taken linked-nodes row ls from i before now → after ≡ claim row (getD ls (link-width * (from + i)) 0) now → Taken linked-nodes row ls from (i + 1) before after
+  pub node-more : {after : List ℕ} → Claimed linked-nodes row ls from i before now → after ≡ claim row (getD ls (link-width * (from + i)) 0) now → Claimed linked-nodes row ls from (i + 1) before after
   unfolding claims
   node-more t e =
       let z : link-width * (from + i) + 0 ≡ link-width * (from + i) = omega arith in
@@ -107,7 +107,7 @@ module _ {row from i : ℕ} {ls before now : List ℕ} where
         size = ap (λ (xs : List ℕ). length xs) e ∙ claim-length row _ now ∙ t .size;
       }
 
-  pub entry-more : {between after : List ℕ} → Taken linked-entries row ls from i before now → between ≡ claim row (getD ls (link-width * (from + i)) 0) now → after ≡ claim row (getD ls (link-width * (from + i) + 1) 0) between → Taken linked-entries row ls from (i + 1) before after
+  pub entry-more : {between after : List ℕ} → Claimed linked-entries row ls from i before now → between ≡ claim row (getD ls (link-width * (from + i)) 0) now → after ≡ claim row (getD ls (link-width * (from + i) + 1) 0) between → Claimed linked-entries row ls from (i + 1) before after
   unfolding claims
   entry-more {between} t e f =
       let z : link-width * (from + i) + 0 ≡ link-width * (from + i) = omega arith in

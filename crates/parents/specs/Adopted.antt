@@ -35,7 +35,7 @@ abbrev pub first : (count : ℕ) (links nodes : List ℕ) → Rows
 first count ls ns = rows (take (node-width * count) ns) ls
 
 -- what is asked: the room has them, and each names earlier rows alone, as those of one tree do
-pub record Sound (count : ℕ) (links nodes : List ℕ) : Type 0 where
+pub record Adoptable (count : ℕ) (links nodes : List ℕ) : Type 0 where
   pub room : node-width * count ≤ length nodes
   pub rising : (i : ℕ) → i < count → Rising i 0 (named-by (first count links nodes) i)
 

@@ -13,7 +13,7 @@ ghost use lib.ListN.{drop, getD};
 ghost use Rattle.grammar.specs.Label.{Node as Form, number-of};
 ghost use Rattle.grammar.specs.Naming.{linked-nodes, linked-entries, named-by};
 ghost use Rattle.grammar.specs.Room.{link-width};
-ghost use Rattle.parents.specs.Adopted.{rows, claim, claims, orphaned, In-room, Sound, Adopted};
+ghost use Rattle.parents.specs.Adopted.{rows, claim, claims, orphaned, In-room, Adoptable, Adopted};
 
 // Row x has `row` as its parent, if it is an earlier one.
 fn take(nodes: &mut [u32], row: u32, x: u32)
@@ -142,7 +142,7 @@ fn orphan(nodes: &mut [u32], row: u32)
 // Puts in the parents of the first `count` rows. It asks that the room has them and that each names earlier rows alone.
 // Ruled out: a last row with a parent; rows after the first `count` that change.
 pub fn adopt(nodes: &mut [u32], links: &[u32], count: u32)
-    requires { ⌜ Sound count (now links) (now nodes) ⌝ }
+    requires { ⌜ Adoptable count (now links) (now nodes) ⌝ }
     ensures { λ _. ⌜ Adopted count (now (links .entry)) (now (nodes .entry)) (now (nodes .exit)) ⌝ }
 {
     let mut row = 0;

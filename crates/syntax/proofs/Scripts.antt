@@ -39,7 +39,7 @@ use Rattle.grammar.proofs.Symbols.{rows-few}
 use Rattle.grammar.proofs.Trees.{one-tree}
 use Rattle.names.specs.Resolved.{Open, Resolved, names-of}
 use Rattle.names.proofs.Readers.{names-are}
-use Rattle.parents.specs.Adopted.{first, Sound, Adopted}
+use Rattle.parents.specs.Adopted.{first, Adoptable, Adopted}
 use Rattle.reading.specs.Answers.{Listed, List-case, Lists}
 use Rattle.reading.specs.Reading.{refusal, Refusing}
 use Rattle.reading.specs.State.{State, state, Opened}
@@ -87,8 +87,8 @@ module _ {c : Cursor} {known : ℕ} {ns ls ys ss ns₁ ls₁ : List ℕ} {n : No
   used-length = sym (length-take-le (3 * (c .links + c .held)) ls₁ (omega (arith, l .size, f .links)))
 
   -- what is asked where the parents are put in
-  pub sound : Sound (c .nodes + 1) used ns₁
-  sound = record { room = omega (arith, i .row .size, f .nodes); rising = λ j h. rw written-rows (f .tree .rising j (rw tall h)) }
+  pub adoptable : Adoptable (c .nodes + 1) used ns₁
+  adoptable = record { room = omega (arith, i .row .size, f .nodes); rising = λ j h. rw written-rows (f .tree .rising j (rw tall h)) }
 
   -- and they are, and zeros follow
   pub rooted : {ns₂ ns₃ ls₂ ys₂ ss₂ : List ℕ} {r : Numbers} → Adopted (c .nodes + 1) used ns₁ ns₂ → Cleared upto ns₂ ns₃ → Cleared (3 * (c .links + c .held)) ls₁ ls₂ → Cleared (2 * known) ys ys₂ → Cleared 0 ss ss₂ →

@@ -1,7 +1,7 @@
 -- `root` meets its contract: the root's row and links are written, the parents put in, and zeros follow.
 use borrow.Author.Needs.{needs}
 use native.Mathlib.Omega.{arith}
-use Rattle.syntax.proofs.Scripts.{used-length, counted, sound, rooted}
+use Rattle.syntax.proofs.Scripts.{used-length, counted, adoptable, rooted}
 use Rattle.syntax.proofs.root.Statement.{statement}
 use Rattle.syntax.proofs.root.Tie as tie
 
@@ -25,7 +25,7 @@ add-adopt : tie.Need-add-adopt
 add-adopt c = let b = c .before .before .before .before .before in rw (b .block .ensures .handle) (omega (arith, to-start (to-link b) .pre .few))
 
 adopt-requires : tie.Need-adopt-requires
-adopt-requires c κs = let b = c .before .before .before .before .before in rw (b .block .ensures .handle) (sound (to-start (to-link b) .pre) (to-link b .link .ensures) (b .block .ensures))
+adopt-requires c κs = let b = c .before .before .before .before .before in rw (b .block .ensures .handle) (adoptable (to-start (to-link b) .pre) (to-link b .link .ensures) (b .block .ensures))
 
 mul-clear-3 : tie.Need-mul-clear-3
 mul-clear-3 c = omega (arith, to-start (to-link (to-block (c .before .before .before .before .before .before .before .before .before .before .before))) .pre .few)
