@@ -13,7 +13,7 @@ use Rattle.grammar.specs.Door.{Whole, Roomy, Ascii, Sound, Closed, Admit
 use Rattle.grammar.specs.Kind.{And, Nil, Identifier, Eof}
 use Rattle.grammar.specs.Lexeme.{spelling, pattern, Fits}
 use Rattle.grammar.specs.Pattern.{Pattern, Matches}
-use Rattle.grammar.specs.Room.{node-width, link-width, symbol-width, scratch-width}
+use Rattle.grammar.specs.Room.{scratch-width}
 use Rattle.grammar.specs.Symbol.{same}
 use Rattle.grammar.specs.Token.{count, kind, start, end, lexeme}
 use Rattle.grammar.proofs.Patterns.{matches-sound, matches-whole}
@@ -128,9 +128,7 @@ module _ (c : Call) where
   ask (suc zero) = carried (λ p. record { rows = p .0; some = p .1 .0; most = p .1 .1 }) (λ w. (w .rows, (w .some, w .most))) (also (ℕ-discrete (length (c .tokens)) (3 * count (c .tokens))) (also (decLe 1 (count (c .tokens))) (decLe (count (c .tokens)) 4096)))
   ask (suc (suc zero)) = decLe (length (c .text)) 65536
   ask (suc (suc (suc zero))) = also (decLe 1 (c .limit)) (decLe (c .limit) 64)
-  ask (suc (suc (suc (suc zero)))) =
-      carried (λ p. record { nodes = p .0; links = p .1 .0; symbols = p .1 .1 .0; scratch = p .1 .1 .1 }) (λ r. (r .nodes, (r .links, (r .symbols, r .scratch))))
-      (also (decLe (count (c .tokens)) (length (c .rooms .nodes) / node-width)) (also (decLe (count (c .tokens)) (length (c .rooms .links) / link-width)) (also (decLe (count (c .tokens)) (length (c .rooms .symbols) / symbol-width)) (decLe (count (c .tokens)) (length (c .rooms .scratch) / scratch-width)))))
+  ask (suc (suc (suc (suc zero)))) = decLe (count (c .tokens)) (length (c .rooms .scratch) / scratch-width)
   ask (suc (suc (suc (suc (suc zero))))) = each in-bytes
   ask (suc (suc (suc (suc (suc (suc zero)))))) = each in-tokens
   ask (suc (suc (suc (suc (suc (suc (suc zero))))))) = each in-ends

@@ -12,7 +12,9 @@ pub mod Outcomes
 pub mod Places
 pub mod Answers
 -- rows
+pub mod Growth
 pub mod Symbols
+pub mod Worded
 pub mod Room
 pub mod Halves
 pub mod Handles
@@ -25,8 +27,10 @@ pub mod Forest
 pub mod Decoding
 pub mod Trees
 pub mod Parents
+pub mod Lengths
 pub mod Calls
 pub mod Demands
+pub mod Larger
 -- samples
 pub mod Reader
 pub mod Doors

@@ -5,6 +5,7 @@ use mathlib.Core.Option.{Option, some, none}
 use mathlib.Core.Path.{_≡_, refl, subst}
 use native.Mathlib.Decide.{ℕ-discrete, decLe, decLt}
 use native.Mathlib.Omega.{arith}
+use lib.ListN.{length}
 use Rattle.grammar.specs.Answer.{Answer, success, refuse, rooms-cleared, rooms-filled, Answers}
 use Rattle.grammar.specs.Call.{Call}
 use Rattle.grammar.specs.Derivative.{nullable, after, matches}
@@ -21,13 +22,22 @@ use Rattle.grammar.specs.Replies.{Reply, All-answered, replies}
 use Rattle.grammar.specs.Room.{Rooms}
 use Rattle.grammar.specs.Rows.{links-of, numbers, write, fill, put, make, walk, unparented}
 use Rattle.grammar.specs.Rule.{rule}
-use Rattle.grammar.specs.Symbol.{same, seek, interned, symbol-rows, symbol}
+use Rattle.grammar.specs.Space.{has-word, space-of}
+use Rattle.grammar.specs.Symbol.{same, seek, interned, symbol-rows, symbol, symbol-in}
 use Rattle.grammar.specs.Token.{start, end}
 use Rattle.grammar.proofs.Doors.{by-test, carried, also, implies, denied, look-through, each, text-is, matched, fitting, parted, sounds, closes, in-bytes, in-tokens, in-ends, ask, find, Verdict, inside, turned, verdict}
-use Rattle.grammar.proofs.Reader.{reader}
+use Rattle.grammar.proofs.Reader.{fit-rows, fit-word, fit, reader}
 use Rattle.grammar.proofs.Samples.{answer, outcome-of, right, coming}
 
 module _ (c : Call) where
+  -- what comes of its list
+  abbrev came : Option Outcome
+  came = coming (c .text) (c .tokens) (c .limit) (space-of (c .rooms)) (length (c .rooms .symbols))
+
+  came-right : (o : Outcome) → came ≡ some o → Comes (c .text) (c .tokens) (c .limit) (space-of (c .rooms)) (length (c .rooms .symbols)) o
+  unfolding coming
+  came-right o e = right (c .text) (c .tokens) (c .limit) (space-of (c .rooms)) (length (c .rooms .symbols)) (answer (c .text) (c .tokens) (c .limit) (space-of (c .rooms)) (length (c .rooms .symbols))) e
+
   -- what is answered, of what the door says and what comes of the list
   unfoldable reply : Verdict c → Option Outcome → Option (Answer × Rooms)
   reply (turned code at from upto t) o = some (refuse code at from upto 255, c .rooms)
@@ -38,19 +48,17 @@ module _ (c : Call) where
   said : {a b : Answer} {r s : Rooms} → Answers c a r → _≡_ {A = Option (Answer × Rooms)} (some (a, r)) (some (b, s)) → Answers c b s
   said {a} {b} {r} {s} x e = let z : _≡_ {A = Answer × Rooms} (a, r) (b, s) = cc in subst (λ (p : Answer × Rooms). Answers c (p .0) (p .1)) z x
 
-  replied : (v : Verdict c) (o : Option Outcome) → ((p : Outcome) → o ≡ some p → Comes (c .text) (c .tokens) (c .limit) p) → {a : Answer} {r : Rooms} → reply v o ≡ some (a, r) → Answers c a r
+  replied : (v : Verdict c) (o : Option Outcome) → ((p : Outcome) → o ≡ some p → Comes (c .text) (c .tokens) (c .limit) (space-of (c .rooms)) (length (c .rooms .symbols)) p) → {a : Answer} {r : Rooms} → reply v o ≡ some (a, r) → Answers c a r
   unfolding reply
   replied (turned code at from upto t) o f e = said (Answers.turned-away t) e
   replied (inside d) (some (accepted w ss)) f e = said (Answers.accepted d (f _ refl)) e
   replied (inside d) (some (refusal (refused code at expected))) f e = said (Answers.refused d (f _ refl)) e
   replied (inside d) none f e = absurd (let z : _≡_ {A = ℕ} 0 1 = cc in omega arith)
 
-all-answered : (rs : List Reply) → map (λ r. reply (r .call) (verdict (r .call)) (coming (r .call .text) (r .call .tokens) (r .call .limit))) rs ≡ map (λ r. some (r .answer, r .after)) rs → All-answered rs
-unfolding coming
+all-answered : (rs : List Reply) → map (λ r. reply (r .call) (verdict (r .call)) (came (r .call))) rs ≡ map (λ r. some (r .answer, r .after)) rs → All-answered rs
 all-answered [] e = tt
-all-answered (r ∷ rs) e =
-    (replied (r .call) (verdict (r .call)) (coming (r .call .text) (r .call .tokens) (r .call .limit)) (λ p. right (r .call .text) (r .call .tokens) (r .call .limit) (answer (r .call .text) (r .call .tokens) (r .call .limit)) {o = p}) (cc), all-answered rs (cc))
+all-answered (r ∷ rs) e = (replied (r .call) (verdict (r .call)) (came (r .call)) (came-right (r .call)) (cc), all-answered rs (cc))
 
 pub replies-right : All-answered replies
-unfolding reply verdict look-through each ask find by-test also implies denied carried text-is matched fitting parted sounds closes in-bytes in-tokens in-ends decLe literal spelling coming answer outcome-of reader kaori rules above matches after nullable ℕ-discrete decLt written parented-below parent named-by naming linked-nodes linked-entries layout unparented walk make put fill write numbers links-of symbol symbol-rows interned seek same rule block-list block-tail
+unfolding reply verdict look-through each ask find by-test also implies denied carried text-is matched fitting parted sounds closes in-bytes in-tokens in-ends decLe literal spelling coming answer outcome-of reader fit fit-word fit-rows has-word kaori rules above matches after nullable ℕ-discrete decLt written parented-below parent named-by naming linked-nodes linked-entries layout unparented walk make put fill write numbers links-of symbol symbol-in symbol-rows interned seek same rule block-list block-tail
 replies-right = all-answered replies refl

@@ -1,20 +1,21 @@
 -- A room with a row for each token is enough: each row and link has a token of its own.
 use Prim.Native.Nat.{ℕ, zero, suc, _+_, _-_, _*_, _≤_}
 use mathlib.Core.Bool.{Bool, true, false, cond, _&&_}
-use mathlib.Core.List.{List, [], _∷_, _++_, tail}
-use mathlib.Core.Path.{_≡_, refl}
-use native.Mathlib.Nat.{le-trans}
+use mathlib.Core.List.{List, [], _∷_, tail}
+use mathlib.Core.Path.{_≡_}
 use native.Mathlib.Omega.{arith}
 use lib.Dec.{leb, T, leb→le, le→leb}
-use lib.ListN.{length, getD, length-append, length-take, length-replicate}
+use lib.ListN.{length, getD, length-append}
 use Rattle.grammar.specs.Handle.{Handle, link, head, is-tail, block-list}
 use Rattle.grammar.specs.Kaori.{Table, Form, above, rules, kaori, Script}
 use Rattle.grammar.specs.Label.{Node, Label}
 use Rattle.grammar.specs.Operator.{levels}
-use Rattle.grammar.specs.Phrase.{empty, token, part, nested, node, choice, chain, once, refusal, Tree, none, more, deeper, made, Aim, Reads}
+use Rattle.grammar.specs.Phrase.{empty, token, part, nested, node, choice, chain, once, refusal, Tree, more, made, Aim, Reads}
 use Rattle.grammar.specs.Room.{node-width, link-width}
-use Rattle.grammar.specs.Rows.{Rows, blank, links-of, numbers, write, fill, Walked, parts, put, make, walk, unparented}
-use Rattle.grammar.specs.Rule.{Field, number, child, named, list, Row, writes, fields, rule}
+use Rattle.grammar.specs.Rows.{Rows, blank, Walked, parts, put, make, walk, unparented}
+use Rattle.grammar.specs.Rule.{Row, writes, fields, rule}
+use Rattle.grammar.proofs.Growth.{lists, put-filled, tree-grows}
+pub use Rattle.grammar.proofs.Growth.{links-length}
 use Rattle.grammar.proofs.Machine.{asked}
 use Rattle.grammar.proofs.Tables.{each, each-mapped, in-tables}
 use Rattle.grammar.proofs.Tests.{both, all}
@@ -95,26 +96,6 @@ pub record Grown (w : Rows) (n k : ℕ) (r : Walked) : Type 0 where
   pub nodes : length (r .rows .nodes) ≤ length (w .nodes) + node-width * k
   pub links : length (r .rows .links) + 3 * handles r ≤ length (w .links) + 3 * (n + k)
 
--- link rows that fields write
-pub lists : List Field → ℕ
-lists [] = 0
-lists (number n ∷ fs) = lists fs
-lists (child h ∷ fs) = lists fs
-lists (named h ∷ fs) = lists fs
-lists (list hs ∷ fs) = length hs + lists fs
-
-link-length : (h : Handle) → length (link h) ≡ 3
-link-length (Handle.node i s e) = refl
-link-length (Handle.name x s e) = refl
-link-length (Handle.entry k v) = refl
-link-length (Handle.ended i) = refl
-link-length Handle.other = refl
-
-pub links-length : (hs : List Handle) → length (links-of hs) ≡ 3 * length hs
-unfolding links-of
-links-length [] = refl
-links-length (h ∷ hs) = simp (length-append, link-length, links-length hs) (omega arith)
-
 tail-length : (hs : List Handle) → length (tail hs) ≤ length hs
 tail-length [] = omega arith
 tail-length (h ∷ hs) = omega arith
@@ -129,22 +110,9 @@ block-list-length (h ∷ []) = either (is-tail h)
     either false = omega arith
 block-list-length (h ∷ g ∷ hs) = omega (arith, block-list-length (g ∷ hs))
 
--- rows from w to v: one node row, and l link rows
-pub record Filled (l : ℕ) (w v : Rows) : Type 0 where
-  pub nodes : length (v .nodes) ≡ length (w .nodes) + node-width
-  pub links : length (v .links) ≡ length (w .links) + 3 * l
-
-pub filled : (fs : List Field) (xs : List ℕ) (w : Rows) → Filled (lists fs) w (fill fs xs w)
-unfolding fill write lists
-filled [] xs w = record { nodes = simp (length-append, length-take, length-replicate) (omega arith); links = omega arith }
-filled (number n ∷ fs) xs w = filled fs _ w
-filled (child g ∷ fs) xs w = filled fs _ w
-filled (named g ∷ fs) xs w = filled fs _ w
-filled (list hs ∷ fs) xs w = let h = filled fs (xs ++ numbers (list hs) w) (write (list hs) w) in omega (arith, length-append (w .links) (links-of hs), links-length hs)
-
 put-grown : (k : ℕ) (r : Row) (w : Rows) (n : ℕ) → lists (fields r) ≤ n → Grown w n 1 (put k r w)
 unfolding put
-put-grown k (writes s e fs) w n h = let z = filled fs (k ∷ s ∷ e ∷ []) w in omega arith
+put-grown k (writes s e fs) w n h = let z = put-filled k (writes s e fs) w in omega arith
 
 -- a rule links no more than was made
 modest : (ts : List ℕ) (symbol : ℕ → ℕ) (f : Node) (a b : ℕ) (xs ys : List Handle) (x y : Handle) → lists (fields (rule ts symbol f a b xs ys x y)) ≤ length xs + length ys
@@ -227,21 +195,8 @@ module _ (ts : List ℕ) (symbol : ℕ → ℕ) where
   pays (Reads.joined {n = n} {f = f} {q = q} x e y) h = let (u, v) = paid-node f q (paid-entry n _ e) in pays-link (pays x h) (pays y v) u
 
   -- and links are never taken back
-  put-links : (k : ℕ) (r : Row) (w : Rows) → length (w .links) ≤ length (put k r w .rows .links)
-  unfolding put
-  put-links k (writes s e fs) w = let f = filled fs (k ∷ s ∷ e ∷ []) w in omega arith
-
   pub links-grow : (t : Tree Label) (w : Rows) → length (w .links) ≤ length (walk ts symbol t w .rows .links)
-  unfolding walk make
-  links-grow none w = omega arith
-  links-grow (more t u) w = omega (arith, links-grow t w, links-grow u (walk ts symbol t w .rows))
-  links-grow (deeper t) w = links-grow t w
-  links-grow (made (Label.Row n) a b t) w = le-trans (links-grow t w) (put-links _ _ (walk ts symbol t w .rows))
-  links-grow (made Label.Script a b t) w = le-trans (links-grow t w) (put-links _ _ (walk ts symbol t w .rows))
-  links-grow (made Label.Ended a b t) w = links-grow t w
-  links-grow (made Label.Item a b t) w = links-grow t w
-  links-grow (made Label.Entry a b t) w = links-grow t w
-  links-grow (made Label.Name a b t) w = links-grow t w
+  links-grow t w = tree-grows ts symbol t w .links
 
   -- a reading of the tokens from a up to b writes b - a rows at most into each room
   pub record Within (a b : ℕ) (w v : Rows) : Type 0 where

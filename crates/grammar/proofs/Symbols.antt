@@ -1,15 +1,36 @@
--- The symbol rows of a token list: a token adds one at most, none is taken away, and each name has one. A token that has no word has symbol 0.
-use Prim.Native.Nat.{ℕ, zero, suc, _+_, _*_, _/_, _≤_}
-use mathlib.Core.Bool.{Bool, true, false, cond}
+-- The symbol rows of a token list: a token adds one at most, none is taken away, and each name has one. A token that has no word has symbol 0. In a room for
+-- all of them every word has its symbol, and in a larger room those that it had.
+use Prim.Native.Nat.{ℕ, zero, suc, _+_, _*_, _/_, _≤_, _<_}
+use mathlib.Core.Bool.{Bool, true, false, cond, not, _&&_}
 use mathlib.Core.List.{List, [], _∷_, _++_}
-use mathlib.Core.Path.{_≡_, refl}
-use native.Mathlib.Decide.{ℕ-discrete}
+use mathlib.Core.Path.{_≡_, refl, fun-ext}
+use native.Mathlib.Decide.{ℕ-discrete, decLt}
 use native.Mathlib.Omega.{arith}
-use lib.Dec.{eqb}
-use borrow.Author.Tests.{eqb-true, eqb-false}
-use lib.ListN.{length, length-append}
-use Rattle.grammar.specs.Symbol.{same, seek, interned, is-name, word-start, word-end, symbol-rows, symbol}
-use Rattle.grammar.specs.Token.{lexeme}
+use lib.Dec.{eqb, leb}
+use borrow.Author.Tests.{eqb-true, eqb-false, leb-true, leb-false}
+use lib.ListN.{length, length-append, List·getD-eq-default}
+use Rattle.grammar.specs.Door.{Whole}
+use Rattle.grammar.specs.Handle.{absent}
+use Rattle.grammar.specs.Label.{Label}
+use Rattle.grammar.specs.Phrase.{Tree, none, more, deeper, made}
+use Rattle.grammar.specs.Space.{Named}
+use Rattle.grammar.specs.Symbol.{same, seek, interned, is-name, word-start, word-end, symbol-rows, symbol, symbol-in}
+use Rattle.grammar.specs.Token.{kind, count, lexeme}
+
+-- where no symbol is absent, every tree is named
+pub named-all : {symbol : ℕ → ℕ} → ((i : ℕ) → symbol i ≡ absent → ⊥) → (t : Tree Label) → Named symbol t
+unfolding Named
+named-all h none = tt
+named-all h (more t u) = (named-all h t, named-all h u)
+named-all h (deeper t) = named-all h t
+named-all h (made f a b t) = (named-all h t, λ _. h a)
+
+-- a word is that of a token, and not past a list of whole ones
+word-inside : (ts : List ℕ) → Whole ts → (i : ℕ) → is-name ts i ≡ true → i < count ts
+word-inside ts w i e = elim (decLt i (count ts)) [
+  | yes l ↦ l
+  | no l ↦ let k : kind ts i ≡ 0 = List·getD-eq-default ts 0 (omega (arith, w .rows)) in let f : false ≡ true = rw k at e in absurd (let z : _≡_ {A = ℕ} 0 1 = cc in omega arith)
+]
 
 module _ (text : List ℕ) where
   seek-below : (x ss : List ℕ) → seek text x ss ≤ length ss / 2
@@ -51,6 +72,22 @@ module _ (text : List ℕ) where
     rows-few zero = omega arith
     rows-few (suc n) = omega (arith, rows-few n, row-more n)
 
+    -- and none where it has no word
+    pub rows-same : (n : ℕ) → is-name ts n ≡ false → symbol-rows text ts (suc n) ≡ symbol-rows text ts n
+    unfolding symbol-rows
+    rows-same n h = rw h
+
+    -- rows are whole
+    pub rows-whole : (n : ℕ) → 2 * (length (symbol-rows text ts n) / 2) ≡ length (symbol-rows text ts n)
+    unfolding symbol-rows interned
+    rows-whole zero = refl
+    rows-whole (suc n) = pick (is-name ts n) (eqb (seek text (lexeme text (word-start ts n) (word-end ts n)) (symbol-rows text ts n)) (length (symbol-rows text ts n) / 2)) (rows-whole n)
+      where
+        pick : (b c : Bool) → let ss = symbol-rows text ts n in 2 * (length ss / 2) ≡ length ss → let rs = cond b (cond c (ss ++ (word-start ts n ∷ word-end ts n ∷ [])) ss) ss in 2 * (length rs / 2) ≡ length rs
+        pick true true h = simp length-append (omega arith)
+        pick true false h = h
+        pick false c h = h
+
     -- a name's symbol has a row once its token is passed
     pub name-has-row : (i : ℕ) → is-name ts i ≡ true → 2 * (symbol text ts i + 1) ≤ length (symbol-rows text ts (suc i))
     unfolding symbol symbol-rows
@@ -59,3 +96,49 @@ module _ (text : List ℕ) where
     pub wordless : (i : ℕ) → is-name ts i ≡ false → symbol text ts i ≡ 0
     unfolding symbol
     wordless i h = rw h
+
+    -- in a room of so many numbers a token has its symbol, or absent where its row does not fit
+    pub data In-room (room i : ℕ) : ℕ → Type 0 where
+      there : (is-name ts i ≡ true → length (symbol-rows text ts (suc i)) ≤ room) → In-room room i (symbol text ts i)
+      missing : is-name ts i ≡ true → room < length (symbol-rows text ts (suc i)) → In-room room i absent
+
+    pub in-room : (room i : ℕ) → In-room room i (symbol-in text ts room i)
+    unfolding symbol-in
+    in-room room i = pick (is-name ts i) refl (leb (length (symbol-rows text ts (suc i))) room) refl
+      where
+        pick : (b : Bool) → is-name ts i ≡ b → (c : Bool) → leb (length (symbol-rows text ts (suc i))) room ≡ c → In-room room i (cond (b && not c) absent (symbol text ts i))
+        pick false e c f = In-room.there (λ h. absurd (let z : _≡_ {A = ℕ} 0 1 = cc in omega arith))
+        pick true e true f = In-room.there (λ h. leb-true _ _ f)
+        pick true e false f = In-room.missing e (leb-false _ _ f)
+
+    -- what has no symbol in a larger room had none
+    pub symbol-in-kept : (room larger i : ℕ) → room ≤ larger → symbol-in text ts larger i ≡ absent → symbol-in text ts room i ≡ absent
+    symbol-in-kept room larger i l = kept (in-room room i) (in-room larger i)
+      where
+        kept : {x y : ℕ} → In-room room i x → In-room larger i y → y ≡ absent → x ≡ absent
+        kept (In-room.there h) (In-room.there k) e = e
+        kept (In-room.there h) (In-room.missing n k) e = absurd (omega (arith, h n))
+        kept (In-room.missing n k) y e = refl
+
+    symbol-few : Whole ts → (i : ℕ) → symbol text ts i ≤ 4096
+    symbol-few w i = pick (is-name ts i) refl
+      where
+        pick : (b : Bool) → is-name ts i ≡ b → symbol text ts i ≤ 4096
+        pick true e = omega (arith, name-has-row i e, rows-few (suc i), word-inside ts w i e, w .most)
+        pick false e = omega (arith, wordless i e)
+
+    -- a room for all rows has them all
+    module _ (w : Whole ts) {room : ℕ} (h : length (symbol-rows text ts (count ts)) ≤ room) where
+      pub symbol-in-all : symbol-in text ts room ≡ symbol text ts
+      symbol-in-all = fun-ext (λ i. all-in i (in-room room i))
+        where
+          all-in : (i : ℕ) {x : ℕ} → In-room room i x → x ≡ symbol text ts i
+          all-in i (In-room.there k) = refl
+          all-in i (In-room.missing e k) = absurd (omega (arith, rows-grow (suc i) (count ts) (word-inside ts w i e)))
+
+      -- so no symbol is absent, and every tree is named
+      pub symbol-there : (i : ℕ) → symbol-in text ts room i ≡ absent → ⊥
+      symbol-there i = rw symbol-in-all (omega (arith, symbol-few w i))
+
+      pub fits-named : (t : Tree Label) → Named (symbol-in text ts room) t
+      fits-named = named-all symbol-there

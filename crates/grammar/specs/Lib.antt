@@ -7,12 +7,13 @@ pub mod Pattern
 pub mod Lexeme
 pub mod Phrase
 pub mod Kaori
-pub mod Refusal
 pub mod Room
-pub mod Symbol
 pub mod Handle
+pub mod Symbol
 pub mod Rule
 pub mod Rows
+pub mod Space
+pub mod Refusal
 pub mod Layout
 pub mod Naming
 pub mod Parent

@@ -49,17 +49,14 @@ replies =
     (numbers 3 0 0 0 0 0 0 255) (rooms (replicate 5 7) (replicate 4 8) (replicate 3 9) (replicate 2 6)) ∷
     reply (bytes "a") 65 (43 ∷ 0 ∷ 1 ∷ 44 ∷ 1 ∷ 1 ∷ []) (rooms (replicate 5 7) (replicate 4 8) (replicate 3 9) (replicate 2 6))
     (numbers 3 0 0 0 0 0 0 255) (rooms (replicate 5 7) (replicate 4 8) (replicate 3 9) (replicate 2 6)) ∷
-    -- 4: each room is too small by a number, the others are large enough, and a byte is over 127; 4,096 tokens
-    reply (97 ∷ 200 ∷ []) 64 (43 ∷ 0 ∷ 1 ∷ 44 ∷ 1 ∷ 1 ∷ []) (rooms (replicate 19 7) (replicate 6 8) (replicate 4 9) (replicate 6 6))
-    (numbers 4 0 0 0 0 0 0 255) (rooms (replicate 19 7) (replicate 6 8) (replicate 4 9) (replicate 6 6)) ∷
-    reply (97 ∷ 200 ∷ []) 64 (43 ∷ 0 ∷ 1 ∷ 44 ∷ 1 ∷ 1 ∷ []) (rooms (replicate 20 7) (replicate 5 8) (replicate 4 9) (replicate 6 6))
-    (numbers 4 0 0 0 0 0 0 255) (rooms (replicate 20 7) (replicate 5 8) (replicate 4 9) (replicate 6 6)) ∷
-    reply (97 ∷ 200 ∷ []) 64 (43 ∷ 0 ∷ 1 ∷ 44 ∷ 1 ∷ 1 ∷ []) (rooms (replicate 20 7) (replicate 6 8) (replicate 3 9) (replicate 6 6))
-    (numbers 4 0 0 0 0 0 0 255) (rooms (replicate 20 7) (replicate 6 8) (replicate 3 9) (replicate 6 6)) ∷
+    -- 4: the scratch room is too small by a number, and a byte is over 127; 4,096 tokens
     reply (97 ∷ 200 ∷ []) 64 (43 ∷ 0 ∷ 1 ∷ 44 ∷ 1 ∷ 1 ∷ []) (rooms (replicate 20 7) (replicate 6 8) (replicate 4 9) (replicate 5 6))
     (numbers 4 0 0 0 0 0 0 255) (rooms (replicate 20 7) (replicate 6 8) (replicate 4 9) (replicate 5 6)) ∷
     reply (bytes "") 1 (replicate 12288 44) (rooms (replicate 20 7) (replicate 6 8) (replicate 4 9) (replicate 6 6))
     (numbers 4 0 0 0 0 0 0 255) (rooms (replicate 20 7) (replicate 6 8) (replicate 4 9) (replicate 6 6)) ∷
+    -- 5, with no other room than scratch
+    reply (97 ∷ 200 ∷ []) 64 (43 ∷ 0 ∷ 1 ∷ 44 ∷ 1 ∷ 1 ∷ []) (rooms [] [] [] (replicate 6 6))
+    (numbers 5 0 0 0 0 1 2 255) (rooms [] [] [] (replicate 6 6)) ∷
     -- 5: the first byte over 127, with a token that is bad
     reply (97 ∷ 127 ∷ 128 ∷ 200 ∷ []) 64 (2 ∷ 0 ∷ 1 ∷ 44 ∷ 1 ∷ 1 ∷ []) (rooms (replicate 25 7) (replicate 8 8) (replicate 5 9) (replicate 7 6))
     (numbers 5 0 0 0 0 2 3 255) (rooms (replicate 25 7) (replicate 8 8) (replicate 5 9) (replicate 7 6)) ∷
@@ -82,6 +79,15 @@ replies =
     (numbers 7 0 0 0 1 1 2 255) (rooms (replicate 25 7) (replicate 8 8) (replicate 5 9) (replicate 7 6)) ∷
     reply (bytes "a;") 64 (43 ∷ 0 ∷ 1 ∷ 44 ∷ 1 ∷ 1 ∷ 41 ∷ 1 ∷ 2 ∷ []) (rooms (replicate 35 7) (replicate 11 8) (replicate 7 9) (replicate 10 6))
     (numbers 7 0 0 0 1 1 1 255) (rooms (replicate 35 7) (replicate 11 8) (replicate 7 9) (replicate 10 6)) ∷
+    -- 4 in reading: the node, link or symbol room is too small by a number, and the rooms are zero throughout; with the very numbers of the door's 4
+    reply (bytes "a;") 64 (43 ∷ 0 ∷ 1 ∷ 41 ∷ 1 ∷ 2 ∷ 44 ∷ 2 ∷ 2 ∷ []) (rooms (replicate 19 7) (replicate 3 8) (replicate 2 9) (replicate 9 6))
+    (numbers 4 0 0 0 2 2 2 255) (rooms (replicate 19 0) (replicate 3 0) (replicate 2 0) (replicate 9 0)) ∷
+    reply (bytes "a;") 64 (43 ∷ 0 ∷ 1 ∷ 41 ∷ 1 ∷ 2 ∷ 44 ∷ 2 ∷ 2 ∷ []) (rooms (replicate 20 7) (replicate 2 8) (replicate 2 9) (replicate 9 6))
+    (numbers 4 0 0 0 2 2 2 255) (rooms (replicate 20 0) (replicate 2 0) (replicate 2 0) (replicate 9 0)) ∷
+    reply (bytes "a;") 64 (43 ∷ 0 ∷ 1 ∷ 41 ∷ 1 ∷ 2 ∷ 44 ∷ 2 ∷ 2 ∷ []) (rooms (replicate 20 7) (replicate 3 8) (replicate 1 9) (replicate 9 6))
+    (numbers 4 0 0 0 0 0 1 255) (rooms (replicate 20 0) (replicate 3 0) (replicate 1 0) (replicate 9 0)) ∷
+    reply (bytes "") 64 (44 ∷ 0 ∷ 0 ∷ []) (rooms (replicate 9 7) [] [] (replicate 3 6))
+    (numbers 4 0 0 0 0 0 0 255) (rooms (replicate 9 0) [] [] (replicate 3 0)) ∷
     -- 8, 9, 10 and 11: the rooms are zero throughout
     reply (bytes "f(a") 64 (43 ∷ 0 ∷ 1 ∷ 17 ∷ 1 ∷ 2 ∷ 43 ∷ 2 ∷ 3 ∷ 44 ∷ 3 ∷ 3 ∷ []) (rooms (replicate 45 7) (replicate 14 8) (replicate 9 9) (replicate 13 6))
     (numbers 8 0 0 0 3 3 3 13) (rooms (replicate 45 0) (replicate 14 0) (replicate 9 0) (replicate 13 0)) ∷
@@ -94,13 +100,16 @@ replies =
     -- every kind with a lexeme that fits; reading is refused at the first
     reply (bytes "= + - * ^ / % != == >= <= > < , : . | ( ) # { } and or not let const ref fun for while break continue if else return import true false nil 1 ; \"s\" a") 64 (0 ∷ 0 ∷ 1 ∷ 1 ∷ 2 ∷ 3 ∷ 2 ∷ 4 ∷ 5 ∷ 3 ∷ 6 ∷ 7 ∷ 4 ∷ 8 ∷ 9 ∷ 5 ∷ 10 ∷ 11 ∷ 6 ∷ 12 ∷ 13 ∷ 7 ∷ 14 ∷ 16 ∷ 8 ∷ 17 ∷ 19 ∷ 9 ∷ 20 ∷ 22 ∷ 10 ∷ 23 ∷ 25 ∷ 11 ∷ 26 ∷ 27 ∷ 12 ∷ 28 ∷ 29 ∷ 13 ∷ 30 ∷ 31 ∷ 14 ∷ 32 ∷ 33 ∷ 15 ∷ 34 ∷ 35 ∷ 16 ∷ 36 ∷ 37 ∷ 17 ∷ 38 ∷ 39 ∷ 18 ∷ 40 ∷ 41 ∷ 19 ∷ 42 ∷ 43 ∷ 20 ∷ 44 ∷ 45 ∷ 21 ∷ 46 ∷ 47 ∷ 22 ∷ 48 ∷ 51 ∷ 23 ∷ 52 ∷ 54 ∷ 24 ∷ 55 ∷ 58 ∷ 25 ∷ 59 ∷ 62 ∷ 26 ∷ 63 ∷ 68 ∷ 27 ∷ 69 ∷ 72 ∷ 28 ∷ 73 ∷ 76 ∷ 29 ∷ 77 ∷ 80 ∷ 30 ∷ 81 ∷ 86 ∷ 31 ∷ 87 ∷ 92 ∷ 32 ∷ 93 ∷ 101 ∷ 33 ∷ 102 ∷ 104 ∷ 34 ∷ 105 ∷ 109 ∷ 35 ∷ 110 ∷ 116 ∷ 36 ∷ 117 ∷ 123 ∷ 37 ∷ 124 ∷ 128 ∷ 38 ∷ 129 ∷ 134 ∷ 39 ∷ 135 ∷ 138 ∷ 40 ∷ 139 ∷ 140 ∷ 41 ∷ 141 ∷ 142 ∷ 42 ∷ 143 ∷ 146 ∷ 43 ∷ 147 ∷ 148 ∷ 44 ∷ 148 ∷ 148 ∷ []) (rooms (replicate 455 7) (replicate 137 8) (replicate 91 9) (replicate 136 6))
     (numbers 9 0 0 0 0 0 1 255) (rooms (replicate 455 0) (replicate 137 0) (replicate 91 0) (replicate 136 0)) ∷
-    -- 0: rows and then zeros to the end of each room; rooms that are just large enough; at the largest depth limit and the smallest
+    -- 0: rows and then zeros to the end of each room; rooms with just a row for each token; at the largest depth limit and the smallest
     reply (bytes "f(a) + 1;") 64 (43 ∷ 0 ∷ 1 ∷ 17 ∷ 1 ∷ 2 ∷ 43 ∷ 2 ∷ 3 ∷ 18 ∷ 3 ∷ 4 ∷ 1 ∷ 5 ∷ 6 ∷ 40 ∷ 7 ∷ 8 ∷ 41 ∷ 8 ∷ 9 ∷ 44 ∷ 9 ∷ 9 ∷ []) (rooms (replicate 85 7) (replicate 26 8) (replicate 17 9) (replicate 25 6))
     (numbers 0 6 2 2 0 0 0 255) (rooms (row 10 0 1 0 0 1 0 0 0 2 ++ row 10 2 3 1 2 3 0 0 0 2 ++ row 15 1 4 0 0 1 0 0 0 4 ++ row 12 7 8 0 0 0 0 0 0 4 ++ row 1 1 8 0 2 3 0 0 0 5 ++ row 20 0 0 1 1 4294967295 0 0 0 4294967295 ++ replicate 25 0) (1 ∷ 0 ∷ 0 ∷ 4 ∷ 0 ∷ 0 ∷ replicate 20 0) (0 ∷ 1 ∷ 2 ∷ 3 ∷ replicate 13 0) (replicate 25 0)) ∷
     reply (bytes "a = f;") 1 (43 ∷ 0 ∷ 1 ∷ 0 ∷ 2 ∷ 3 ∷ 43 ∷ 4 ∷ 5 ∷ 41 ∷ 5 ∷ 6 ∷ 44 ∷ 6 ∷ 6 ∷ []) (rooms (replicate 50 7) (replicate 15 8) (replicate 10 9) (replicate 15 6))
     (numbers 0 4 1 2 0 0 0 255) (rooms (row 10 0 1 0 0 1 0 0 0 2 ++ row 10 4 5 1 4 5 0 0 0 2 ++ row 6 0 5 0 1 0 0 0 0 3 ++ row 20 0 0 0 1 4294967295 0 0 0 4294967295 ++ replicate 10 0) (2 ∷ 0 ∷ 0 ∷ replicate 12 0) (0 ∷ 1 ∷ 4 ∷ 5 ∷ replicate 6 0) (replicate 15 0)) ∷
     reply (bytes "") 64 (44 ∷ 0 ∷ 0 ∷ []) (rooms (replicate 10 7) (replicate 3 8) (replicate 2 9) (replicate 3 6))
     (numbers 0 1 0 0 0 0 0 255) (rooms (row 20 0 0 0 0 4294967295 0 0 0 4294967295) (replicate 3 0) (replicate 2 0) (replicate 3 0)) ∷
+    -- 0: rooms for just the rows, fewer than tokens
+    reply (bytes "a;") 64 (43 ∷ 0 ∷ 1 ∷ 41 ∷ 1 ∷ 2 ∷ 44 ∷ 2 ∷ 2 ∷ []) (rooms (replicate 20 7) (replicate 3 8) (replicate 2 9) (replicate 9 6))
+    (numbers 0 2 1 1 0 0 0 255) (rooms (row 10 0 1 0 0 1 0 0 0 1 ++ row 20 0 0 0 1 4294967295 0 0 0 4294967295) (0 ∷ 0 ∷ 0 ∷ []) (0 ∷ 1 ∷ []) (replicate 9 0)) ∷
     -- 0: gaps are not examined, nor is Eof's lexeme; a byte of 127 may stand in a string
     reply (32 ∷ 97 ∷ 63 ∷ 59 ∷ 34 ∷ 127 ∷ 34 ∷ 59 ∷ 110 ∷ 111 ∷ 116 ∷ []) 64 (43 ∷ 1 ∷ 2 ∷ 41 ∷ 3 ∷ 4 ∷ 42 ∷ 4 ∷ 7 ∷ 41 ∷ 7 ∷ 8 ∷ 44 ∷ 8 ∷ 11 ∷ []) (rooms (replicate 55 7) (replicate 17 8) (replicate 11 9) (replicate 16 6))
     (numbers 0 3 2 2 0 0 0 255) (rooms (row 10 1 2 0 1 2 0 0 0 2 ++ row 11 4 7 1 0 0 0 0 0 2 ++ row 20 0 0 0 2 4294967295 0 0 0 4294967295 ++ replicate 25 0) (0 ∷ 0 ∷ 0 ∷ 1 ∷ 0 ∷ 0 ∷ replicate 11 0) (1 ∷ 2 ∷ 5 ∷ 6 ∷ replicate 7 0) (replicate 16 0)) ∷

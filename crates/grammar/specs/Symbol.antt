@@ -1,10 +1,11 @@
 -- The symbols of a token list, from its tokens and the text alone: no reading is needed. Document 01, Rows: 'Symbols: numbered by first appearance, from 0; an
 -- identifier and a string's inside share one table; the row is the first place'.
 use Prim.Native.Nat.{ℕ, zero, suc, _+_, _-_, _/_}
-use mathlib.Core.Bool.{Bool, true, false, cond, _&&_, _||_}
+use mathlib.Core.Bool.{Bool, true, false, cond, not, _&&_, _||_}
 use mathlib.Core.List.{List, [], _∷_, _++_}
-use lib.Dec.{eqb}
+use lib.Dec.{eqb, leb}
 use lib.ListN.{length}
+use Rattle.grammar.specs.Handle.{absent}
 use Rattle.grammar.specs.Kind.{StringLiteral, Identifier}
 use Rattle.grammar.specs.Room.{symbol-width}
 use Rattle.grammar.specs.Token.{kind, start, end, lexeme}
@@ -49,3 +50,7 @@ module _ (text ts : List ℕ) where
   -- the symbol of token i's word: its row among those of the tokens before it, or the next. A token that has no word has 0
   unfoldable pub symbol : ℕ → ℕ
   symbol i = cond (is-name ts i) (seek text (lexeme text (word-start ts i) (word-end ts i)) (symbol-rows i)) 0
+
+  -- and in a room of so many numbers: absent from the first word on whose row does not fit
+  unfoldable pub symbol-in : (room : ℕ) → ℕ → ℕ
+  symbol-in room i = cond (is-name ts i && not (leb (length (symbol-rows (suc i))) room)) absent (symbol i)
