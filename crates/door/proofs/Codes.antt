@@ -1,7 +1,7 @@
 -- The first code in order that finds something wrong: the checks before it found nothing. And what each contract of the door allows is one outcome.
 use Prim.Native.Nat.{ℕ, zero, suc, _+_, _≤_, _<_}
 use mathlib.Core.Bool.{cond}
-use mathlib.Core.List.{List}
+use mathlib.Core.List.{List, []}
 use mathlib.Core.Path.{_≡_, refl, ap}
 use native.Mathlib.Decide.{decLt}
 use native.Mathlib.Omega.{arith}
@@ -27,7 +27,7 @@ Asks c k =
     cond (eqb k 5) (Ascii (c .text))
     (cond (eqb k 6) ((i : ℕ) → i < count (c .tokens) → Sound (c .text) (c .tokens) i)
     (cond (eqb k 7) ((i : ℕ) → i < count (c .tokens) → Closed (c .tokens) i)
-    (Asks-lengths (length (c .tokens)) (length (c .text)) (c .limit) (length (c .rooms .nodes)) (length (c .rooms .links)) (length (c .rooms .symbols)) (length (c .rooms .scratch)) k)))
+    (Asks-lengths (length (c .tokens)) (length (c .text)) (c .limit) (length (c .rooms .scratch)) k)))
 
 -- where the checks before code n found nothing, no code below n finds anything wrong
 pub from : {c : Call} {n : ℕ} → Passed (Asks c) 8 n → {k a s e : ℕ} → Wrong c k a s e → n ≤ k
@@ -44,13 +44,13 @@ pub turned : {c : Call} {n a s e : ℕ} → Wrong c n a s e → Passed (Asks c) 
 turned w r = Enters.turned (record { wrong = w; first = from r })
 
 -- what is asked of lengths where checks 1 to 4 find nothing
-module _ {list text limit nodes links symbols scratch : ℕ} where
-  pub right-lengths : {k : ℕ} → Lengths-checked list text limit nodes links symbols scratch k → k ≡ 0 → (j : ℕ) → j < 5 → Asks-lengths list text limit nodes links symbols scratch j
+module _ {list text limit scratch : ℕ} where
+  pub right-lengths : {k : ℕ} → Lengths-checked list text limit scratch k → k ≡ 0 → (j : ℕ) → j < 5 → Asks-lengths list text limit scratch j
   right-lengths (Lengths-checked.wrong f) e = absurd (f .lacks (rw e tt))
   right-lengths (Lengths-checked.right f) e = f
 
   -- two outcomes of `lengths` are equal
-  pub one-measure : {k l : ℕ} → Lengths-checked list text limit nodes links symbols scratch k → Lengths-checked list text limit nodes links symbols scratch l → k ≡ l
+  pub one-measure : {k l : ℕ} → Lengths-checked list text limit scratch k → Lengths-checked list text limit scratch l → k ≡ l
   one-measure (Lengths-checked.wrong f) (Lengths-checked.wrong g) = one-place _ 5 f g
   one-measure (Lengths-checked.wrong {k = k} f) (Lengths-checked.right g) = absurd (f .lacks (g k (f .place)))
   one-measure (Lengths-checked.right f) (Lengths-checked.wrong {k = k} g) = absurd (g .lacks (f k (g .place)))
@@ -62,7 +62,7 @@ module _ (text ts : List ℕ) (limit : ℕ) (rooms : Rooms) where
   call = record { text = text; tokens = ts; limit = limit; rooms = rooms }
 
   abbrev asked : ℕ → Type 0
-  asked = Asks-lengths (length ts) (length text) limit (length (rooms .nodes)) (length (rooms .links)) (length (rooms .symbols)) (length (rooms .scratch))
+  asked = Asks-lengths (length ts) (length text) limit (length (rooms .scratch))
 
   of-lengths : (k : ℕ) → k < 5 → asked k → Asks call k
   of-lengths k h a = rw (ne-eqb k 5 (λ e. omega arith), ne-eqb k 6 (λ e. omega arith), ne-eqb k 7 (λ e. omega arith)) a
@@ -76,11 +76,11 @@ module _ (text ts : List ℕ) (limit : ℕ) (rooms : Rooms) where
   wrong-lengths (suc (suc (suc (suc (suc k))))) h f = absurd (omega arith)
 
   -- checks 1 to 4
-  pub measured : {k : ℕ} → Lengths-checked (length ts) (length text) limit (length (rooms .nodes)) (length (rooms .links)) (length (rooms .symbols)) (length (rooms .scratch)) k → (k ≡ 0 → ⊥) → Enters call (refuse k 0 0 0 255)
+  pub measured : {k : ℕ} → Lengths-checked (length ts) (length text) limit (length (rooms .scratch)) k → (k ≡ 0 → ⊥) → Enters call (refuse k 0 0 0 255)
   measured (Lengths-checked.wrong {k = k} f) n = turned (wrong-lengths k (f .place) (f .lacks)) (record { most = omega (arith, f .place); before = λ j h. of-lengths j (omega (arith, f .place)) (f .before j h) })
   measured (Lengths-checked.right f) n = absurd (n refl)
 
-  pub measures : {k : ℕ} → Lengths-checked (length ts) (length text) limit (length (rooms .nodes)) (length (rooms .links)) (length (rooms .symbols)) (length (rooms .scratch)) k → k ≡ 0 → Passed (Asks call) 8 5
+  pub measures : {k : ℕ} → Lengths-checked (length ts) (length text) limit (length (rooms .scratch)) k → k ≡ 0 → Passed (Asks call) 8 5
   measures x e = record { most = omega arith; before = λ j h. of-lengths j h (right-lengths x e j h) }
 
   -- checks 6 and 7
@@ -105,16 +105,16 @@ listed-told (List-checked.unsound f) = omega arith
 listed-told (List-checked.unclosed s f) = omega arith
 listed-told (List-checked.let-in l) = tt
 
--- the answers, for rooms of any content
-module _ {text ts : List ℕ} {limit nodes links symbols scratch k : ℕ} (m : Lengths-checked (length ts) (length text) limit nodes links symbols scratch k) where
-  pub by-lengths : (k ≡ 0 → ⊥) → Entered text ts limit nodes links symbols scratch (Entry.Refused (record { code = k; at = 0; start = 0; end = 0 }))
-  by-lengths n = record { told = omega arith; says = λ rooms a b d e. measured text ts limit rooms (rw (a, b, d, e) m) n }
+-- the answers, for a scratch room of any content and other rooms of any size
+module _ {text ts : List ℕ} {limit scratch k : ℕ} (m : Lengths-checked (length ts) (length text) limit scratch k) where
+  pub by-lengths : (k ≡ 0 → ⊥) → Entered text ts limit scratch (Entry.Refused (record { code = k; at = 0; start = 0; end = 0 }))
+  by-lengths n = record { told = omega arith; says = λ rooms e. measured text ts limit rooms (rw e m) n }
 
-  pub by-byte : {r i : ℕ} → k ≡ 0 → Highest text (length text) r → 127 < r → Searched (λ j. getD text j 0 ≤ 127) (length text) i → Entered text ts limit nodes links symbols scratch (Entry.Refused (record { code = 5; at = 0; start = i; end = i + 1 }))
-  by-byte z x h f = record { told = omega arith; says = λ rooms a b d e. turned (Wrong.byte (first-of (found-high x h f) f)) (measures text ts limit rooms (rw (a, b, d, e) m) z) }
+  pub by-byte : {r i : ℕ} → k ≡ 0 → Highest text (length text) r → 127 < r → Searched (λ j. getD text j 0 ≤ 127) (length text) i → Entered text ts limit scratch (Entry.Refused (record { code = 5; at = 0; start = i; end = i + 1 }))
+  by-byte z x h f = record { told = omega arith; says = λ rooms e. turned (Wrong.byte (first-of (found-high x h f) f)) (measures text ts limit rooms (rw e m) z) }
 
-  pub by-list : {q : Entry} → k ≡ 0 → Ascii text → List-checked text ts q → Entered text ts limit nodes links symbols scratch q
-  by-list z h l = record { told = listed-told l; says = λ rooms a b d e. listing text ts limit rooms (passed-more (measures text ts limit rooms (rw (a, b, d, e) m) z) (omega arith) h) l }
+  pub by-list : {q : Entry} → k ≡ 0 → Ascii text → List-checked text ts q → Entered text ts limit scratch q
+  by-list z h l = record { told = listed-told l; says = λ rooms e. listing text ts limit rooms (passed-more (measures text ts limit rooms (rw e m) z) (omega arith) h) l }
 
 -- what the numbers of an entry say
 module _ {c : Call} where
@@ -139,10 +139,11 @@ same-entry (Entry.Refused p) Entry.Open t u e = absurd (omega (arith, ap (λ a. 
 same-entry (Entry.Refused p) (Entry.Refused q) t u e = λ i. Entry.Refused (record { code = e i .code; at = e i .at; start = e i .start; end = e i .end })
 
 -- two outcomes of `check` are equal
-pub one-entry : {text ts : List ℕ} {limit nodes links symbols scratch : ℕ} {r s : Entry} → Entered text ts limit nodes links symbols scratch r → Entered text ts limit nodes links symbols scratch s → r ≡ s
-one-entry {nodes = ns} {links = ls} {symbols = ys} {scratch = ss} {r = r} {s = s} x y =
-    let rooms : Rooms = record { nodes = replicate ns 0; links = replicate ls 0; symbols = replicate ys 0; scratch = replicate ss 0 } in
-    same-entry r s (x .told) (y .told) (one-numbers (x .says rooms (length-replicate ns 0) (length-replicate ls 0) (length-replicate ys 0) (length-replicate ss 0)) (y .says rooms (length-replicate ns 0) (length-replicate ls 0) (length-replicate ys 0) (length-replicate ss 0)))
+pub one-entry : {text ts : List ℕ} {limit scratch : ℕ} {r s : Entry} → Entered text ts limit scratch r → Entered text ts limit scratch s → r ≡ s
+one-entry {scratch = n} {r = r} {s = s} x y =
+    let rooms : Rooms = record { nodes = []; links = []; symbols = []; scratch = replicate n 0 } in
+    let e : length (rooms .scratch) ≡ n = length-replicate n 0 in
+    same-entry r s (x .told) (y .told) (one-numbers (x .says rooms e) (y .says rooms e))
 
 -- two outcomes of `highest` are equal
 module _ {text : List ℕ} {n : ℕ} where

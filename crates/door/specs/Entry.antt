@@ -7,7 +7,7 @@ use lib.Dec.{eqb}
 use lib.ListN.{length, getD}
 use Rattle.grammar.specs.Answer.{Answer, refuse}
 use Rattle.grammar.specs.Call.{Call}
-use Rattle.grammar.specs.Door.{Right-list, Right-rooms, Sound, Closed, Lent, Admitted, First-without, Turned-away}
+use Rattle.grammar.specs.Door.{Right-list, Right-scratch, Sound, Closed, Lent, Admitted, First-without, Turned-away}
 use Rattle.grammar.specs.Room.{Rooms}
 use Rattle.grammar.specs.Token.{count, start, end}
 use Rattle.door.specs.declared.Entry.{Entry}
@@ -24,18 +24,18 @@ pub record Highest (text : List ℕ) (n r : ℕ) : Type 0 where
   pub there : 0 < r → (i : ℕ) × (i < n) × (getD text i 0 ≡ r)
 
 -- what the check with code k asks of lengths and the limit alone
-abbrev pub Asks-lengths : (list text limit nodes links symbols scratch k : ℕ) → Type 0
-Asks-lengths list text limit nodes links symbols scratch k =
+abbrev pub Asks-lengths : (list text limit scratch k : ℕ) → Type 0
+Asks-lengths list text limit scratch k =
     cond (eqb k 1) (Right-list list)
     (cond (eqb k 2) (text ≤ 65536)
     (cond (eqb k 3) ((1 ≤ limit) × (limit ≤ 64))
-    (cond (eqb k 4) (Right-rooms (list / 3) nodes links symbols scratch)
+    (cond (eqb k 4) (Right-scratch (list / 3) scratch)
     (Unit {0}))))
 
 -- the first of checks 1 to 4 without what it asks, or 0 where there is none
-pub data Lengths-checked (list text limit nodes links symbols scratch : ℕ) : ℕ → Type 0 where
-  wrong : {k : ℕ} → First-without (Asks-lengths list text limit nodes links symbols scratch) 5 k → Lengths-checked list text limit nodes links symbols scratch k
-  right : ((k : ℕ) → k < 5 → Asks-lengths list text limit nodes links symbols scratch k) → Lengths-checked list text limit nodes links symbols scratch 0
+pub data Lengths-checked (list text limit scratch : ℕ) : ℕ → Type 0 where
+  wrong : {k : ℕ} → First-without (Asks-lengths list text limit scratch) 5 k → Lengths-checked list text limit scratch k
+  right : ((k : ℕ) → k < 5 → Asks-lengths list text limit scratch k) → Lengths-checked list text limit scratch 0
 
 -- checks 6 and 7: the first token that is not sound, or then the first that is not closed, or all that is asked of text and list
 pub data List-checked (text ts : List ℕ) : Entry → Type 0 where
@@ -58,7 +58,7 @@ abbrev pub Told : Entry → Type 0
 Told Entry.Open = Unit {0}
 Told (Entry.Refused q) = 1 ≤ q .code
 
--- a call with this text, list and limit, and with rooms of these lengths, enters so
-pub record Entered (text ts : List ℕ) (limit nodes links symbols scratch : ℕ) (r : Entry) : Type 0 where
+-- a call with this text, list and limit, and with a scratch room of this length, enters so
+pub record Entered (text ts : List ℕ) (limit scratch : ℕ) (r : Entry) : Type 0 where
   pub told : Told r
-  pub says : (rooms : Rooms) → length (rooms .nodes) ≡ nodes → length (rooms .links) ≡ links → length (rooms .symbols) ≡ symbols → length (rooms .scratch) ≡ scratch → Enters (record { text = text; tokens = ts; limit = limit; rooms = rooms }) (entry-numbers r)
+  pub says : (rooms : Rooms) → length (rooms .scratch) ≡ scratch → Enters (record { text = text; tokens = ts; limit = limit; rooms = rooms }) (entry-numbers r)

@@ -1,4 +1,6 @@
-// The door: checks 1 to 7 of document 01, in order. A call that is let in is one that the readers can read without a test of their own.
+// The door: checks 1 to 7 of document 01, in order. Of the rooms it asks for scratch alone (document 02, L6): whether rows fit the others is met in reading.
+pub mod wrong;
+
 use lexeme::fits;
 use spelling::words;
 use token::kinds;
@@ -13,6 +15,21 @@ ghost use Rattle.grammar.specs.Token.{count};
 ghost use Rattle.spelling.specs.Decides.{Decides};
 ghost use Rattle.spelling.specs.Words.{table};
 ghost use Rattle.door.specs.Entry.{Searched, Highest, Lengths-checked, List-checked, Entered};
+
+// Numbers a token in the list, and in scratch.
+const TOKEN_WIDTH: usize = 3;
+
+const SCRATCH_WIDTH: usize = 3;
+
+// The most tokens, bytes of text and openings.
+const MOST_TOKENS: usize = 4096;
+
+const MOST_BYTES: usize = 65536;
+
+const MOST_DEPTH: u32 = 64;
+
+// The highest byte of ASCII.
+const HIGHEST_BYTE: u8 = 127;
 
 // The code, and the numbers at, start and end. No certain kind is ever required here.
 pub struct Refusal {
@@ -29,47 +46,30 @@ pub enum Entry {
 
 // The first of checks 1 to 4 that finds something wrong, of lengths and the limit alone, or 0.
 // Ruled out: 4 where the limit is 0; 0 for a list of 4,097 tokens.
-pub fn lengths(
-    list: usize,
-    text: usize,
-    limit: u32,
-    nodes: usize,
-    links: usize,
-    symbols: usize,
-    scratch: usize,
-) -> u32
-    ensures { λ r. ⌜ Lengths-checked list text limit nodes links symbols scratch r ⌝ }
+pub fn lengths(list: usize, text: usize, limit: u32, scratch: usize) -> u32
+    ensures { λ r. ⌜ Lengths-checked list text limit scratch r ⌝ }
 {
-    let tokens = list / 3;
-    if list % 3 != 0 {
-        return 1;
+    let tokens = list / TOKEN_WIDTH;
+    if list % TOKEN_WIDTH != 0 {
+        return wrong::LIST;
     }
     if tokens < 1 {
-        return 1;
+        return wrong::LIST;
     }
-    if 4096 < tokens {
-        return 1;
+    if MOST_TOKENS < tokens {
+        return wrong::LIST;
     }
-    if 65536 < text {
-        return 2;
+    if MOST_BYTES < text {
+        return wrong::TEXT;
     }
     if limit < 1 {
-        return 3;
+        return wrong::LIMIT;
     }
-    if 64 < limit {
-        return 3;
+    if MOST_DEPTH < limit {
+        return wrong::LIMIT;
     }
-    if nodes / 10 < tokens {
-        return 4;
-    }
-    if links / 3 < tokens {
-        return 4;
-    }
-    if symbols / 2 < tokens {
-        return 4;
-    }
-    if scratch / 3 < tokens {
-        return 4;
+    if scratch / SCRATCH_WIDTH < tokens {
+        return wrong::SCRATCH;
     }
     0
 }
@@ -81,7 +81,7 @@ pub fn first_high(text: &[u8]) -> usize
 {
     let mut i = 0;
     while i < text.len() {
-        if 127 < text[i] {
+        if HIGHEST_BYTE < text[i] {
             return i;
         }
         i += 1;
@@ -136,7 +136,7 @@ fn sound(words: &[u8], text: &[u8], tokens: &[u32], at: usize) -> bool
 fn first_unsound(text: &[u8], tokens: &[u32]) -> usize
     ensures { λ r. ⌜ Searched (Sound (now (text .entry)) (now (tokens .entry))) (count (now (tokens .entry))) r ⌝ }
 {
-    let count = tokens.len() / 3;
+    let count = tokens.len() / TOKEN_WIDTH;
     let table = words();
     let mut i = 0;
     while i < count {
@@ -152,7 +152,7 @@ fn first_unsound(text: &[u8], tokens: &[u32]) -> usize
 fn first_unclosed(tokens: &[u32]) -> usize
     ensures { λ r. ⌜ Searched (Closed (now (tokens .entry))) (count (now (tokens .entry))) r ⌝ }
 {
-    let count = tokens.len() / 3;
+    let count = tokens.len() / TOKEN_WIDTH;
     let mut i = 0;
     while i + 1 < count {
         if kind_at(tokens, i) == kinds::EOF {
@@ -173,11 +173,11 @@ fn listed(text: &[u8], tokens: &[u32]) -> Entry
     requires { ⌜ Whole (now tokens) × Ascii (now text) ⌝ }
     ensures { λ r. ⌜ List-checked (now (text .entry)) (now (tokens .entry)) r ⌝ }
 {
-    let count = tokens.len() / 3;
+    let count = tokens.len() / TOKEN_WIDTH;
     let bad = first_unsound(text, tokens);
     if bad < count {
         return Entry::Refused(Refusal {
-            code: 6,
+            code: wrong::TOKEN,
             at: bad as u32,
             start: start_at(tokens, bad),
             end: end_at(tokens, bad),
@@ -186,7 +186,7 @@ fn listed(text: &[u8], tokens: &[u32]) -> Entry
     let open = first_unclosed(tokens);
     if open < count {
         return Entry::Refused(Refusal {
-            code: 7,
+            code: wrong::EOF,
             at: open as u32,
             start: start_at(tokens, open),
             end: end_at(tokens, open),
@@ -195,28 +195,12 @@ fn listed(text: &[u8], tokens: &[u32]) -> Entry
     Entry::Open
 }
 
-// Lets a call in, or turns it away: of the rooms only the lengths matter.
+// Lets a call in, or turns it away: of the rooms only scratch's length matters.
 // Ruled out: a code that is not the first; a place that is not the first.
-pub fn check(
-    text: &[u8],
-    tokens: &[u32],
-    limit: u32,
-    nodes: usize,
-    links: usize,
-    symbols: usize,
-    scratch: usize,
-) -> Entry
-    ensures { λ r. ⌜ Entered (now (text .entry)) (now (tokens .entry)) limit nodes links symbols scratch r ⌝ }
+pub fn check(text: &[u8], tokens: &[u32], limit: u32, scratch: usize) -> Entry
+    ensures { λ r. ⌜ Entered (now (text .entry)) (now (tokens .entry)) limit scratch r ⌝ }
 {
-    let code = lengths(
-        tokens.len(),
-        text.len(),
-        limit,
-        nodes,
-        links,
-        symbols,
-        scratch,
-    );
+    let code = lengths(tokens.len(), text.len(), limit, scratch);
     if code != 0 {
         return Entry::Refused(Refusal {
             code: code,
@@ -225,10 +209,10 @@ pub fn check(
             end: 0,
         });
     }
-    if 127 < highest(text) {
+    if HIGHEST_BYTE < highest(text) {
         let high = first_high(text);
         return Entry::Refused(Refusal {
-            code: 5,
+            code: wrong::BYTE,
             at: 0,
             start: high as u32,
             end: (high + 1) as u32,

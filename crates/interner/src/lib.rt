@@ -10,6 +10,9 @@ ghost use Rattle.interner.specs.Index.{mix as mix-of, bucket as bucket-o
 ghost use Rattle.interner.specs.Interns.{used, Ready, Enters};
 ghost use Rattle.interner.specs.Search.{Compared, Wanted, Sought};
 
+// No symbol: the room has no row for it.
+pub const NO_SYMBOL: u32 = 4294967295;
+
 // The symbol of a text, and how many rows are in use now.
 pub struct Interned {
     pub symbol: u32,
@@ -97,9 +100,9 @@ fn find(
     count
 }
 
-// The symbol of the text from `start` up to `end`: the row that has its bytes, or a new last row. It asks that this is a part of the text, that the rows in use
-// are parts with different bytes, that `index` is theirs, and for room for one row more in both (`Ready`).
-// Ruled out: a row whose text has the same length and other bytes; a second row for a text that has one; a new row that the index does not have.
+// The symbol of the text from `start` up to `end`: the row that has its bytes, or a new last row; or NO_SYMBOL, where it would be a new one and the room has none. It
+// asks that this is a part of the text, that the rows in use are parts with different bytes, that `index` is theirs, and for room for one row more there (`Ready`).
+// Ruled out: a row whose text has the same length and other bytes; a second row for a text that has one; a new row that the index does not have; a symbol without a row.
 pub fn get_or_intern(
     text: &[u8],
     symbols: &mut [u32],
@@ -119,6 +122,12 @@ pub fn get_or_intern(
     if i < count {
         return Interned {
             symbol: i as u32,
+            count: count,
+        };
+    }
+    if symbols.len() < 2 * count + 2 {
+        return Interned {
+            symbol: NO_SYMBOL,
             count: count,
         };
     }

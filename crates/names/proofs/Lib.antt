@@ -1,3 +1,4 @@
+pub mod Fitting
 pub mod Words
 pub mod Passing
 pub mod Readers

@@ -14,11 +14,11 @@ returns c = by-lengths (c .before .lengths .ensures) (c .if1 .taken)
 short : (c : tie.Else1) → length (c .before .before .before .before .args .text .now) ≤ 65536
 short c = right-lengths (c .before .lengths .ensures) (c .if1 .left) 2 (omega arith)
 
-cast-t15 : tie.Need-cast-t15
-cast-t15 c = omega (arith, short (c .before .before .before), c .first-high .ensures .most)
+cast-t12 : tie.Need-cast-t12
+cast-t12 c = omega (arith, short (c .before .before .before), c .first-high .ensures .most)
 
-cast-t17 : tie.Need-cast-t17
-cast-t17 c = omega (arith, short (c .before .before .before), c .first-high .ensures .most)
+cast-t14 : tie.Need-cast-t14
+cast-t14 c = omega (arith, short (c .before .before .before), c .first-high .ensures .most)
 
 returns-2 : tie.Need-returns-2
 returns-2 c = by-byte (c .before .before .before .before .lengths .ensures) (c .before .before .before .if1 .left) (c .before .before .highest .ensures) (c .before .if2 .taken) (c .first-high .ensures)
@@ -37,9 +37,9 @@ check-spec =
     returns
     (λ c κs. search needs)
     (λ c κs. search needs)
-    cast-t15
+    cast-t12
     (λ c. search needs)
-    cast-t17
+    cast-t14
     returns-2
     listed-requires
     returns-3)

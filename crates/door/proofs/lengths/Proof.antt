@@ -23,7 +23,7 @@ module _ {asks : ℕ → Type 0} (none : asks 0) where
   all : asks 1 → asks 2 → asks 3 → asks 4 → Passed asks 5 5
   all l t d r = passed-more (fourth l t d) (omega arith) r
 
-all-right : {list text limit nodes links symbols scratch : ℕ} → Passed (Asks-lengths list text limit nodes links symbols scratch) 5 5 → Lengths-checked list text limit nodes links symbols scratch 0
+all-right : {list text limit scratch : ℕ} → Passed (Asks-lengths list text limit scratch) 5 5 → Lengths-checked list text limit scratch 0
 all-right p = Lengths-checked.right (p .before)
 
 returns : tie.Need-returns
@@ -45,19 +45,10 @@ returns-6 : tie.Need-returns-6
 returns-6 c = Lengths-checked.wrong (first-here (third tt (omega arith) (omega arith)) (omega arith) (λ d. omega arith))
 
 returns-7 : tie.Need-returns-7
-returns-7 c = Lengths-checked.wrong (first-here (fourth tt (omega arith) (omega arith) (omega arith)) (omega arith) (λ r. let w = r .nodes in omega arith))
+returns-7 c = Lengths-checked.wrong (first-here (fourth tt (omega arith) (omega arith) (omega arith)) (omega arith) (λ r. omega arith))
 
 returns-8 : tie.Need-returns-8
-returns-8 c = Lengths-checked.wrong (first-here (fourth tt (omega arith) (omega arith) (omega arith)) (omega arith) (λ r. let w = r .links in omega arith))
-
-returns-9 : tie.Need-returns-9
-returns-9 c = Lengths-checked.wrong (first-here (fourth tt (omega arith) (omega arith) (omega arith)) (omega arith) (λ r. let w = r .symbols in omega arith))
-
-returns-10 : tie.Need-returns-10
-returns-10 c = Lengths-checked.wrong (first-here (fourth tt (omega arith) (omega arith) (omega arith)) (omega arith) (λ r. let w = r .scratch in omega arith))
-
-returns-11 : tie.Need-returns-11
-returns-11 c = all-right (all tt (omega arith) (omega arith) (omega arith) (omega arith))
+returns-8 c = all-right (all tt (omega arith) (omega arith) (omega arith) (omega arith))
 
 pub lengths-spec : {M : Type 1} → statement M
-lengths-spec = tie.close (tie.spec returns returns-2 returns-3 returns-4 returns-5 returns-6 returns-7 returns-8 returns-9 returns-10 returns-11)
+lengths-spec = tie.close (tie.spec returns returns-2 returns-3 returns-4 returns-5 returns-6 returns-7 returns-8)

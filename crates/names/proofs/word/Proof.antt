@@ -7,7 +7,7 @@ use mathlib.Core.List.{List}
 use mathlib.Core.Path.{_≡_, ap, _∙_}
 use Rattle.grammar.specs.Kind.{Identifier}
 use Rattle.grammar.specs.Symbol.{is-name, quote, word-start, word-end}
-use Rattle.names.proofs.Words.{is-word, quote-is, quoted, free-word, word-interns, no-word}
+use Rattle.names.proofs.Words.{is-word, is-no-word, quote-is, quoted, free-word, word-interns, no-word}
 use Rattle.names.proofs.word.Statement.{statement}
 use Rattle.names.proofs.word.Tie as tie
 
@@ -55,12 +55,14 @@ returns c =
 
 -- below the two kinds and above them there is no word
 returns-2 : tie.Need-returns-2
-returns-2 c = let read = c .before in no-word (start read .pre) (λ e. omega (arith, read .kind-at .ensures, c .if1 .taken)) (λ e. omega (arith, read .kind-at .ensures, c .if1 .taken))
+returns-2 c =
+    let read = c .before in
+    no-word (start read .pre) (is-no-word (start read .args .tokens .now) (start read .args .at) (λ e. omega (arith, read .kind-at .ensures, c .if1 .taken)) (λ e. omega (arith, read .kind-at .ensures, c .if1 .taken)))
 
 returns-3 : tie.Need-returns-3
 returns-3 c =
     let read = c .before .before in
-    no-word (start read .pre) (λ e. omega (arith, read .kind-at .ensures, c .if2 .left)) (λ e. omega (arith, read .kind-at .ensures, c .if2 .left))
+    no-word (start read .pre) (is-no-word (start read .args .tokens .now) (start read .args .at) (λ e. omega (arith, read .kind-at .ensures, c .if2 .left)) (λ e. omega (arith, read .kind-at .ensures, c .if2 .left)))
 
 pub word-spec : {M : Type 1} → statement M
 word-spec =

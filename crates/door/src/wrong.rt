@@ -1,0 +1,14 @@
+// What is wrong with a call that is turned away: document 01's codes, in order of checking.
+pub const LIST: u32 = 1;
+
+pub const TEXT: u32 = 2;
+
+pub const LIMIT: u32 = 3;
+
+pub const SCRATCH: u32 = 4;
+
+pub const BYTE: u32 = 5;
+
+pub const TOKEN: u32 = 6;
+
+pub const EOF: u32 = 7;
