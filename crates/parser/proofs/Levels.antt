@@ -8,15 +8,16 @@ use Rattle.ast.specs.declared.Node.{Node}
 use Rattle.grammar.specs.Kaori.{Form, above, operand, operators, kaori}
 use Rattle.grammar.specs.Label.{Label}
 use Rattle.grammar.specs.Phrase.{token, node, choice, chain, Tree, whole, begun, Reads}
-use Rattle.grammar.specs.Refusal.{Refused, Refuses}
+use Rattle.grammar.specs.Refusal.{Refused}
 use Rattle.grammar.specs.Token.{kind}
 use Rattle.token.specs.Level.{level}
 use Rattle.token.proofs.Operators.{operator-link, no-operator}
 use Rattle.reading.specs.Answers.{node-of}
 use Rattle.reading.specs.Chains.{Going}
-use Rattle.reading.specs.Reading.{Reading}
+use Rattle.reading.specs.Reading.{Reading, Refusing}
 use Rattle.reading.specs.State.{State, Within, Rooms}
 use Rattle.reading.proofs.Laws.{first, ended, rooms-same, rooms-on}
+use Rattle.reading.proofs.Refusals.{in-start}
 
 -- what a table of operators has is an operator of its level, with a right operand of it
 link-form : (n x : ℕ) → n < 6 → {f : Label} {q : Form} → kaori (operators n) x ≡ node f q → q ≡ token x (above n)
@@ -63,21 +64,21 @@ module _ {ts : List ℕ} {limit o : ℕ} {s s₁ : State} {m : Node} where
   whole-at {n = suc n} h z r = step (omega arith) (begun-at (omega arith) (omega arith) r)
 
 -- a refusal within a tighter level
-module _ {k : ℕ → ℕ} {limit o a : ℕ} {q : Refused} where
-  looser : (d n l : ℕ) → n - l ≡ d → l ≤ n → Refuses kaori k limit (above l) o a q → Refuses kaori k limit (above n) o a q
+module _ {ts : List ℕ} {limit o : ℕ} {s : State} {q : Refused} where
+  looser : (d n l : ℕ) → n - l ≡ d → l ≤ n → Refusing ts limit (above l) o s q → Refusing ts limit (above n) o s q
   unfolding above
   looser zero n l e h r = let y : l ≡ n = omega arith in rw y at r
   looser (suc d) zero l e h r = absurd (omega arith)
-  looser (suc d) (suc n) l e h r = Refuses.in-start (looser d n l (omega arith) (omega arith) r)
+  looser (suc d) (suc n) l e h r = in-start (looser d n l (omega arith) (omega arith) r)
 
-  pub refused-link : {l n : ℕ} → l < n → Refuses kaori k limit (chain (above l) (operators l)) o a q → Refuses kaori k limit (above n) o a q
+  pub refused-link : {l n : ℕ} → l < n → Refusing ts limit (chain (above l) (operators l)) o s q → Refusing ts limit (above n) o s q
   unfolding above
   refused-link {l} {n} h z = looser (n - suc l) n (suc l) refl (omega arith) z
 
-  pub refused-operand : (n : ℕ) → Refuses kaori k limit (choice operand) o a q → Refuses kaori k limit (above n) o a q
+  pub refused-operand : (n : ℕ) → Refusing ts limit (choice operand) o s q → Refusing ts limit (above n) o s q
   unfolding above
   refused-operand zero h = h
-  refused-operand (suc n) h = Refuses.in-start (refused-operand n h)
+  refused-operand (suc n) h = in-start (refused-operand n h)
 
 module _ (ts : List ℕ) (limit level-asked o : ℕ) where
   -- from s to s₁ stands what the next operator links to, and a whole level where none of its operators comes next

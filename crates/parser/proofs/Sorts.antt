@@ -24,8 +24,8 @@ use Rattle.reading.specs.State.{State, written, Within}
 -- what is written so far is whole rows
 whole-rows : {ts : List ℕ} {s : State} → Within ts s → Whole (written s)
 whole-rows {s = s} w =
-    let n = length-take-le (node-width * s .cursor .nodes) (s .nodes) (omega (arith, w .rows, w .at, w .roomy .nodes)) in
-    let l = length-take-le (3 * s .cursor .links) (s .links) (omega (arith, w .links, w .at, w .roomy .links)) in
+    let n = length-take-le (node-width * s .cursor .nodes) (s .nodes) (w .stands .node-rows) in
+    let l = length-take-le (3 * s .cursor .links) (s .links) (w .stands .link-rows) in
     record { nodes = omega arith; links = omega arith }
 
 last-known : {w : Rows} {hs : List Handle} → All-known w hs → Known w (last hs)

@@ -16,8 +16,8 @@ use Rattle.grammar.specs.Kaori.{Form, Table, statement, block-items, may-end, m
 use Rattle.grammar.specs.Kind.{LeftBrace, RightBrace, Function, While, If, Semicolon}
 use Rattle.grammar.specs.Label.{Label}
 use Rattle.grammar.specs.Phrase.{empty, node, choice, once, whole, begun}
-use Rattle.grammar.specs.Refusal.{Refused, Refuses}
 use Rattle.grammar.specs.Rows.{links-of, make}
+use Rattle.grammar.specs.Space.{has-word}
 use Rattle.grammar.specs.Token.{kind, start, end}
 use Rattle.grammar.proofs.Halves.{Lists as List-table}
 use Rattle.grammar.proofs.Room.{links-length}
@@ -29,8 +29,9 @@ use Rattle.reading.specs.State.{State, state, held, Ready, Opened}
 use Rattle.reading.specs.declared.Cursor.{Cursor}
 use Rattle.reading.specs.declared.Read.{Read}
 use Rattle.reading.specs.declared.Refusal.{Refusal}
-use Rattle.reading.proofs.Laws.{Made, unwritten, nothing, chosen, ended, alone, joined, taken, ready-next, ready-on}
+use Rattle.reading.proofs.Laws.{plain, Made, unwritten, nothing, chosen, ended, alone, joined, taken, ready-next, ready-on}
 use Rattle.reading.proofs.Listings.{pushed, links-append, Statements, listing-none, none-items, listing-more, more-items}
+use Rattle.reading.proofs.Refusals as Refuses
 use Rattle.reading.proofs.Replies.{after-once}
 use Rattle.parser.proofs.Sorts.{tail-present, statement-link}
 
@@ -95,9 +96,9 @@ module _ {ts : List ℕ} {limit o : ℕ} {s : State} {ns ls ss : List ℕ} where
 
   ended-by : {n m : Node} {c d : Cursor} → Ready ts limit o s → Success ts limit (whole (form-of (kind ts (s .cursor .at)))) o s (node-of n ∷ []) (state ns ls ss c) →
       (kind ts (c .at) ≡ Semicolon) × (m ≡ record { id = n .id; start = 0; end = absent }) × (d ≡ next c) → States ts limit o s ns ls ss (Read.Node m d)
-  unfolding State-case make
+  unfolding State-case make has-word
   ended-by {n} {c = c} r z (k, em, ed) =
-      let made : Made ts Label.Ended (c .at) (state ns ls ss (next c)) (node-of n ∷ []) [] (Handle.ended (n .id) ∷ []) (state ns ls ss (next c)) = unwritten refl in
+      let made : Made ts Label.Ended (c .at) (state ns ls ss (next c)) (node-of n ∷ []) [] (Handle.ended (n .id) ∷ []) (state ns ls ss (next c)) = unwritten (λ h e. plain refl h) refl in
       let v = chosen (statement-form (kind ts (s .cursor .at))) (joined (z .reading) (taken-end (kind ts (c .at)) (kind ts (s .cursor .at)) k) (taken k (nothing (r .deep))) made) in
       rw (em, ed)
       (record {
@@ -219,7 +220,8 @@ module _ {ts : List ℕ} {limit o : ℕ} {s : State} {ns ls ss : List ℕ} {c : 
               rows = shorter (c .held) ss (held s) hs h room rows;
               within =
                   record {
-                    roomy = record { nodes = w .roomy .nodes; links = w .roomy .links; scratch = w .roomy .scratch };
+                    roomy = record { scratch = w .roomy .scratch };
+                    stands = w .stands;
                     at = w .at;
                     rows = w .rows;
                     links = omega (arith, w .links);

@@ -19,6 +19,8 @@ use reading::lists::names;
 use reading::pieces::bound;
 use reading::pieces::joined;
 use reading::pieces::made;
+use reading::pieces::made_list;
+use reading::pieces::no_room;
 use reading::pieces::semicolon;
 use reading::pieces::untailed;
 use token::kinds;
@@ -209,7 +211,7 @@ fn block(
         open.start,
         close.end,
     );
-    made(node, done)
+    made_list(links, node, done)
 }
 
 // The statements of a block: the tail's row, or absent; the others are held.
@@ -423,7 +425,7 @@ fn function(
         lead.start,
         body.end,
     );
-    made(node, done)
+    made_list(links, node, done)
 }
 
 // `let`, `const` and `ref`.
@@ -524,7 +526,11 @@ fn binary(
             return turn;
         };
         let n = end.nodes;
-        node = joined(nodes, n, kind, node.id, right.id, node.start, right.end);
+        let whole = joined(nodes, n, kind, node.id, right.id, node.start, right.end);
+        if whole.id == ABSENT {
+            return no_room(end.at);
+        }
+        node = whole;
         now = Cursor {
             held: end.held,
             at: end.at,
@@ -758,7 +764,7 @@ fn map_(
     let done = gather(links, scratch, base, end);
     let n = done.nodes;
     let node = ast::map(nodes, n, first as u32, count as u32, lead.start, close.end);
-    made(node, done)
+    made_list(links, node, done)
 }
 
 // The entries of a map, up to what ends them.
@@ -892,7 +898,7 @@ fn lambda(
         lead.start,
         body.end,
     );
-    made(node, done)
+    made_list(links, node, done)
 }
 
 // A lambda's: a block, or a whole expression.
@@ -1024,7 +1030,7 @@ fn call(
         paren.start,
         close.end,
     );
-    made(node, done)
+    made_list(links, node, done)
 }
 
 // The arguments of a call, up to what ends them.

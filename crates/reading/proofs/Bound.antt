@@ -16,7 +16,7 @@ use Rattle.grammar.proofs.Machine.{asked}
 use Rattle.grammar.proofs.Room.{spare, paid, paid-node, paid-entry, Grown, make-grown, links-grow, pays}
 use Rattle.names.specs.Resolved.{names-of}
 use Rattle.reading.specs.Reading.{form, Reading}
-use Rattle.reading.specs.State.{State, written, Roomy, Within}
+use Rattle.reading.specs.State.{State, written, Standing, Within}
 use Rattle.reading.proofs.Laws.{roomy-on, Made}
 
 -- a form that has a token for each of its nodes
@@ -41,21 +41,19 @@ pub record Counts (s s′ : State) (h extra : ℕ) : Type 0 where
   pub past : s .cursor .at ≤ s′ .cursor .at
   pub grows : s .cursor .links ≤ s′ .cursor .links
 
--- numbers of whole rows in rooms that have a row for each token
-module _ {ts : List ℕ} where
-  pub counted : {s s′ : State} {k h extra : ℕ} {w : Walked} → Within ts s → Roomy ts s′ → s′ .cursor .at < count ts → s .cursor .at + extra + k ≤ s′ .cursor .at → w .rows ≡ written s′ →
-      length (w .first) + length (w .rest) ≡ h →
-      Grown (written s) 0 k w → length (written s .links) ≤ length (w .rows .links) → Counts s s′ h extra
-  counted {s} {s′} i r a e z y g l =
-      let gn = rw z at (g .nodes) in
-      let gl = rw z at (g .links) in
-      let ll = rw z at l in
-      let n = length-take (node-width * s .cursor .nodes) (s .nodes) in
-      let n′ = length-take (node-width * s′ .cursor .nodes) (s′ .nodes) in
-      let m = length-take (3 * s .cursor .links) (s .links) in
-      let m′ = length-take (3 * s′ .cursor .links) (s′ .links) in
-      let rs = i .roomy in
-      record { nodes = omega (arith, rs .nodes, r .nodes, i .rows); links = omega (arith, rs .links, r .links, i .links); past = omega arith; grows = omega (arith, rs .links, r .links, i .links) }
+-- numbers of whole rows that stand in their rooms
+pub counted : {s s′ : State} {k h extra : ℕ} {w : Walked} → Standing s → Standing s′ → s .cursor .at + extra + k ≤ s′ .cursor .at → w .rows ≡ written s′ →
+    length (w .first) + length (w .rest) ≡ h →
+    Grown (written s) 0 k w → length (written s .links) ≤ length (w .rows .links) → Counts s s′ h extra
+counted {s} {s′} i r e z y g l =
+    let gn = rw z at (g .nodes) in
+    let gl = rw z at (g .links) in
+    let ll = rw z at l in
+    let n = length-take (node-width * s .cursor .nodes) (s .nodes) in
+    let n′ = length-take (node-width * s′ .cursor .nodes) (s′ .nodes) in
+    let m = length-take (3 * s .cursor .links) (s .links) in
+    let m′ = length-take (3 * s′ .cursor .links) (s′ .links) in
+    record { nodes = omega (arith, i .node-rows, r .node-rows); links = omega (arith, i .link-rows, r .link-rows); past = omega arith; grows = omega (arith, i .link-rows, r .link-rows) }
 
 module _ {ts : List ℕ} {limit : ℕ} where
   pub bound : {g : Aim Table Label} {o : ℕ} {s s′ : State} {xs ys : List Handle} → Within ts s → Paid (form g) → s′ .cursor .at < count ts → Reading ts limit g o s xs ys s′ →
@@ -63,7 +61,7 @@ module _ {ts : List ℕ} {limit : ℕ} where
   bound {g} {s = s} {s′ = s′} i p a r =
       let paying = pays ts (names-of ts (s .scratch)) (r .reads) (rw (asked-form g) (p .pays)) .pay (written s) in
       let (k, e, grown) = paying in
-      counted i (roomy-on (i .roomy) (r .rooms)) a (rw (asked-form g) at e) (ap (λ w. w .rows) (r .rows)) (ap (λ w. length (w .first) + length (w .rest)) (r .rows)) grown
+      counted (i .stands) (r .rooms .stands (i .stands)) (rw (asked-form g) at e) (ap (λ w. w .rows) (r .rows)) (ap (λ w. length (w .first) + length (w .rest)) (r .rows)) grown
       (links-grow ts (names-of ts (s .scratch)) (r .tree) (written s))
 
   -- what makes a handle takes a token at least
@@ -75,6 +73,7 @@ module _ {ts : List ℕ} {limit : ℕ} where
   arrived i p a r =
       let b = bound i p a r in record {
         roomy = roomy-on (i .roomy) (r .rooms);
+        stands = r .rooms .stands (i .stands);
         at = a;
         rows = omega (arith, i .rows);
         links = omega (arith, i .links, r .holds);
@@ -88,17 +87,18 @@ module _ {ts : List ℕ} {limit : ℕ} where
       let (c, u) = paid-node f q (p .pays) in
       let b = bound i (record { pays = u }) a r in
       let y = rw (m .makes) at (make-grown ts (names-of ts (s₁ .scratch)) f (s₀ .cursor .at) (s₁ .cursor .at) (written s₁) (h ∷ []) ys) in
-      let roomy₁ = roomy-on (i .roomy) (r .rooms) in
-      let roomy₂ = roomy-on roomy₁ (m .rooms) in
+      let stands₁ = r .rooms .stands (i .stands) in
+      let stands₂ = m .rooms .stands stands₁ in
       let at₂ = m .at in
       let n = length-take (node-width * s₁ .cursor .nodes) (s₁ .nodes) in
       let n′ = length-take (node-width * s₂ .cursor .nodes) (s₂ .nodes) in
       let l = length-take (3 * s₁ .cursor .links) (s₁ .links) in
       let l′ = length-take (3 * s₂ .cursor .links) (s₂ .links) in
       record {
-        roomy = roomy₂;
+        roomy = roomy-on (roomy-on (i .roomy) (r .rooms)) (m .rooms);
+        stands = stands₂;
         at = omega arith;
-        rows = omega (arith, i .rows, y .nodes, roomy₁ .nodes, roomy₂ .nodes);
-        links = omega (arith, i .links, y .links, roomy₁ .links, roomy₂ .links, r .holds, m .holds);
+        rows = omega (arith, i .rows, y .nodes, stands₁ .node-rows, stands₂ .node-rows);
+        links = omega (arith, i .links, y .links, stands₁ .link-rows, stands₂ .link-rows, r .holds, m .holds);
         stack = omega (arith, i .stack, r .holds, m .holds);
       }

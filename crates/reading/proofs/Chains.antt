@@ -18,7 +18,8 @@ use Rattle.reading.specs.declared.Cursor.{Cursor}
 use Rattle.reading.specs.declared.Read.{Read}
 use Rattle.reading.specs.declared.Refusal.{Refusal}
 use Rattle.reading.proofs.Bound.{bound, link-within, paid-link, paid-inside}
-use Rattle.reading.proofs.Laws.{rooms-on, Made, linked, ended}
+use Rattle.reading.proofs.Entering.{Tries}
+use Rattle.reading.proofs.Laws.{rooms-on, Made, linked, ended, full-linked}
 
 module _ {ts : List ℕ} {limit : ℕ} {p : Form} {t : Table} {o : ℕ} {s₀ : State} {n : Node} where
   -- one link after others
@@ -76,3 +77,11 @@ module _ {ts : List ℕ} {limit : ℕ} {p : Form} {t : Table} {o : ℕ} {s₀ : 
     unfolding Further Answer-case
     onward (Read.Node m c) i b z e = record { says = record { reading = z .says .going .grown _ b; within = z .says .going .within; past = omega (arith, z .says .going .past) } }
     onward (Read.Refused q) i b z e = record { says = rw e (z .says _ b) }
+
+  -- a link whose row is made, or lacks room
+  pub tried : {a : ℕ} {ns ls ss : List ℕ} {f : Label} {q : Form} {ys : List Handle} {s₁ : State} {r : Read} → Within ts s₀ → kaori t (kind ts (s₀ .cursor .at)) ≡ node f q →
+      Reading ts limit (whole q) o s₀ ys [] s₁ → s₁ .cursor .at < count ts → a ≤ s₁ .cursor .at → Tries ts f (s₀ .cursor .at) s₁ (node-of n ∷ []) ys ns ls ss r →
+      Onward ts limit p t (begun p t) o s₀ n a ns ls ss r
+  unfolding Further
+  tried w e y h i (Tries.made m) = goes (rw (m .at) i) (going-link w e y m h)
+  tried w e y h i (Tries.lacking l) = record { says = λ s b. full-linked b e y l }

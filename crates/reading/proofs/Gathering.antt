@@ -1,10 +1,13 @@
 -- Held items become links together with the row of their node; and the row of an If, which has no list.
 use Prim.Native.Nat.{ℕ, _+_, _-_, _*_, _/_, _≤_, _<_}
+use native.Mathlib.Decide.{decLe}
 use native.Mathlib.Omega.{arith}
+use mathlib.Core.Bool.{false}
 use mathlib.Core.List.{List, [], _∷_, _++_}
-use mathlib.Core.Path.{_≡_, ap, _∙_}
-use lib.ListN.{length, take, drop}
-use Rattle.ast.specs.Inserted.{Free, Inserted}
+use mathlib.Core.Path.{_≡_, refl, ap, _∙_}
+use lib.ListN.{length, take, drop, length-append}
+use lib.Seq.{length-take-le}
+use Rattle.ast.specs.Inserted.{Tried}
 use Rattle.ast.specs.declared.Node.{Node}
 use Rattle.grammar.specs.Handle.{Handle, absent, row, block-list, block-tail}
 use Rattle.grammar.specs.Kaori.{Form, Table, block-items}
@@ -13,19 +16,19 @@ use Rattle.grammar.specs.Label.{Node as Form-of, Label, number-of}
 use Rattle.grammar.specs.Phrase.{empty, token, part, chain, Aim, whole}
 use Rattle.grammar.specs.Rows.{links-of, numbers, write, fill, put, make}
 use Rattle.grammar.specs.Rule.{rule}
+use Rattle.grammar.specs.Space.{has-word}
 use Rattle.grammar.specs.Token.{start, end}
 use Rattle.names.specs.Resolved.{names-of}
-use Rattle.reading.specs.Answers.{node-of, name-of, holding, Answered, Listed, Filled, Fills}
-use Rattle.reading.specs.Parts.{grown, Gathered}
-use Rattle.reading.specs.Reading.{form, Reading}
+use Rattle.reading.specs.Answers.{node-of, name-of, holding, Listed, Filled, Fills}
+use Rattle.reading.specs.Parts.{Makes, Makes-list, Gathered}
+use Rattle.reading.specs.Reading.{Reading}
 use Rattle.reading.specs.State.{State, state, written, held, Lent, Within, Ready}
 use Rattle.reading.specs.declared.Cursor.{Cursor}
 use Rattle.reading.specs.declared.Read.{Read}
-use Rattle.reading.proofs.Bound.{Paid}
-use Rattle.reading.proofs.Laws.{closed, Made}
-use Rattle.reading.proofs.Entering.{link-number, entered, row-made, list-made}
+use Rattle.reading.proofs.Laws.{plain, closed}
+use Rattle.reading.proofs.Entering.{link-number, entered, Tries, row-tried, list-tried}
 use Rattle.reading.proofs.Listings.{hold-number, held-above, size-held}
-use Rattle.reading.proofs.Replies.{Taken, answer}
+use Rattle.reading.proofs.Replies.{Taken}
 use Rattle.reading.proofs.Taking.{free, ready-led}
 
 -- n rows are held in ss: so many below, and then those of the items
@@ -100,6 +103,9 @@ module _ {base n : ℕ} {below ss : List ℕ} {items : List Handle} (k : Kept ba
   kept-count = omega (arith, k .count)
 
   -- the items' rows stand together
+  kept-length : 3 * n ≤ length ss → length (links-of items) ≡ 3 * (n - base)
+  kept-length h = let e : length (take (3 * n) ss) ≡ length below + length (links-of items) = ap length (k .rows) ∙ length-append below (links-of items) in omega (arith, e, length-take-le (3 * n) ss h, k .size)
+
   pub kept-links : 3 * n ≤ length ss → take (3 * (n - base)) (drop (3 * base) ss) ≡ links-of items
   kept-links h = held-above base n ss below kept-under h (k .size) (k .rows)
 
@@ -108,79 +114,79 @@ pub kept-on : {ts : List ℕ} {limit o base : ℕ} {g : Aim Table Label} {s s′
     Reading ts limit g o s xs ys s′ → Kept base below (s′ .cursor .held) (s′ .scratch) items
 kept-on k r = record { size = k .size; count = r .holds ∙ k .count; rows = r .same ∙ k .rows }
 
+pub gathered-size : {base : ℕ} {ls ls′ ss : List ℕ} {c d : Cursor} → Gathered base c ss ls ls′ d → length ls′ ≡ length ls
+gathered-size {ls = ls} {d = d} g = elim (decLe (3 * d .links) (length ls)) [ yes h ↦ g .links h .size | no n ↦ ap length (g .kept (omega (arith, n))) ]
+
 pub gathered-at : {base : ℕ} {ls ls′ ss : List ℕ} {c d : Cursor} → Gathered base c ss ls ls′ d → d .at ≡ c .at
 gathered-at g = rw (g .cursor)
 
 module _ {ts ns ls ss : List ℕ} {c : Cursor} where
   -- what gather asks, and what the row after it asks
-  pub gather-asks : {base : ℕ} → Lent ts → Within ts (state ns ls ss c) → base ≤ c .held → (base ≤ c .held) × (3 * c .held ≤ length ss) × (3 * (c .links + c .held) ≤ length ls) ×
-      (c .links + c .held < absent)
-  gather-asks l w h = (h, omega (arith, w .links, w .at, w .roomy .scratch), omega (arith, w .links, w .at, w .roomy .links), omega (arith, w .links, w .at, l .whole .most))
+  pub gather-asks : {base : ℕ} → Lent ts → Within ts (state ns ls ss c) → base ≤ c .held → (base ≤ c .held) × (3 * c .held ≤ length ss) × (c .links + c .held < absent)
+  gather-asks l w h = (h, omega (arith, w .links, w .at, w .roomy .scratch), omega (arith, w .links, w .at, l .whole .most))
 
-  pub gathered-free : {base : ℕ} {ls′ : List ℕ} {d : Cursor} → Lent ts → Within ts (state ns ls ss c) → Gathered base c ss ls ls′ d → Free (d .nodes) ns
+  pub gathered-free : {base : ℕ} {ls′ : List ℕ} {d : Cursor} → Lent ts → Within ts (state ns ls ss c) → Gathered base c ss ls ls′ d → d .nodes < absent
   gathered-free l w g = rw (g .cursor) (free l w)
 
   pub numbers-fit : Lent ts → Within ts (state ns ls ss c) → (c .links < absent) × (c .held < absent)
   numbers-fit l w = (omega (arith, w .links, w .at, l .whole .most), hold-number w l)
 
   pub first-link : Within ts (state ns ls ss c) → length (take (3 * c .links) ls) / 3 ≡ c .links
-  first-link w = link-number (c .links) ls (omega (arith, w .links, w .at, w .roomy .links))
+  first-link w = link-number (c .links) ls (w .stands .link-rows)
+
+  -- a list's row has a number, and so have its links
+  pub gathered-numbers : {base : ℕ} {ls′ : List ℕ} {d : Cursor} → Lent ts → Within ts (state ns ls ss c) → Gathered base c ss ls ls′ d → (d .nodes < absent) × (d .links < absent)
+  gathered-numbers {base} l w g = rw (g .cursor) (free l w, omega (arith, w .links, w .at, l .whole .most))
 
   -- the row of a node whose items are gathered
-  pub gathered-row : {base : ℕ} {ls′ : List ℕ} {d : Cursor} {f : Label} {a k st en : ℕ} {xs zs items : List Handle} {ns′ below fields : List ℕ} {n : Node} → Within ts (state ns ls ss c) →
-      Gathered base c ss ls ls′ d → Kept base below (c .held) ss items → Inserted (d .nodes) k st en fields ns ns′ n →
-      make ts (names-of ts ss) f a (c .at) (written (state ns ls ss c)) xs zs ≡ entered c ns ls k st en fields (links-of items) →
-      Made ts f a (holding base (state ns ls ss c)) xs zs (node-of n ∷ []) (state ns′ ls′ ss (grown d))
-  gathered-row {base} w g k i e =
-      let j = rw (g .cursor) at i in
-      let l = rw (kept-links k (omega (arith, w .links, w .at, w .roomy .scratch))) at (g .links) in
-      rw (g .cursor) (list-made (c .held - base) j (omega (arith, w .rows, w .at, w .roomy .nodes)) l e)
-
-  -- the answer after it
-  pub gathered-answer : {base limit o : ℕ} {ls′ : List ℕ} {d : Cursor} {p : Aim Table Label} {s : State} {ns′ : List ℕ} {n : Node} {r : Read} → r ≡ Read.Node n (grown d) →
-      Ready ts limit o s → Paid (form p) → Within ts (state ns ls ss c) → Gathered base c ss ls ls′ d → Reading ts limit p o s (node-of n ∷ []) [] (state ns′ ls′ ss (grown d)) →
-      Answered ts limit node-of p o s ns′ ls′ ss r
-  gathered-answer m r p w g z = rw m (answer r p (rw (g .cursor) (w .at)) z)
+  gathered-tried : {base : ℕ} {ls′ : List ℕ} {d : Cursor} {f : Label} {a k st en : ℕ} {xs zs items : List Handle} {ns′ below fields : List ℕ} {n : Node} {r : Read} → Within ts (state ns ls ss c) →
+      Lent ts → Gathered base c ss ls ls′ d → Kept base below (c .held) ss items → has-word f ≡ false →
+      make ts (names-of ts ss) f a (c .at) (written (state ns ls ss c)) xs zs ≡ entered c ns ls k st en fields (links-of items) → Makes-list (length ls′) n d r →
+      Tried (d .nodes) k st en fields ns ns′ n → Tries ts f a (holding base (state ns ls ss c)) xs zs ns′ ls′ ss r
+  gathered-tried {base} w l g k v e m i =
+      let h : 3 * c .held ≤ length ss = omega (arith, w .links, w .at, w .roomy .scratch) in
+      list-tried c (c .held - base) (w .stands) (omega (arith, free l w)) v e (kept-length k h) (rw (g .cursor, kept-links k h) at (g .links)) (gathered-size g) (rw (g .cursor) at m) (rw (g .cursor) at i)
 
 -- the row of an If
-module _ {ts ns ns′ ls ss : List ℕ} {c : Cursor} {a st : ℕ} {n x y : Node} (w : Within ts (state ns ls ss c)) (p : st ≡ start ts a) where
-  pub if-made : Inserted (c .nodes) (number-of Form-of.If) st (y .end) (x .id ∷ y .id ∷ absent ∷ []) ns ns′ n →
-      Made ts (Label.Row Form-of.If) a (state ns ls ss c) (node-of x ∷ []) (node-of y ∷ []) (node-of n ∷ []) (state ns′ ls ss (grown c))
-  unfolding make put fill numbers write rule
-  if-made i = row-made i (omega (arith, w .rows, w .at, w .roomy .nodes)) (rw p)
+module _ {ts ns ns′ ls ss : List ℕ} {c : Cursor} {a st : ℕ} {n x y : Node} {r : Read} (w : Within ts (state ns ls ss c)) (l : Lent ts) (p : st ≡ start ts a) (m : Makes n c r) where
+  pub if-tried : Tried (c .nodes) (number-of Form-of.If) st (y .end) (x .id ∷ y .id ∷ absent ∷ []) ns ns′ n →
+      Tries ts (Label.Row Form-of.If) a (state ns ls ss c) (node-of x ∷ []) (node-of y ∷ []) ns′ ls ss r
+  unfolding make put fill numbers write rule has-word
+  if-tried i = row-tried w l (λ h z. plain refl h) (rw p) m i
 
-  pub else-made : {z : Node} → Inserted (c .nodes) (number-of Form-of.If) st (z .end) (x .id ∷ y .id ∷ z .id ∷ []) ns ns′ n →
-      Made ts (Label.Row Form-of.If) a (state ns ls ss c) (node-of x ∷ []) (node-of y ∷ node-of z ∷ []) (node-of n ∷ []) (state ns′ ls ss (grown c))
-  unfolding make put fill numbers write rule
-  else-made i = row-made i (omega (arith, w .rows, w .at, w .roomy .nodes)) (rw p)
+  pub else-tried : {z : Node} → Tried (c .nodes) (number-of Form-of.If) st (z .end) (x .id ∷ y .id ∷ z .id ∷ []) ns ns′ n →
+      Tries ts (Label.Row Form-of.If) a (state ns ls ss c) (node-of x ∷ []) (node-of y ∷ node-of z ∷ []) ns′ ls ss r
+  unfolding make put fill numbers write rule has-word
+  else-tried i = row-tried w l (λ h z. plain refl h) (rw p) m i
 
 -- the nodes that have a list, at a the first of its tokens
-module _ {ts ns ns′ ls ls′ ss below : List ℕ} {c d : Cursor} {base a st : ℕ} {n : Node} (w : Within ts (state ns ls ss c)) (g : Gathered base c ss ls ls′ d) (p : st ≡ start ts a) where
-  pub map-made : {en : ℕ} {xs zs : List Handle} → Kept base below (c .held) ss xs → end ts (c .at - 1) ≡ en →
-      Inserted (d .nodes) (number-of Form-of.Map) st en (c .links ∷ (c .held - base) ∷ []) ns ns′ n →
-      Made ts (Label.Row Form-of.Map) a (holding base (state ns ls ss c)) xs zs (node-of n ∷ []) (state ns′ ls′ ss (grown d))
-  unfolding make put fill numbers write rule
-  map-made k q i = gathered-row w g k i (rw (p, q, first-link w, kept-count k))
+module _ {ts ns ns′ ls ls′ ss below : List ℕ} {c d : Cursor} {base a st : ℕ} {n : Node} {r : Read} (w : Within ts (state ns ls ss c)) (l : Lent ts) (g : Gathered base c ss ls ls′ d) (p : st ≡ start ts a)
+    (m : Makes-list (length ls′) n d r) where
+  pub map-tried : {en : ℕ} {xs zs : List Handle} → Kept base below (c .held) ss xs → end ts (c .at - 1) ≡ en →
+      Tried (d .nodes) (number-of Form-of.Map) st en (c .links ∷ (c .held - base) ∷ []) ns ns′ n →
+      Tries ts (Label.Row Form-of.Map) a (holding base (state ns ls ss c)) xs zs ns′ ls′ ss r
+  unfolding make put fill numbers write rule has-word
+  map-tried k q i = gathered-tried w l g k refl (rw (p, q, first-link w, kept-count k)) m i
 
-  pub block-made : {en : ℕ} {xs zs : List Handle} {tail : ℕ} → Kept base below (c .held) ss (block-list xs) → end ts (c .at - 1) ≡ en → tail ≡ row (block-tail xs) →
-      Inserted (d .nodes) (number-of Form-of.Block) st en (c .links ∷ (c .held - base) ∷ tail ∷ []) ns ns′ n →
-      Made ts (Label.Row Form-of.Block) a (holding base (state ns ls ss c)) xs zs (node-of n ∷ []) (state ns′ ls′ ss (grown d))
-  unfolding make put fill numbers write rule
-  block-made k q z i = gathered-row w g k i (rw (p, q, first-link w, kept-count k, z))
+  pub block-tried : {en : ℕ} {xs zs : List Handle} {tail : ℕ} → Kept base below (c .held) ss (block-list xs) → end ts (c .at - 1) ≡ en → tail ≡ row (block-tail xs) →
+      Tried (d .nodes) (number-of Form-of.Block) st en (c .links ∷ (c .held - base) ∷ tail ∷ []) ns ns′ n →
+      Tries ts (Label.Row Form-of.Block) a (holding base (state ns ls ss c)) xs zs ns′ ls′ ss r
+  unfolding make put fill numbers write rule has-word
+  block-tried k q z i = gathered-tried w l g k refl (rw (p, q, first-link w, kept-count k, z)) m i
 
-  pub call-made : {en : ℕ} {zs : List Handle} {m : Node} → Kept base below (c .held) ss zs → end ts (c .at - 1) ≡ en →
-      Inserted (d .nodes) (number-of Form-of.FunctionCall) st en (m .id ∷ c .links ∷ (c .held - base) ∷ []) ns ns′ n →
-      Made ts (Label.Row Form-of.FunctionCall) a (holding base (state ns ls ss c)) (node-of m ∷ []) zs (node-of n ∷ []) (state ns′ ls′ ss (grown d))
-  unfolding make put fill numbers write rule
-  call-made k q i = gathered-row w g k i (rw (p, q, first-link w, kept-count k))
+  pub call-tried : {en : ℕ} {zs : List Handle} {v : Node} → Kept base below (c .held) ss zs → end ts (c .at - 1) ≡ en →
+      Tried (d .nodes) (number-of Form-of.FunctionCall) st en (v .id ∷ c .links ∷ (c .held - base) ∷ []) ns ns′ n →
+      Tries ts (Label.Row Form-of.FunctionCall) a (holding base (state ns ls ss c)) (node-of v ∷ []) zs ns′ ls′ ss r
+  unfolding make put fill numbers write rule has-word
+  call-tried k q i = gathered-tried w l g k refl (rw (p, q, first-link w, kept-count k)) m i
 
-  pub lambda-made : {xs : List Handle} {m : Node} → Kept base below (c .held) ss xs → Inserted (d .nodes) (number-of Form-of.Lambda) st (m .end) (c .links ∷ (c .held - base) ∷ m .id ∷ []) ns
-      ns′ n → Made ts (Label.Row Form-of.Lambda) a (holding base (state ns ls ss c)) xs (node-of m ∷ []) (node-of n ∷ []) (state ns′ ls′ ss (grown d))
-  unfolding make put fill numbers write rule
-  lambda-made k i = gathered-row w g k i (rw (p, first-link w, kept-count k))
+  pub lambda-tried : {xs : List Handle} {body : Node} → Kept base below (c .held) ss xs → Tried (d .nodes) (number-of Form-of.Lambda) st (body .end) (c .links ∷ (c .held - base) ∷ body .id ∷ []) ns
+      ns′ n → Tries ts (Label.Row Form-of.Lambda) a (holding base (state ns ls ss c)) xs (node-of body ∷ []) ns′ ls′ ss r
+  unfolding make put fill numbers write rule has-word
+  lambda-tried k i = gathered-tried w l g k refl (rw (p, first-link w, kept-count k)) m i
 
-  pub function-made : {xs : List Handle} {v m : Node} → Kept base below (c .held) ss xs →
-      Inserted (d .nodes) (number-of Form-of.Function) st (m .end) (v .id ∷ v .start ∷ v .end ∷ c .links ∷ (c .held - base) ∷ m .id ∷ []) ns ns′ n →
-      Made ts (Label.Row Form-of.Function) a (holding base (state ns ls ss c)) (name-of v ∷ xs) (node-of m ∷ []) (node-of n ∷ []) (state ns′ ls′ ss (grown d))
-  unfolding make put fill numbers write rule
-  function-made k i = gathered-row w g k i (rw (p, first-link w, kept-count k))
+  pub function-tried : {xs : List Handle} {v body : Node} → Kept base below (c .held) ss xs →
+      Tried (d .nodes) (number-of Form-of.Function) st (body .end) (v .id ∷ v .start ∷ v .end ∷ c .links ∷ (c .held - base) ∷ body .id ∷ []) ns ns′ n →
+      Tries ts (Label.Row Form-of.Function) a (holding base (state ns ls ss c)) (name-of v ∷ xs) (node-of body ∷ []) ns′ ls′ ss r
+  unfolding make put fill numbers write rule has-word
+  function-tried k i = gathered-tried w l g k refl (rw (p, first-link w, kept-count k)) m i

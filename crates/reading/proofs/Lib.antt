@@ -1,4 +1,5 @@
 pub mod Laws
+pub mod Refusals
 pub mod Bound
 pub mod Entering
 pub mod Replies

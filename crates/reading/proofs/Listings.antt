@@ -14,6 +14,7 @@ use Rattle.grammar.specs.Label.{Label}
 use Rattle.grammar.specs.Phrase.{empty, token, part, node, choice, chain, Aim, whole, begun, Reads}
 use Rattle.grammar.specs.Refusal.{Refused}
 use Rattle.grammar.specs.Rows.{links-of, make}
+use Rattle.grammar.specs.Space.{has-word}
 use Rattle.grammar.specs.Token.{kind, count}
 use Rattle.grammar.proofs.Halves.{Lists as List-table, items, half}
 use Rattle.names.proofs.Readers.{names-kept}
@@ -24,7 +25,8 @@ use Rattle.reading.specs.declared.Cursor.{Cursor}
 use Rattle.reading.specs.declared.Read.{Read}
 use Rattle.reading.specs.declared.Refusal.{Refusal}
 use Rattle.reading.proofs.Bound.{Paid, paid-link, paid-inside, bound, strictly}
-use Rattle.reading.proofs.Laws.{nothing, both, chosen, first, ended, linked, taken, rooms-same, rooms-on, Made, unwritten}
+use Rattle.reading.proofs.Laws.{nothing, both, chosen, first, ended, linked, taken, rooms-same, rooms-on, plain, Made, unwritten}
+use Rattle.reading.proofs.Refusals.{lowered as low}
 use Rattle.reading.proofs.Replies.{further}
 
 -- the state s₁ with no more held than at s, and the cursor with one row more held
@@ -53,10 +55,11 @@ lower {s = s} {s′ = s′} k h r =
       tree = r .tree;
       reads = r .reads;
       fits = r .fits;
+      named = r .named;
       rows = r .rows;
       holds = refl;
       same = agree (3 * k) (3 * s .cursor .held) (s′ .scratch) (s .scratch) (omega arith) (ap (λ n. take (3 * n) (s′ .scratch)) (sym (r .holds)) ∙ r .same);
-      rooms = record { nodes = r .rooms .nodes; links = r .rooms .links; scratch = r .rooms .scratch };
+      rooms = record { nodes = r .rooms .nodes; links = r .rooms .links; scratch = r .rooms .scratch; stands = r .rooms .stands };
       kept = r .kept;
     }
 
@@ -87,17 +90,19 @@ module _ {ts : List ℕ} {limit : ℕ} {g : Aim Table Label} {o : ℕ} {s : Stat
               tree = r .tree;
               reads = r .reads;
               fits = r .fits;
+              named = r .named;
               rows = r .rows;
               holds = refl;
               same = ap (λ n. take (3 * n) ss′) (sym (r .holds)) ∙ under;
-              rooms = record { nodes = r .rooms .nodes; links = r .rooms .links; scratch = w .size ∙ r .rooms .scratch };
+              rooms = record { nodes = r .rooms .nodes; links = r .rooms .links; scratch = w .size ∙ r .rooms .scratch; stands = r .rooms .stands };
               kept = names-kept ts ss ss′ (rest-kept ts (c .held) w (omega (arith, low, v .at))) ∙ r .kept;
             };
         count = omega (arith, r .holds);
         rows = w .rows ∙ rw (f, r .same, append-nil (link h));
         within =
             record {
-              roomy = record { nodes = v .roomy .nodes; links = v .roomy .links; scratch = omega (arith, w .size, v .roomy .scratch) };
+              roomy = record { scratch = omega (arith, w .size, v .roomy .scratch) };
+              stands = v .stands;
               at = v .at;
               rows = v .rows;
               links = omega (arith, i .links, b .links, r .holds);
@@ -107,7 +112,7 @@ module _ {ts : List ℕ} {limit : ℕ} {g : Aim Table Label} {o : ℕ} {s : Stat
       }
 
   pub listed-rooms : {s₁ : State} → Listed ts limit g o s s₁ → Rooms s s₁
-  listed-rooms l = let r = l .reading .rooms in record { nodes = r .nodes; links = r .links; scratch = r .scratch }
+  listed-rooms l = let r = l .reading .rooms in record { nodes = r .nodes; links = r .links; scratch = r .scratch; stands = r .stands }
 
 -- the same items, as the whole says
 module _ {ts : List ℕ} {limit o : ℕ} where
@@ -135,10 +140,10 @@ module _ {ts : List ℕ} {limit o : ℕ} where
   -- a link of a list: its items come after those that are held
   pub listing-join : {t : Table} {p q : Form} {s s₁ s₂ : State} → Listed ts limit (begun p t) o s s₁ → kaori t (kind ts (s₁ .cursor .at)) ≡ node Label.Item q →
       Listed ts limit (whole q) o s₁ s₂ → Listed ts limit (begun p t) o s s₂
-  unfolding make
+  unfolding make has-word
   listing-join {s = s} {s₁ = s₁} {s₂ = s₂} l e z =
       let base = s .cursor .held in
-      let m : Made ts Label.Item (s₁ .cursor .at) (holding base s₂) (l .items) (z .items) (l .items ++ z .items) (holding base s₂) = unwritten refl in
+      let m : Made ts Label.Item (s₁ .cursor .at) (holding base s₂) (l .items) (z .items) (l .items ++ z .items) (holding base s₂) = unwritten (λ h z. plain refl h) refl in
       record {
         items = l .items ++ z .items;
         reading = linked (l .reading) e (lower base (omega (arith, l .count)) (z .reading)) m;
@@ -250,7 +255,7 @@ Item-of {ts} {t = t} {s₁ = s₁} l q = kaori t (kind ts (s₁ .cursor .at)) �
 module _ {ts : List ℕ} {limit o : ℕ} {t : Table} {s s₁ : State} {q : Form} (l : Listing ts limit t o s s₁) (e : kaori t (kind ts (s₁ .cursor .at)) ≡ node Label.Item q) where
   pub item-refused : {h : Node → Handle} {ns ls ss : List ℕ} {r : Read} {x : Refusal} → r ≡ Read.Refused x → Answered ts limit h (whole q) o s₁ ns ls ss r →
       Lists ts limit (whole (chain empty t)) o s ns ls ss r
-  item-refused i a = lists-passed i a (λ x h. further (l .listed .reading) e h)
+  item-refused i a = lists-passed i a (λ x h. further (l .listed .reading) e (low h))
 
   -- fewer tokens are left
   pub item-less : {h : Handle} {s₂ : State} → Success ts limit (whole q) o s₁ (h ∷ []) s₂ → count ts - s₂ .cursor .at < count ts - s₁ .cursor .at

@@ -1,47 +1,54 @@
 -- Names and the commas after them: a name's symbol is the grammar's, and a list goes on or ends as its table says.
 use Prim.Native.Nat.{ℕ, _+_, _*_}
 use native.Mathlib.Omega.{arith}
+use mathlib.Core.Bool.{true}
 use mathlib.Core.List.{List, [], _∷_}
 use mathlib.Core.Logic.{⊎-elim}
-use mathlib.Core.Path.{_≡_, refl}
+use mathlib.Core.Path.{_≡_, refl, sym, _∙_}
 use Rattle.ast.specs.Written.{Written}
 use Rattle.ast.specs.declared.Node.{Node}
-use Rattle.grammar.specs.Handle.{Handle, link}
+use Rattle.grammar.specs.Handle.{Handle, absent, link}
 use Rattle.grammar.specs.Kaori.{Form, name, comma, rules}
 use Rattle.grammar.specs.Kind.{Identifier}
 use Rattle.grammar.specs.Label.{Label}
-use Rattle.grammar.specs.Phrase.{part, choice, whole}
-use Rattle.grammar.specs.Refusal.{Refuses}
+use Rattle.grammar.specs.Phrase.{empty, token, part, node, choice, whole}
 use Rattle.grammar.specs.Rows.{make}
 use Rattle.grammar.specs.Rule.{word}
+use Rattle.grammar.specs.Space.{has-word, Lacks}
 use Rattle.grammar.specs.Token.{kind}
 use Rattle.grammar.proofs.Room.{paid, spare}
 use Rattle.grammar.proofs.Tables.{keyed, unkeyed}
 use Rattle.names.specs.Resolved.{names-of}
 use Rattle.reading.specs.Answers.{name-of, Answered, Listed}
-use Rattle.reading.specs.Parts.{Separates, Separated}
+use Rattle.reading.specs.Parts.{no-room, Separates, Separated}
 use Rattle.reading.specs.Reading.{Success}
 use Rattle.reading.specs.State.{State, state, Ready, Opened}
 use Rattle.reading.specs.declared.Cursor.{Cursor}
 use Rattle.reading.specs.declared.Read.{Read}
 use Rattle.reading.proofs.Bound.{Paid, strictly}
-use Rattle.reading.proofs.Laws.{Made, unwritten, nothing, both, chosen, labelled, taken, more-tokens, ready-next, ready-on}
+use Rattle.reading.proofs.Laws.{Made, unwritten, full, nothing, both, chosen, labelled, taken, more-tokens, ready-next, ready-on}
 use Rattle.reading.proofs.Listings.{pushed, listed-one}
+use Rattle.reading.proofs.Refusals as Refuses
 use Rattle.reading.proofs.Replies.{Taken, answer, answered, refuse, after}
 
 -- a name is made of its token's span and its symbol
-pub named : {ts ns ls ss : List ℕ} {a : ℕ} {xs zs : List Handle} {c : Cursor} → Made ts Label.Name a (state ns ls ss c) xs zs (word ts (names-of ts ss) a ∷ []) (state ns ls ss c)
+pub named : {ts ns ls ss : List ℕ} {a : ℕ} {xs zs : List Handle} {c : Cursor} → (names-of ts ss a ≡ absent → ⊥) → Made ts Label.Name a (state ns ls ss c) xs zs (word ts (names-of ts ss) a ∷ []) (state ns ls ss c)
 unfolding make
-named = unwritten refl
+named h = unwritten (λ w. h) refl
 
 -- a name was read: its node is its symbol and its place
 pub name-read : {ts ns ls ss : List ℕ} {limit o : ℕ} {c d : Cursor} {place : Node} {symbol : ℕ} → Ready ts limit o (state ns ls ss c) → Taken ts c Identifier place d →
-    symbol ≡ names-of ts ss (c .at) →
+    symbol ≡ names-of ts ss (c .at) → (symbol ≡ absent → ⊥) →
     Answered ts limit name-of (whole name) o (state ns ls ss c) ns ls ss (Read.Node (record { id = symbol; start = place .start; end = place .end }) d)
 unfolding paid spare
-name-read r t e =
+name-read r t e h =
     rw (t .after, t .node-is, e)
-    (answer r (record { pays = tt }) (more-tokens (r .lent) (r .within .at) (t .kind-is) (λ z. omega arith)) (labelled (taken (t .kind-is) (nothing (r .deep))) named))
+    (answer r (record { pays = tt }) (more-tokens (r .lent) (r .within .at) (t .kind-is) (λ z. omega arith)) (labelled (taken (t .kind-is) (nothing (r .deep))) (named (λ z. h (e ∙ z)))))
+
+-- its symbol's row has no room
+pub unnamed : {ts ns ls ss : List ℕ} {limit o x : ℕ} {f : Label} {h : Node → Handle} {c d : Cursor} {place : Node} {symbol : ℕ} → Ready ts limit o (state ns ls ss c) → Taken ts c x place d →
+    symbol ≡ names-of ts ss (c .at) → symbol ≡ absent → has-word f ≡ true → Answered ts limit h (whole (node f (token x empty))) o (state ns ls ss c) ns ls ss (Read.Refused (no-room (c .at)))
+unnamed r t e a v = refuse (full (taken (t .kind-is) (nothing (r .deep))) (record { lacks = Lacks.word v (sym e ∙ a) }))
 
 -- a name that is held: the token before it has paid for it
 pub name-held : {ts ns ls ss ss′ row : List ℕ} {limit o : ℕ} {s : State} {word : Node} {c : Cursor} → Opened ts limit o s →

@@ -1,11 +1,11 @@
 -- Two outcomes that the contract of a reader allows for one entry are the same: both succeed, with one node and one cursor, the same rows written so far and the
 -- same rows held; or both are refused, alike. What the rooms hold beyond these rows, and after a refusal, is not settled: `parse` clears it.
 use Prim.Native.Nat.{ℕ, _+_, _*_, _≤_}
-use native.Mathlib.Decide.{ℕ-discrete}
+use native.Mathlib.Decide.{ℕ-discrete, decLe}
 use native.Mathlib.Omega.{arith}
 use mathlib.Core.List.{List, [], _∷_, _++_}
 use mathlib.Core.Logic.{inl, inr}
-use mathlib.Core.Path.{_≡_, sym, ap, _∙_}
+use mathlib.Core.Path.{_≡_, refl, sym, ap, _∙_}
 use lib.ListN.{length, take}
 use lib.Seq.{length-take-le}
 use Rattle.ast.specs.declared.Node.{Node}
@@ -19,12 +19,13 @@ use Rattle.grammar.specs.Rows.{links-of, walk}
 use Rattle.grammar.proofs.Machine.{one-reading, read-not-refused, one-refusal}
 use Rattle.names.specs.Resolved.{names-of}
 use Rattle.reading.specs.Answers.{node-of, name-of, tail-of, holding, Took, Consumed, Answer-case, Answered, Listed, List-case, Lists, State-case, States}
-use Rattle.reading.specs.Parts.{Separates, Separated, Gathered, Ends, Ended, Untailed}
+use Rattle.reading.specs.Parts.{Makes, Makes-list, Separates, Separated, Gathered, Ends, Ended, Untailed}
 use Rattle.reading.specs.Reading.{refusal, Success}
 use Rattle.reading.specs.State.{State, state, written, held, Within}
 use Rattle.reading.specs.declared.Cursor.{Cursor}
 use Rattle.reading.specs.declared.Read.{Read}
 use Rattle.reading.specs.declared.Refusal.{Refusal}
+use Rattle.reading.proofs.Laws.{pass}
 
 -- what is the same after two successes: what they stand for, where they ended, what is written and what is held
 pub record Alike (hs hs′ : List Handle) (s s′ : State) : Type 0 where
@@ -65,10 +66,10 @@ module _ {ts : List ℕ} {limit o : ℕ} {p : Form} {s s₁ s₂ : State} {hs hs
       let w : written s₁ ≡ written s₂ = ap (λ v. v .rows) e in
       let v = x .within in
       let u = y .within in
-      let n = rows-counted node-width (s₁ .cursor .nodes) (s₂ .cursor .nodes) (s₁ .nodes) (s₂ .nodes) (omega (arith, v .rows, v .at, v .roomy .nodes)) (omega (arith, u .rows, u .at, u .roomy .nodes))
+      let n = rows-counted node-width (s₁ .cursor .nodes) (s₂ .cursor .nodes) (s₁ .nodes) (s₂ .nodes) (v .stands .node-rows) (u .stands .node-rows)
       (ap (λ r. r .nodes) w) in
-      let l = rows-counted 3 (s₁ .cursor .links) (s₂ .cursor .links) (s₁ .links) (s₂ .links) (omega (arith, v .links, v .at, v .roomy .links))
-      (omega (arith, u .links, u .at, u .roomy .links)) (ap (λ r. r .links) w) in
+      let l = rows-counted 3 (s₁ .cursor .links) (s₂ .cursor .links) (s₁ .links) (s₂ .links) (v .stands .link-rows)
+      (u .stands .link-rows) (ap (λ r. r .links) w) in
       record {
         handles = ap (λ v. v .first) e;
         cursor = cursors (omega (arith, n)) (omega (arith, l)) (x .reading .holds ∙ sym (y .reading .holds)) at;
@@ -97,7 +98,8 @@ name-alike n m e = nodes (cc) (cc) (cc)
 -- once a list's items are held no more, the cursor is within the list as before
 let-go : {ts : List ℕ} {limit o : ℕ} {p : Form} {s s₁ : State} → Listed ts limit (whole p) o s s₁ → Within ts (holding (s .cursor .held) s₁)
 let-go l = let w = l .within in record {
-  roomy = record { nodes = w .roomy .nodes; links = w .roomy .links; scratch = w .roomy .scratch };
+  roomy = record { scratch = w .roomy .scratch };
+  stands = w .stands;
   at = w .at;
   rows = w .rows;
   links = omega (arith, w .links, l .count);
@@ -110,9 +112,9 @@ module _ {ts : List ℕ} {limit o : ℕ} {p : Form} {s : State} {ns ls ss ns′ 
       Answered ts limit h (whole p) o s ns′ ls′ ss′ r′ → Same ns ls ss ns′ ls′ ss′ r r′
   unfolding Answer-case Same
   one-answered h alike (Read.Node n c) (Read.Node m d) a b = let e = one-success (a .says) (b .says) in (alike n m (heads (e .handles)), e .cursor, e .rows, e .stack)
-  one-answered h alike (Read.Refused q) (Read.Refused r) a b = refusals (one-refusal (a .says) (b .says))
-  one-answered h alike (Read.Node n c) (Read.Refused r) a b = let x = a .says .reading in read-not-refused (x .reads) (x .fits) (b .says)
-  one-answered h alike (Read.Refused q) (Read.Node m d) a b = let y = b .says .reading in read-not-refused (y .reads) (y .fits) (a .says)
+  one-answered h alike (Read.Refused q) (Read.Refused r) a b = refusals (one-refusal (a .says .refuses) (b .says .refuses))
+  one-answered h alike (Read.Node n c) (Read.Refused r) a b = read-not-refused (pass (a .says .reading)) (b .says .refuses)
+  one-answered h alike (Read.Refused q) (Read.Node m d) a b = read-not-refused (pass (b .says .reading)) (a .says .refuses)
 
   -- of a list's reader: the items that are held are the same too
   pub one-lists : (r r′ : Read) → Lists ts limit (whole p) o s ns ls ss r → Lists ts limit (whole p) o s ns′ ls′ ss′ r′ → Same ns ls ss ns′ ls′ ss′ r r′
@@ -126,9 +128,9 @@ module _ {ts : List ℕ} {limit o : ℕ} {p : Form} {s : State} {ns ls ss ns′ 
       let k = e .cursor in
       let h = x .count ∙ ap (λ i. s .cursor .held + length i) (e .handles) ∙ sym (y .count) in
       (a .says .0 ∙ sym (b .says .0), cursors (ap (λ c. c .nodes) k) (ap (λ c. c .links) k) h (ap (λ c. c .at) k), e .rows, x .rows ∙ ap (λ i. held s ++ links-of i) (e .handles) ∙ sym (y .rows))
-  one-lists (Read.Refused q) (Read.Refused r) a b = refusals (one-refusal (a .says) (b .says))
-  one-lists (Read.Node n c) (Read.Refused r) a b = let x = a .says .1 .reading in read-not-refused (x .reads) (x .fits) (b .says)
-  one-lists (Read.Refused q) (Read.Node m d) a b = let y = b .says .1 .reading in read-not-refused (y .reads) (y .fits) (a .says)
+  one-lists (Read.Refused q) (Read.Refused r) a b = refusals (one-refusal (a .says .refuses) (b .says .refuses))
+  one-lists (Read.Node n c) (Read.Refused r) a b = read-not-refused (pass (a .says .1 .reading)) (b .says .refuses)
+  one-lists (Read.Refused q) (Read.Node m d) a b = read-not-refused (pass (b .says .1 .reading)) (a .says .refuses)
 
 -- of the functions that read no phrase
 pub one-consumed : {ts : List ℕ} {c : Cursor} {x : ℕ} (r r′ : Read) → Consumed ts c x r → Consumed ts c x r′ → r ≡ r′
@@ -142,7 +144,27 @@ pub one-untailed : {tail : ℕ} {c : Cursor} {r r′ : Read} → Untailed tail c
 one-untailed {tail} a b = elim (ℕ-discrete tail absent) [ yes e ↦ a .none e ∙ sym (b .none e) | no n ↦ a .one n ∙ sym (b .one n) ]
 
 pub one-gathered : {base : ℕ} {c d e : Cursor} {scratch before after other : List ℕ} → Gathered base c scratch before after d → Gathered base c scratch before other e → (d ≡ e) × (after ≡ other)
-one-gathered a b = (a .cursor ∙ sym (b .cursor), written-once (a .links) (b .links))
+one-gathered {d = d} {before = before} a b =
+    let k = a .cursor ∙ sym (b .cursor) in
+    let l : 3 * d .links ≡ 3 * _ = ap (λ f. 3 * f .links) k in (
+      k,
+      elim (decLe (3 * d .links) (length before)) [
+        | yes h ↦ written-once (a .links h) (b .links (omega (arith, l)))
+        | no n ↦ a .kept (omega (arith, n)) ∙ sym (b .kept (omega (arith, n, l)))
+      ],
+    )
+
+pub one-made : {n : Node} {c : Cursor} {r r′ : Read} → Makes n c r → Makes n c r′ → r ≡ r′
+one-made (Makes.made a) (Makes.made b) = refl
+one-made (Makes.full a) (Makes.full b) = refl
+one-made (Makes.made a) (Makes.full b) = absurd (a b)
+one-made (Makes.full a) (Makes.made b) = absurd (b a)
+
+pub one-made-list : {m : ℕ} {n : Node} {c : Cursor} {r r′ : Read} → Makes-list m n c r → Makes-list m n c r′ → r ≡ r′
+one-made-list (Makes-list.listed h a) (Makes-list.listed i b) = one-made a b
+one-made-list (Makes-list.full h) (Makes-list.full i) = refl
+one-made-list (Makes-list.listed h a) (Makes-list.full i) = absurd (omega arith)
+one-made-list (Makes-list.full h) (Makes-list.listed i b) = absurd (omega arith)
 
 pub one-separated : {ts : List ℕ} {n : Node} {c : Cursor} {z : ℕ} (r r′ : Read) → Separated ts n c z r → Separated ts n c z r′ → r ≡ r′
 unfolding Separates
@@ -181,6 +203,6 @@ module _ {ts : List ℕ} {limit o : ℕ} {s : State} {ns ls ss ns′ ls′ ss′
       let e = one-success (x .success) (y .success) in
       let h = heads (e .handles) in
       (nodes (sym (x .row-is) ∙ ap row h ∙ y .row-is) (x .start-is ∙ sym (y .start-is)) (sym (x .tail-is) ∙ ap (λ i. row (tail-of i)) h ∙ y .tail-is), e .cursor, e .rows, e .stack)
-  one-statement (Read.Refused q) (Read.Refused r) a b = refusals (one-refusal (a .says) (b .says))
-  one-statement (Read.Node n c) (Read.Refused r) a b = let x = a .says .success .reading in read-not-refused (x .reads) (x .fits) (b .says)
-  one-statement (Read.Refused q) (Read.Node m d) a b = let y = b .says .success .reading in read-not-refused (y .reads) (y .fits) (a .says)
+  one-statement (Read.Refused q) (Read.Refused r) a b = refusals (one-refusal (a .says .refuses) (b .says .refuses))
+  one-statement (Read.Node n c) (Read.Refused r) a b = read-not-refused (pass (a .says .success .reading)) (b .says .refuses)
+  one-statement (Read.Refused q) (Read.Node m d) a b = read-not-refused (pass (b .says .success .reading)) (a .says .refuses)

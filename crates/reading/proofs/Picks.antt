@@ -1,5 +1,5 @@
 -- Which form a kind picks.
-use Prim.Native.Nat.{ℕ, _*_, _≤_, _<_}
+use Prim.Native.Nat.{ℕ, _≤_, _<_}
 use native.Mathlib.Decide.{ℕ-discrete}
 use native.Mathlib.Omega.{arith}
 use mathlib.Core.Bool.{Bool, true, false, cond}
@@ -7,8 +7,7 @@ use mathlib.Core.List.{List, [], _∷_}
 use mathlib.Core.Logic.{inl, inr, ⊎-elim}
 use mathlib.Core.Path.{_≡_, refl, sym, ap, _∙_}
 use lib.Dec.{eqb}
-use lib.ListN.{length}
-use Rattle.ast.specs.Inserted.{Inserted}
+use Rattle.ast.specs.Inserted.{Tried}
 use Rattle.ast.specs.declared.Node.{Node}
 use Rattle.grammar.specs.Handle.{Handle}
 use Rattle.grammar.specs.Kaori.{Form, Table, kaori, rules, above, unary, leaf, operand, calls, operators}
@@ -17,22 +16,22 @@ use Rattle.grammar.specs.Label.{Label, number-of}
 use Rattle.grammar.specs.Label as label
 use Rattle.grammar.specs.Operator.{joining, place, binary-operators}
 use Rattle.grammar.specs.Phrase.{empty, token, node, choice, refusal, whole}
-use Rattle.grammar.specs.Refusal.{Refuses}
-use Rattle.grammar.specs.Room.{node-width}
 use Rattle.grammar.specs.Rows.{make, put, fill, numbers, write}
 use Rattle.grammar.specs.Rule.{rule}
+use Rattle.grammar.specs.Space.{has-word}
 use Rattle.grammar.specs.Token.{kind, start, end}
 use Rattle.grammar.proofs.Tables.{unlisted}
 use Rattle.token.specs.Level.{level}
 use Rattle.token.proofs.Operators.{operator-link}
 use Rattle.names.specs.Resolved.{names-of}
 use Rattle.reading.specs.Answers.{node-of, Answered}
-use Rattle.reading.specs.Parts.{grown, Sign, Other, Single, single-node, joined-fields}
-use Rattle.reading.specs.State.{State, state, written}
+use Rattle.reading.specs.Parts.{Makes, Sign, Other, Single, single-node, joined-fields}
+use Rattle.reading.specs.State.{State, state, written, Lent, Within}
 use Rattle.reading.specs.declared.Cursor.{Cursor}
 use Rattle.reading.specs.declared.Read.{Read}
-use Rattle.reading.proofs.Entering.{entered-alone, row-made}
-use Rattle.reading.proofs.Laws.{chosen, Made}
+use Rattle.reading.proofs.Entering.{entered-alone, Tries, row-tried}
+use Rattle.reading.proofs.Laws.{plain, chosen}
+use Rattle.reading.proofs.Refusals as Refuses
 use Rattle.reading.proofs.Replies.{mapped}
 
 -- an answer of the form that the table has for the next token
@@ -140,7 +139,17 @@ joined-row ts a b n m c ns ls ss = pick (eqb (kind ts a) And) (eqb (kind ts a) O
     pick false true = refl
     pick false false = refl
 
-pub operator-made : {ts : List ℕ} {a x : ℕ} {n m k : Node} {c : Cursor} {ns ns′ ls ss : List ℕ} → x ≡ kind ts a →
-    Inserted (c .nodes) (number-of (joining x)) (n .start) (m .end) (joined-fields x (n .id) (m .id)) ns ns′ k → node-width * c .nodes ≤ length ns →
-    Made ts (Label.Row (joining (kind ts a))) a (state ns ls ss c) (node-of n ∷ []) (node-of m ∷ []) (node-of k ∷ []) (state ns′ ls ss (grown c))
-operator-made {ts} {a} {n = n} {m = m} {c = c} {ns = ns} {ls = ls} {ss = ss} e i h = row-made (rw e at i) h (joined-row ts a (c .at) n m c ns ls ss)
+joined-plain : (x : ℕ) → has-word (Label.Row (joining x)) ≡ false
+unfolding has-word
+joined-plain x = pick (eqb x And) (eqb x Or)
+  where
+    pick : (d e : Bool) → has-word (Label.Row (cond d label.Node.LogicalAnd (cond e label.Node.LogicalOr label.Node.Binary))) ≡ false
+    pick true e = refl
+    pick false true = refl
+    pick false false = refl
+
+pub operator-tried : {ts : List ℕ} {a x : ℕ} {n m k : Node} {c : Cursor} {ns ns′ ls ss : List ℕ} {r : Read} → x ≡ kind ts a → Within ts (state ns ls ss c) → Lent ts → Makes k c r →
+    Tried (c .nodes) (number-of (joining x)) (n .start) (m .end) (joined-fields x (n .id) (m .id)) ns ns′ k →
+    Tries ts (Label.Row (joining (kind ts a))) a (state ns ls ss c) (node-of n ∷ []) (node-of m ∷ []) ns′ ls ss r
+operator-tried {ts} {a} {n = n} {m = m} {c = c} {ns = ns} {ls = ls} {ss = ss} e w l o i =
+    row-tried w l (λ h z. plain (joined-plain (kind ts a)) h) (joined-row ts a (c .at) n m c ns ls ss) o (rw e at i)

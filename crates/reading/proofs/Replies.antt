@@ -1,6 +1,5 @@
 -- Answers of parts make an answer of the whole.
 use Prim.Native.Nat.{ℕ, _+_, _≤_, _<_}
-use native.Mathlib.Numerals.{add-one}
 use native.Mathlib.Omega.{arith}
 use mathlib.Core.List.{List, [], _∷_}
 use mathlib.Core.Path.{_≡_}
@@ -11,13 +10,16 @@ use Rattle.grammar.specs.Label.{Label}
 use Rattle.grammar.specs.Phrase.{empty, part, nested, node, chain, once, Aim, whole, begun}
 use Rattle.grammar.specs.Refusal.{Refused, refused, Refuses}
 use Rattle.grammar.specs.Token.{kind, start, end, count}
-use Rattle.reading.specs.Answers.{next, Took, Consumed, Answer-case, Answered, Listed, List-case, Lists, Filled, Fill-case, Fills, Stated, State-case, States}
+use Rattle.reading.specs.Answers.{next, node-of, Took, Consumed, Answer-case, Answered, Listed, List-case, Lists, Filled, Fill-case, Fills, Stated, State-case, States}
 use Rattle.reading.specs.Reading.{form, refusal, Reading, Success, Refusing}
 use Rattle.reading.specs.State.{State, state, Ready}
 use Rattle.reading.specs.declared.Cursor.{Cursor}
 use Rattle.reading.specs.declared.Read.{Read}
 use Rattle.reading.specs.declared.Refusal.{Refusal}
 use Rattle.reading.proofs.Bound.{Paid, bound, arrived}
+use Rattle.reading.proofs.Entering.{Tries}
+use Rattle.reading.proofs.Laws.{opened, labelled, joined, pass, onto, full, full-joined}
+use Rattle.reading.proofs.Refusals.{inside}
 
 -- a token was taken
 pub record Taken (ts : List ℕ) (c : Cursor) (x : ℕ) (n : Node) (d : Cursor) : Type 0 where
@@ -98,18 +100,34 @@ module _ {ts : List ℕ} {limit : ℕ} where
   unfolding State-case
   stated e a = (rw e at a) .says
 
--- refusals
-pub inside : {k : ℕ → ℕ} {limit o a : ℕ} {p : Form} {q : Refused} → o < limit → Refuses kaori k limit p (o + 1) a q → Refuses kaori k limit (nested p) o a q
-inside h r = Refuses.inside h (rw add-one at r)
-
+-- a refusal after what was read
 module _ {ts : List ℕ} {limit o : ℕ} {q : Refused} {xs ys : List Handle} {s s′ : State} where
   pub after : {p r : Form} → Reading ts limit (whole p) o s xs ys s′ → Refusing ts limit r o s′ q → Refusing ts limit (part p r) o s q
-  after r h = Refuses.in-second (r .reads) (r .fits) h
+  after r h = record { refuses = Refuses.in-second (pass r) (onto r h) }
 
   pub further : {t : Table} {f : Label} {p r : Form} → Reading ts limit (begun p t) o s xs ys s′ → kaori t (kind ts (s′ .cursor .at)) ≡ node f r → Refusing ts limit r o s′ q →
       Refusing ts limit (chain p t) o s q
-  further b e h = Refuses.in-link (b .reads) (b .fits) e h
+  further b e h = record { refuses = Refuses.in-link (pass b) e (onto b h) }
 
   pub after-once : {t : Table} {f : Label} {p r : Form} → Reading ts limit (whole p) o s xs ys s′ → kaori t (kind ts (s′ .cursor .at)) ≡ node f r → Refusing ts limit r o s′ q →
       Refusing ts limit (once p t) o s q
-  after-once b e h = Refuses.in-joined (b .reads) (b .fits) e h
+  after-once b e h = record { refuses = Refuses.in-joined (pass b) e (onto b h) }
+
+-- a node of what was read: its row is made, or lacks room
+module _ {ts : List ℕ} {limit o : ℕ} {s s₁ : State} {f : Label} {p : Form} {xs ys : List Handle} {ns ls ss : List ℕ} where
+  pub built : {r : Read} → Ready ts limit o s → Paid (node f p) → s₁ .cursor .at < count ts → Reading ts limit (whole p) o s xs ys s₁ → Tries ts f (s .cursor .at) s₁ xs ys ns ls ss r →
+      Answered ts limit node-of (whole (node f p)) o s ns ls ss r
+  built h u a z (Tries.made m) = answer h u (rw (m .at) a) (labelled z m)
+  built h u a z (Tries.lacking l) = refuse (full z l)
+
+  -- and of one link at most
+  pub built-once : {t : Table} {q : Form} {s₀ : State} {r : Read} → Ready ts limit o s → Paid (once p t) → s₁ .cursor .at < count ts → Reading ts limit (whole p) o s xs [] s₀ →
+      kaori t (kind ts (s₀ .cursor .at)) ≡ node f q → Reading ts limit (whole q) o s₀ ys [] s₁ → Tries ts f (s₀ .cursor .at) s₁ xs ys ns ls ss r →
+      Answered ts limit node-of (whole (once p t)) o s ns ls ss r
+  built-once h u a z g y (Tries.made m) = answer h u (rw (m .at) a) (joined z g y m)
+  built-once h u a z g y (Tries.lacking l) = refuse (full-joined z g y l)
+
+-- one opening deeper
+pub nested-answer : {ts : List ℕ} {limit o : ℕ} {s : State} {p : Form} {ns ls ss : List ℕ} (r : Read) → o < limit → Answered ts limit node-of (whole p) (o + 1) s ns ls ss r →
+    Answered ts limit node-of (whole (nested p)) o s ns ls ss r
+nested-answer r h a = mapped r (omega arith) a (λ n c z. opened z) (λ x y. inside h y)

@@ -1,11 +1,11 @@
 -- What the functions answer that read no phrase by themselves: after a list's item, after a statement, and for a kind.
-use Prim.Native.Nat.{ℕ, _+_, _*_, _-_}
+use Prim.Native.Nat.{ℕ, _+_, _*_, _-_, _≤_, _<_}
 use mathlib.Core.Bool.{cond}
 use mathlib.Core.List.{List, [], _∷_}
 use mathlib.Core.Logic.{_⊎_}
 use mathlib.Core.Path.{_≡_}
 use lib.Dec.{eqb}
-use lib.ListN.{take, drop}
+use lib.ListN.{length, take, drop}
 use Rattle.ast.specs.Written.{Written}
 use Rattle.ast.specs.declared.Node.{Node}
 use Rattle.grammar.specs.Handle.{absent}
@@ -15,10 +15,12 @@ use Rattle.grammar.specs.Kind.{While, Break, Continue, If, Return, Import, True
 use Rattle.grammar.specs.Label.{Node as Form-of}
 use Rattle.grammar.specs.Operator.{place, binary-operators}
 use Rattle.grammar.specs.Phrase.{refusal}
+use Rattle.grammar.specs.Room.{link-width}
 use Rattle.grammar.specs.Token.{kind}
 use Rattle.reading.specs.Answers.{next}
 use Rattle.reading.specs.declared.Cursor.{Cursor}
 use Rattle.reading.specs.declared.Read.{Read}
+use Rattle.reading.specs.declared.Refusal.{Refusal}
 
 -- after an item: the closer, which stays, or a comma, which is taken
 unfoldable pub Separates : List ℕ → Node → Cursor → ℕ → Read → Type 0
@@ -32,10 +34,25 @@ pub record Separated (ts : List ℕ) (n : Node) (c : Cursor) (z : ℕ) (r : Read
 abbrev pub grown : Cursor → Cursor
 grown c = record { at = c .at; nodes = c .nodes + 1; links = c .links; held = c .held }
 
--- the rows held since `base` are links, and are held no more
+-- no room, met at a token
+abbrev pub no-room : ℕ → Refusal
+no-room at = record { code = 4; expected = 255; at = at }
+
+-- the answer of a reader that made a row: its node, or none where the row had no room
+pub data Makes (n : Node) (c : Cursor) : Read → Type 0 where
+  made : (n .id ≡ absent → ⊥) → Makes n c (Read.Node n (grown c))
+  full : n .id ≡ absent → Makes n c (Read.Refused (no-room (c .at)))
+
+-- and of one whose row has links, so many as the cursor counts in a room of so many numbers
+pub data Makes-list (numbers : ℕ) (n : Node) (c : Cursor) : Read → Type 0 where
+  listed : {r : Read} → link-width * c .links ≤ numbers → Makes n c r → Makes-list numbers n c r
+  full : numbers < link-width * c .links → Makes-list numbers n c (Read.Refused (no-room (c .at)))
+
+-- the rows held since `base` are held no more, and counted as links. They are links if there is room for them
 pub record Gathered (base : ℕ) (c : Cursor) (scratch before after : List ℕ) (d : Cursor) : Type 0 where
   pub cursor : d ≡ record { at = c .at; nodes = c .nodes; links = c .links + (c .held - base); held = base }
-  pub links : Written (3 * c .links) (3 * (c .links + (c .held - base))) (take (3 * (c .held - base)) (drop (3 * base) scratch)) before after
+  pub links : link-width * d .links ≤ length before → Written (3 * c .links) (3 * (c .links + (c .held - base))) (take (3 * (c .held - base)) (drop (3 * base) scratch)) before after
+  pub kept : length before < link-width * d .links → after ≡ before
 
 -- the form of a statement that starts with a token of this kind, and what ends it
 abbrev pub forms : List (ℕ × Form)

@@ -1,5 +1,5 @@
 -- What was read: from one state to another the tokens read as a phrase says, no deeper than the limit, and the rooms have just the rows of that reading. The
--- symbols are the numbers in the top third of the scratch room, which stay.
+-- symbols are the numbers in the top third of the scratch room, which stay; where one is absent, its row has no room.
 use Prim.Native.Nat.{ℕ, _+_, _≤_}
 use mathlib.Core.List.{List, []}
 use mathlib.Core.Path.{_≡_}
@@ -9,9 +9,10 @@ use Rattle.grammar.specs.Label.{Label}
 use Rattle.grammar.specs.Phrase.{chain, Tree, Aim, whole, begun, Reads, depth}
 use Rattle.grammar.specs.Refusal.{Refused, refused, Refuses}
 use Rattle.grammar.specs.Rows.{walk}
+use Rattle.grammar.specs.Space.{Named}
 use Rattle.grammar.specs.Token.{kind}
 use Rattle.names.specs.Resolved.{names-of}
-use Rattle.reading.specs.State.{State, written, held, Within, Rooms}
+use Rattle.reading.specs.State.{State, written, held, space, Within, Rooms}
 use Rattle.reading.specs.declared.Refusal.{Refusal}
 
 -- the refusals of an aim are those of its phrase
@@ -22,16 +23,13 @@ form (begun p n) = chain p n
 abbrev pub refusal : Refusal → Refused
 refusal q = refused (q .code) (q .at) (q .expected)
 
--- the phrase is refused from s on, with o openings taken before
-abbrev pub Refusing : (ts : List ℕ) (limit : ℕ) → Form → ℕ → State → Refused → Type 0
-Refusing ts limit p o s q = Refuses kaori (kind ts) limit p o (s .cursor .at) q
-
 module _ (ts : List ℕ) (limit : ℕ) where
   -- from s to s′, with o openings taken before: the first part made xs, and the rest ys
   pub record Reading (g : Aim Table Label) (o : ℕ) (s : State) (xs ys : List Handle) (s′ : State) : Type 0 where
     pub tree : Tree Label
     pub reads : Reads kaori (kind ts) g (s .cursor .at) (s′ .cursor .at) tree
     pub fits : o + depth tree ≤ limit
+    pub named : Named (names-of ts (s .scratch)) tree
     pub rows : walk ts (names-of ts (s .scratch)) tree (written s) ≡ record { rows = written s′; first = xs; rest = ys }
     pub holds : s′ .cursor .held ≡ s .cursor .held
     pub same : held s′ ≡ held s
@@ -43,3 +41,7 @@ module _ (ts : List ℕ) (limit : ℕ) where
     pub reading : Reading g o s hs [] s′
     pub within : Within ts s′
     pub past : s .cursor .at ≤ s′ .cursor .at
+
+  -- the phrase is refused from s on, with o openings taken before
+  pub record Refusing (p : Form) (o : ℕ) (s : State) (q : Refused) : Type 0 where
+    pub refuses : Refuses ts (names-of ts (s .scratch)) limit (space s) kaori (kind ts) p o (s .cursor .at) (written s) q

@@ -6,6 +6,7 @@ use lib.ListN.{length, take}
 use Rattle.grammar.specs.Door.{Whole, Closed}
 use Rattle.grammar.specs.Room.{node-width, link-width, scratch-width}
 use Rattle.grammar.specs.Rows.{Rows}
+use Rattle.grammar.specs.Space.{Space}
 use Rattle.grammar.specs.Token.{count}
 use Rattle.reading.specs.declared.Cursor.{Cursor}
 
@@ -31,15 +32,27 @@ pub record Lent (ts : List ℕ) : Type 0 where
   pub whole : Whole ts
   pub closed : (i : ℕ) → i < count ts → Closed ts i
 
--- each room has a row for each token
+-- the scratch room has a row for each token
 pub record Roomy (ts : List ℕ) (s : State) : Type 0 where
-  pub nodes : node-width * count ts ≤ length (s .nodes)
-  pub links : link-width * count ts ≤ length (s .links)
   pub scratch : scratch-width * count ts ≤ length (s .scratch)
 
--- there is a token to look at, no room has more rows than tokens are passed, and the items that are held stay below the symbols in the top third of the scratch room
+-- how much the other rooms hold
+abbrev pub space : State → Space
+space s = record { nodes = length (s .nodes); links = length (s .links) }
+
+-- so many rows stand in rooms of this size; and those that a cursor counts
+pub record Stands (z : Space) (nodes links : ℕ) : Type 0 where
+  pub node-rows : node-width * nodes ≤ z .nodes
+  pub link-rows : link-width * links ≤ z .links
+
+abbrev pub Standing : State → Type 0
+Standing s = Stands (space s) (s .cursor .nodes) (s .cursor .links)
+
+-- there is a token to look at, the rows stand in their rooms, no room has more rows than tokens are passed, and the items that are held stay below the symbols in the
+-- top third of the scratch room
 pub record Within (ts : List ℕ) (s : State) : Type 0 where
   pub roomy : Roomy ts s
+  pub stands : Standing s
   pub at : s .cursor .at < count ts
   pub rows : s .cursor .nodes ≤ s .cursor .at
   pub links : s .cursor .links + s .cursor .held ≤ s .cursor .at
@@ -56,8 +69,9 @@ pub record Opened (ts : List ℕ) (limit o : ℕ) (s : State) : Type 0 where
   pub ready : Ready ts limit o s
   pub spare : 2 * s .cursor .held ≤ s .cursor .at
 
--- the rooms are as long as they were
+-- the rooms are as long as they were, and where the rows stood in them they do
 pub record Rooms (s s′ : State) : Type 0 where
   pub nodes : length (s′ .nodes) ≡ length (s .nodes)
   pub links : length (s′ .links) ≡ length (s .links)
   pub scratch : length (s′ .scratch) ≡ length (s .scratch)
+  pub stands : Standing s → Standing s′

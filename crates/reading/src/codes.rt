@@ -1,4 +1,6 @@
 // Why reading ends, by name: document 01's numbers.
+pub const NO_ROOM: u32 = 4;
+
 pub const KIND_REQUIRED: u32 = 8;
 
 pub const OPERAND_REQUIRED: u32 = 9;

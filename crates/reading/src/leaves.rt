@@ -4,12 +4,15 @@ use crate::Read;
 use crate::lists::consume;
 use crate::lists::name;
 use crate::pieces::made;
+use crate::pieces::no_room;
+use ast::ABSENT;
 use ast::Node;
 use names::symbol_at;
 use token::kinds;
 ghost use mathlib.Core.Path.{_≡_};
-ghost use Prim.Native.Nat.{_+_};
-ghost use Rattle.ast.specs.Inserted.{Free, Inserted};
+ghost use Prim.Native.Nat.{_+_, _<_};
+ghost use Rattle.ast.specs.Inserted.{Tried};
+ghost use Rattle.grammar.specs.Handle.{absent};
 ghost use Rattle.grammar.specs.Kaori as form;
 ghost use Rattle.grammar.specs.Kind.{Dot, StringLiteral, Identifier};
 ghost use Rattle.grammar.specs.Label.{Node as Label, number-of};
@@ -21,8 +24,8 @@ ghost use Rattle.reading.specs.Parts.{Single, single-node, single-fields
 
 // The row of a node that is one token of this kind.
 fn row(nodes: &mut [u32], n: usize, kind: u32, start: u32, end: u32) -> Node
-    requires { ⌜ Free n (now nodes) ⌝ }
-    ensures { λ r. ⌜ Inserted n (number-of (single-node kind)) start end (single-fields kind) (now (nodes .entry)) (now (nodes .exit)) r ⌝ }
+    requires { ⌜ n < absent ⌝ }
+    ensures { λ r. ⌜ Tried n (number-of (single-node kind)) start end (single-fields kind) (now (nodes .entry)) (now (nodes .exit)) r ⌝ }
 {
     match kind {
         kinds::BREAK => ast::break_(nodes, n, start, end),
@@ -59,7 +62,7 @@ pub fn single(
     made(node, next)
 }
 
-// A string: its symbol is that of its inside. It asks `Ready`.
+// A string: its symbol is that of its inside, if there is room for it. It asks `Ready`.
 // Ruled out: the symbol of the string with its quotes; the inside's span.
 pub fn string(
     tokens: &[u32],
@@ -79,6 +82,9 @@ pub fn string(
     };
     let at = cur.at;
     let symbol = symbol_at(tokens, scratch, at);
+    if symbol == ABSENT {
+        return no_room(at);
+    }
     let n = next.nodes;
     let node = ast::string(nodes, n, symbol, place.start, place.end);
     made(node, next)

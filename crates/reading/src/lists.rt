@@ -3,7 +3,10 @@ use crate::Cursor;
 use crate::Read;
 use crate::Refusal;
 use crate::codes;
-use crate::pieces::made;
+use crate::pieces::made_list;
+use crate::pieces::no_room;
+use ast::ABSENT;
+use ast::LINK_WIDTH;
 use ast::Node;
 use ast::room::link;
 use ast::room::push;
@@ -71,24 +74,28 @@ pub fn comma(tokens: &[u32], item: Node, cur: Cursor, closer: u32) -> Read
     Read::Node(item, past)
 }
 
-// The rows held since `base` become links, in their order. It asks that so many are held, and that both rooms have them.
+// The rows held since `base` become links, in their order, if there is room for them; they are counted in any case, and `made_list` refuses then. It asks that so
+// many are held, and that the scratch room has them.
 // Ruled out: a row held before `base` that becomes a link; one that is still held.
 pub fn gather(links: &mut [u32], scratch: &[u32], base: usize, cur: Cursor) -> Cursor
-    requires { ⌜ (base ≤ cur .held) × (3 * cur .held ≤ length (now scratch)) × (3 * (cur .links + cur .held) ≤ length (now links)) × (cur .links + cur .held < absent) ⌝ }
+    requires { ⌜ (base ≤ cur .held) × (3 * cur .held ≤ length (now scratch)) × (cur .links + cur .held < absent) ⌝ }
     ensures { λ r. ⌜ Gathered base cur (now (scratch .entry)) (now (links .entry)) (now (links .exit)) r ⌝ }
 {
     let used = cur.links;
     let count = cur.held - base;
-    link(links, used, scratch, base, count);
+    let all = used + count;
+    if LINK_WIDTH * all <= links.len() {
+        link(links, used, scratch, base, count);
+    }
     Cursor {
         held: base,
         at: cur.at,
-        links: used + count,
+        links: all,
         nodes: cur.nodes,
     }
 }
 
-// A name: its symbol and its place. It asks `Ready`.
+// A name: its symbol, if there is room for it, and its place. It asks `Ready`.
 // Ruled out: a keyword taken for a name; the symbol of another name.
 pub fn name(
     tokens: &[u32],
@@ -107,8 +114,12 @@ pub fn name(
         return read;
     };
     let at = cur.at;
+    let symbol = symbol_at(tokens, scratch, at);
+    if symbol == ABSENT {
+        return no_room(at);
+    }
     let word = Node {
-        id: symbol_at(tokens, scratch, at),
+        id: symbol,
         start: place.start,
         end: place.end,
     };
@@ -352,5 +363,5 @@ pub fn import(
         lead.start,
         upto,
     );
-    made(node, past)
+    made_list(links, node, past)
 }

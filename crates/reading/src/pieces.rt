@@ -4,6 +4,7 @@ use crate::Read;
 use crate::Refusal;
 use crate::codes;
 use ast::ABSENT;
+use ast::LINK_WIDTH;
 use ast::Node;
 use token::kinds;
 use token::list::kind_at;
@@ -11,15 +12,16 @@ use token::ops::operator_of;
 ghost use mathlib.Core.List.{_∷_, []};
 ghost use mathlib.Core.Path.{_≡_};
 ghost use Prim.Native.Nat.{_≤_, _<_};
-ghost use Rattle.ast.specs.Inserted.{Free, Inserted};
+ghost use lib.ListN.{length};
+ghost use Rattle.ast.specs.Inserted.{Tried};
 ghost use Rattle.grammar.specs.Handle.{absent};
 ghost use Rattle.grammar.specs.Label.{number-of};
 ghost use Rattle.grammar.specs.Operator.{joining};
 ghost use Rattle.grammar.specs.Token.{count};
-ghost use Rattle.reading.specs.Parts.{grown, Ended, Untailed, binding-node, joined-fields};
+ghost use Rattle.reading.specs.Parts.{no-room, Makes, Makes-list, Ended, Untailed, binding-node, joined-fields};
 ghost use Rattle.reading.specs.declared.Read.{Read};
 
-// The row of two operands and the operator of this kind between them. It asks that the room has that row (`Free`).
+// The row of two operands and the operator of this kind between them. It asks that its number is below absent.
 // Ruled out: a Binary for `and`; the operands in each other's place.
 pub fn joined(
     nodes: &mut [u32],
@@ -30,8 +32,8 @@ pub fn joined(
     start: u32,
     end: u32,
 ) -> Node
-    requires { ⌜ Free n (now nodes) ⌝ }
-    ensures { λ r. ⌜ Inserted n (number-of (joining kind)) start end (joined-fields kind left right) (now (nodes .entry)) (now (nodes .exit)) r ⌝ }
+    requires { ⌜ n < absent ⌝ }
+    ensures { λ r. ⌜ Tried n (number-of (joining kind)) start end (joined-fields kind left right) (now (nodes .entry)) (now (nodes .exit)) r ⌝ }
 {
     match kind {
         kinds::AND => ast::logical_and(nodes, n, left, right, start, end),
@@ -40,7 +42,7 @@ pub fn joined(
     }
 }
 
-// The row of a name that `let`, `const` or `ref` binds. It asks that the room has that row (`Free`).
+// The row of a name that `let`, `const` or `ref` binds. It asks that its number is below absent.
 // Ruled out: a Variable for `const`; the name's place left out.
 pub fn bound(
     nodes: &mut [u32],
@@ -51,8 +53,8 @@ pub fn bound(
     start: u32,
     end: u32,
 ) -> Node
-    requires { ⌜ Free n (now nodes) ⌝ }
-    ensures { λ r. ⌜ Inserted n (number-of (binding-node kind)) start end (word .id ∷ word .start ∷ word .end ∷ right ∷ []) (now (nodes .entry)) (now (nodes .exit)) r ⌝ }
+    requires { ⌜ n < absent ⌝ }
+    ensures { λ r. ⌜ Tried n (number-of (binding-node kind)) start end (word .id ∷ word .start ∷ word .end ∷ right ∷ []) (now (nodes .entry)) (now (nodes .exit)) r ⌝ }
 {
     match kind {
         kinds::LET => ast::variable(nodes, n, word.id, word.start, word.end, right, start, end),
@@ -61,11 +63,24 @@ pub fn bound(
     }
 }
 
-// The answer of a reader that wrote one row more: its node, and the cursor past that row. It asks that the number of rows stays below absent.
-// Ruled out: a cursor that does not count the row; another node.
+// Refusal 4 at a token: a row that has to be written there has no room.
+// Ruled out: another token; another code.
+pub fn no_room(at: usize) -> Read
+    ensures { λ r. ⌜ r ≡ Read.Refused (no-room at) ⌝ }
+{
+    Read::Refused(Refusal {
+        code: codes::NO_ROOM,
+        at: at,
+        expected: codes::NO_KIND,
+    })
+}
+
+// The answer of a reader that made one row more: its node, and the cursor past that row; or, where the row had no room, a refusal at the token after it. The node's
+// answer is made first and replaced then, which is faster than a choice of two answers. It asks that the number of rows stays below absent.
+// Ruled out: a cursor that does not count the row; a node that has no row.
 pub fn made(node: Node, cur: Cursor) -> Read
     requires { ⌜ cur .nodes < absent ⌝ }
-    ensures { λ r. ⌜ r ≡ Read.Node node (grown cur) ⌝ }
+    ensures { λ r. ⌜ Makes node cur r ⌝ }
 {
     let past = Cursor {
         held: cur.held,
@@ -73,7 +88,32 @@ pub fn made(node: Node, cur: Cursor) -> Read
         links: cur.links,
         nodes: cur.nodes + 1,
     };
-    Read::Node(node, past)
+    let mut read = Read::Node(node, past);
+    if node.id == ABSENT {
+        read = Read::Refused(Refusal {
+            code: codes::NO_ROOM,
+            at: cur.at,
+            expected: codes::NO_KIND,
+        });
+    }
+    read
+}
+
+// And of one whose row has links: these too must have had room. It asks that the number of rows stays below absent, and that of links.
+// Ruled out: a row whose links are not there; a refusal at another token than the one after the node.
+pub fn made_list(links: &[u32], node: Node, cur: Cursor) -> Read
+    requires { ⌜ (cur .nodes < absent) × (cur .links < absent) ⌝ }
+    ensures { λ r. ⌜ Makes-list (length (now (links .entry))) node cur r ⌝ }
+{
+    let mut read = made(node, cur);
+    if links.len() < LINK_WIDTH * cur.links {
+        read = Read::Refused(Refusal {
+            code: codes::NO_ROOM,
+            at: cur.at,
+            expected: codes::NO_KIND,
+        });
+    }
+    read
 }
 
 // After a statement that began with a token of kind `first`: a `;` is taken. If there is none, the statement may be a tail, unless the `;` is required. It asks that

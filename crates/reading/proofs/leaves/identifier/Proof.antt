@@ -31,4 +31,4 @@ identifier-spec =
     tie.close
     (tie.spec (λ c κs. search needs) (λ c. search needs) (λ c. search needs) (λ c. search needs) (λ c. search needs) (λ c. search needs) returns
     (λ c κs. free (to-start (c .before) .pre .lent) (part (c .before) .within))
-    (λ c κs. let d = c .before .before .before .before in free (to-start d .pre .lent) (part d .within) .number) (λ c. search needs) (λ c. search needs) (λ c. search needs) returns-2)
+    (λ c κs. let d = c .before .before .before .before in free (to-start d .pre .lent) (part d .within)) (λ c. search needs) (λ c. search needs) (λ c. search needs) returns-2)

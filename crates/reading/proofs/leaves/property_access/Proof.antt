@@ -4,7 +4,7 @@ use native.Mathlib.Omega.{arith}
 use mathlib.Core.Path.{ap}
 use Rattle.grammar.specs.Kaori.{calls, rules, kaori}
 use Rattle.grammar.specs.Kind.{Dot}
-use Rattle.grammar.specs.Refusal.{Refuses}
+use Rattle.reading.proofs.Refusals as Refuses
 use Rattle.reading.proofs.Chains.{stops-lacking}
 use Rattle.reading.proofs.Leaf.{property-read, property-refused}
 use Rattle.reading.proofs.Replies.{Taken, Told, token-taken, success, further}
@@ -55,5 +55,5 @@ property-access-spec =
     (tie.spec (λ c κs. search needs) (λ c. search needs) (λ c. search needs) returns
     (λ c κs. ready-led (to-start (c .before .before .before) .pre .1) (dot (c .before .before .before)) (λ e. omega arith)) (λ c. search needs) (λ c. search needs) (λ c. search needs)
     (λ c. search needs) (λ c. search needs) returns-2 (λ c κs. free (to-start (to-dot (c .before)) .pre .1 .lent) (part (c .before) .within))
-    (λ c κs. let d = c .before .before .before .before in free (to-start (to-dot d) .pre .1 .lent) (part d .within) .number) (λ c. search needs) (λ c. search needs) (λ c. search needs)
+    (λ c κs. let d = c .before .before .before .before in free (to-start (to-dot d) .pre .1 .lent) (part d .within)) (λ c. search needs) (λ c. search needs) (λ c. search needs)
     returns-3)

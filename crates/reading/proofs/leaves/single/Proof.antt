@@ -1,6 +1,6 @@
 -- `leaves::single` meets its contract: a token of its kind, and its row.
 use borrow.Author.Needs.{needs}
-use Rattle.grammar.specs.Refusal.{Refuses}
+use Rattle.reading.proofs.Refusals as Refuses
 use Rattle.reading.proofs.Leaf.{next-row, single-read}
 use Rattle.reading.proofs.Replies.{Taken, token-taken, lacks}
 use Rattle.reading.proofs.leaves.single.Statement.{statement}
@@ -29,4 +29,4 @@ pub single-spec : {M : Type 1} → statement M
 single-spec =
     tie.close
     (tie.spec (λ c κs. search needs) (λ c. search needs) (λ c. search needs) returns (λ c κs. next-row (to-start (c .before) .pre .1) (place (c .before)))
-    (λ c κs. let d = c .before .before .before .before in next-row (to-start d .pre .1) (place d) .number) (λ c. search needs) returns-2)
+    (λ c κs. let d = c .before .before .before .before in next-row (to-start d .pre .1) (place d)) (λ c. search needs) returns-2)

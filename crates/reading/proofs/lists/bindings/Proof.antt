@@ -5,7 +5,7 @@ use mathlib.Core.Logic.{inr}
 use mathlib.Core.Path.{_≡_, refl}
 use Rattle.grammar.specs.Kaori.{bindings, rules}
 use Rattle.grammar.specs.Kind.{Colon}
-use Rattle.grammar.specs.Refusal.{Refuses}
+use Rattle.reading.proofs.Refusals as Refuses
 use Rattle.grammar.specs.Token.{kind}
 use Rattle.grammar.proofs.Tables.{keyed, unkeyed}
 use Rattle.reading.proofs.Laws.{opened-next}

@@ -3,44 +3,46 @@ use Prim.Native.Nat.{ℕ, _+_, _*_, _-_, _/_, _≤_, _<_}
 use borrow.Author.Needs.{needs}
 use native.Mathlib.Omega.{arith}
 use mathlib.Core.List.{List, [], _∷_, _++_, append-assoc}
-use mathlib.Core.Path.{_≡_, ap, _∙_}
+use mathlib.Core.Path.{_≡_, refl, ap, _∙_}
 use lib.ListN.{length, take, length-append}
 use lib.Seq.{length-take-le}
-use Rattle.ast.specs.Inserted.{Inserted}
+use Rattle.ast.specs.Inserted.{Tried}
 use Rattle.ast.specs.Written.{Written}
 use Rattle.ast.specs.declared.Node.{Node}
-use Rattle.grammar.specs.Handle.{Handle}
+use Rattle.grammar.specs.Handle.{Handle, absent}
 use Rattle.grammar.specs.Kind.{Import}
 use Rattle.grammar.specs.Label.{Node as Form, Label}
-use Rattle.grammar.specs.Refusal.{Refuses}
-use Rattle.grammar.specs.Room.{node-width}
 use Rattle.grammar.specs.Rows.{links-of, numbers, write, fill, put, make}
 use Rattle.grammar.specs.Rule.{rule}
+use Rattle.grammar.specs.Space.{has-word}
 use Rattle.grammar.specs.Token.{start, end}
 use Rattle.grammar.proofs.Room.{paid, spare, links-length}
-use Rattle.reading.specs.Answers.{node-of}
-use Rattle.reading.specs.State.{state, Rooms}
+use Rattle.reading.specs.Parts.{Makes-list}
+use Rattle.reading.specs.State.{state, Standing, Rooms}
 use Rattle.reading.specs.declared.Cursor.{Cursor}
-use Rattle.reading.proofs.Entering.{grown-by, link-number, list-made}
-use Rattle.reading.proofs.Gathering.{gather-asks, gathered-free}
-use Rattle.reading.proofs.Laws.{Made, rooms-on, taken, labelled, ready-next, ready-on}
+use Rattle.reading.specs.declared.Read.{Read}
+use Rattle.reading.proofs.Entering.{link-number, Tries, list-tried}
+use Rattle.reading.proofs.Gathering.{gather-asks, gathered-free, gathered-numbers, gathered-size}
+use Rattle.reading.proofs.Laws.{rooms-on, taken, ready-next, ready-on}
 use Rattle.reading.proofs.Listings.{Held, listed-rooms, listed-from, held-since, listed-both, rows-both}
-use Rattle.reading.proofs.Replies.{Taken, token-taken, answer, lacks, passed-list, listed, after}
-use Rattle.reading.proofs.Taking.{opened-led}
+use Rattle.reading.proofs.Refusals as Refuses
+use Rattle.reading.proofs.Replies.{Taken, token-taken, lacks, passed-list, listed, after, built}
+use Rattle.reading.proofs.Taking.{opened-led, free}
 use Rattle.reading.proofs.lists.import.Statement.{statement}
 use Rattle.reading.proofs.lists.import.Tie as tie
 
 -- the row of an import: the second list's links come after the first's
-made : {ts ns ns′ ls ls′ ss : List ℕ} {a : ℕ} {c : Cursor} {xs zs : List Handle} {n : Node} (m : ℕ) → Inserted (c .nodes) 26 (start ts a) (end ts (c .at))
-    (c .links ∷ length xs ∷ (c .links + length xs) ∷ length zs ∷ []) ns ns′ n →
-    node-width * c .nodes ≤ length ns → 3 * c .links ≤ length ls → Written (3 * c .links) (3 * (c .links + m)) (links-of xs ++ links-of zs) ls ls′ → Made ts (Label.Row Form.Import) a
-    (state ns ls ss c) xs zs (node-of n ∷ []) (state ns′ ls′ ss (grown-by c m))
-unfolding make put fill numbers write rule
-made {ls = ls} {c = c} {xs = xs} {zs = zs} m i g h w =
-    let l = length-take-le (3 * c .links) ls h in
+tried : {ts ns ns′ ls ls′ ss : List ℕ} {a h : ℕ} {xs zs : List Handle} {n : Node} {r : Read} (c : Cursor) (m : ℕ) → Standing (state ns ls ss c) → c .nodes < absent → length (links-of xs ++ links-of zs) ≡ 3 * m →
+    (3 * (c .links + m) ≤ length ls → Written (3 * c .links) (3 * (c .links + m)) (links-of xs ++ links-of zs) ls ls′) → length ls′ ≡ length ls →
+    Makes-list (length ls′) n (record { at = c .at; nodes = c .nodes; links = c .links + m; held = h }) r →
+    Tried (c .nodes) 26 (start ts a) (end ts (c .at)) (c .links ∷ length xs ∷ (c .links + length xs) ∷ length zs ∷ []) ns ns′ n →
+    Tries ts (Label.Row Form.Import) a (state ns ls ss (record { at = c .at; nodes = c .nodes; links = c .links; held = h })) xs zs ns′ ls′ ss r
+unfolding make put fill numbers write rule has-word
+tried {ls = ls} {xs = xs} {zs = zs} c m w b e g z q i =
+    let l = length-take-le (3 * c .links) ls (w .link-rows) in
     let k = length-append (take (3 * c .links) ls) (links-of xs) in
     let second : length (take (3 * c .links) ls ++ links-of xs) / 3 ≡ c .links + length xs = omega (arith, links-length xs) in
-    list-made m i g w (rw (link-number (c .links) ls h, second, append-assoc (take (3 * c .links) ls) (links-of xs) (links-of zs)))
+    list-tried c m w b refl (rw (link-number (c .links) ls (w .link-rows), second, append-assoc (take (3 * c .links) ls) (links-of xs) (links-of zs))) e g z q i
 
 -- the cursors after the word, the path and the names
 abbrev next : tie.After-known-told → Cursor
@@ -125,7 +127,7 @@ returns-3 c =
     let t = lead (to-lead d) in
     let r = listed-from (t .after) (steps d) in
     passed-list (c .enum-told3 .given .1) (c .before .before .before .before .before .before .before .before .bindings .ensures)
-    (λ x h. Refuses.in-node (Refuses.past-token (t .kind-is) (after (r .reading) h)))
+    (λ x h. Refuses.in-node (Refuses.past-token (t .kind-is) (after (r .reading) (Refuses.lowered h))))
 
 gather-requires : tie.Need-gather-requires
 gather-requires c κs =
@@ -143,20 +145,21 @@ import-requires c κs =
 returns-4 : tie.Need-returns-4
 unfolding paid spare
 returns-4 c =
-    let d = c .before .before .before .before .before .before .before .before .before .before .before .before .before .before in
+    let d = c .before .before .before .before .before .before .before .before .before .before .before .before .before .before .before in
     let p = to-start (to-lead (to-steps d)) .pre in
     let t = lead (to-lead (to-steps d)) in
     let l = listed-from (t .after) (steps (to-steps d)) in
     let m = words d in
-    let g = c .before .before .before .before .before .before .before .before .gather .ensures in
+    let g = c .before .before .before .before .before .before .before .before .before .gather .ensures in
     let path-long : middle (to-steps d) .held - (to-start (to-lead (to-steps d))) .args .cur .held ≡ length (l .items) = omega (arith, l .count) in
     let names-long : last d .held - middle (to-steps d) .held ≡ length (m .items) = omega (arith, m .count) in
-    let w = rw (held-since (ready-next p (t .kind-is) (λ e. omega arith) .within) (m .within) (omega (arith, l .count, m .count)) (rows-both l m)) at (g .links) in
-    let i = rw (c .before .before .before .before .before .end-at .ensures, t .node-is, g .cursor, path-long, names-long) at (c .before .before .before .import .ensures) in
+    let w = rw (g .cursor, held-since (ready-next p (t .kind-is) (λ e. omega arith) .within) (m .within) (omega (arith, l .count, m .count)) (rows-both l m)) at (g .links) in
+    let i = rw (c .before .before .before .before .before .before .end-at .ensures, t .node-is, g .cursor, path-long, names-long) at (c .before .before .before .before .import .ensures) in
+    let q = rw (g .cursor) at (c .made-list .ensures) in
     let u = m .within in
-    rw (c .made .ensures, g .cursor)
-    (answer p (record { pays = tt }) (u .at)
-    (labelled (taken (t .kind-is) (listed-both l m)) (made _ i (omega (arith, u .rows, u .at, u .roomy .nodes)) (omega (arith, u .links, u .at, u .roomy .links)) w)))
+    let e = length-append (links-of (l .items)) (links-of (m .items)) in
+    built p (record { pays = tt }) (u .at) (taken (t .kind-is) (listed-both l m))
+    (tried (last d) (last d .held - to-start (to-lead (to-steps d)) .args .cur .held) (u .stands) (free (p .lent) u) (omega (arith, e, links-length (l .items), links-length (m .items), l .count, m .count)) w (gathered-size g) q i)
 
 pub import-spec : {M : Type 1} → statement M
 import-spec =
@@ -169,9 +172,9 @@ import-spec =
     (λ c. let z = sizes (c .before .before .before .before .before .before .before .before .before .before) in omega arith)
     (λ c. let z = sizes (c .before .before .before .before .before .before .before .before .before .before) in omega arith)
     (λ c. let z = sizes (c .before .before .before .before .before .before .before .before .before .before) in omega arith) import-requires
-    (λ c κs. let d = c .before .before .before .before .before .before .before .before .before .before .before .before .before in gathered-free (to-start (to-lead (to-steps d)) .pre .lent)
-    (words d .within) (c .before .before .before .before .before .before .before .gather .ensures) .number)
-    (λ c. c .before .before .before .import .kept .0 ∙ kept (c .before .before .before .before .before .before .before .before .before .before .before .before .before .before) .nodes)
-    (λ c. c .before .before .before .before .before .before .before .before .gather .kept .0 ∙ kept
-    (c .before .before .before .before .before .before .before .before .before .before .before .before .before .before) .links)
-    (λ c. kept (c .before .before .before .before .before .before .before .before .before .before .before .before .before .before) .scratch) returns-4)
+    (λ c κs. let d = c .before .before .before .before .before .before .before .before .before .before .before .before .before .before in gathered-numbers (to-start (to-lead (to-steps d)) .pre .lent)
+    (words d .within) (c .before .before .before .before .before .before .before .before .gather .ensures))
+    (λ c. c .before .before .before .before .import .kept .0 ∙ kept (c .before .before .before .before .before .before .before .before .before .before .before .before .before .before .before) .nodes)
+    (λ c. c .before .before .before .before .before .before .before .before .before .gather .kept .0 ∙ kept
+    (c .before .before .before .before .before .before .before .before .before .before .before .before .before .before .before) .links)
+    (λ c. kept (c .before .before .before .before .before .before .before .before .before .before .before .before .before .before .before) .scratch) returns-4)

@@ -1,6 +1,6 @@
 -- A name, and what has to come after it.
 use borrow.Author.Needs.{needs}
-use Rattle.grammar.specs.Refusal.{Refuses}
+use Rattle.reading.proofs.Refusals as Refuses
 use Rattle.reading.proofs.Names.{separated}
 use Rattle.reading.proofs.Replies.{Told, success, passed}
 use Rattle.reading.proofs.lists.listed.Statement.{statement}

@@ -7,7 +7,7 @@ use Rattle.grammar.specs.Kaori.{path-name, dots, rules, kaori}
 use Rattle.grammar.specs.Kind.{Dot}
 use Rattle.grammar.specs.Label.{Label}
 use Rattle.grammar.specs.Phrase.{token, node, choice}
-use Rattle.grammar.specs.Refusal.{Refuses}
+use Rattle.reading.proofs.Refusals as Refuses
 use Rattle.grammar.specs.Token.{kind, count}
 use Rattle.grammar.proofs.Tables.{keyed, unkeyed}
 use Rattle.reading.specs.State.{state, Rooms}
@@ -73,7 +73,7 @@ returns-2 c =
     let b = started (c .before .before .before .before .before .before .before .before .before .before .before .before .before .before .before) in
     lists-passed-list (c .enum-told2 .given .1) (c .before .before .before .before .before .before .before .before .step2 .ensures)
     (λ x h. further (c .before .before .before .before .before .before .before .before .before .before .before .before .before .before .path .inv .grown _ (listed-first b) .reading)
-    (link d) (Refuses.past-token (dot d) h))
+    (link d) (Refuses.lowered (Refuses.past-token (dot d) h)))
 
 path-less : tie.Need-path-less Inv-path μ-path
 path-less c = let z = stepped c in omega (arith, z .past, z .within .at)

@@ -3,7 +3,7 @@ use borrow.Author.Needs.{needs}
 use native.Mathlib.Omega.{arith}
 use mathlib.Core.Path.{refl}
 use Rattle.grammar.specs.Kaori.{path-name, rules}
-use Rattle.grammar.specs.Refusal.{Refuses}
+use Rattle.reading.proofs.Refusals as Refuses
 use Rattle.grammar.proofs.Tables.{keyed, unkeyed}
 use Rattle.reading.proofs.Listings.{lists-nothing, listed-chosen, lists, lists-passed, hold-room, hold-number}
 use Rattle.reading.proofs.Names.{name-held}

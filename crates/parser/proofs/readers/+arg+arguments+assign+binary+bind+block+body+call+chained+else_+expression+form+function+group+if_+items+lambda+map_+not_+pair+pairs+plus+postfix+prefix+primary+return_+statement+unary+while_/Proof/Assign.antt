@@ -4,14 +4,15 @@ use borrow.Author.Needs.{needs}
 use native.Mathlib.Omega.{arith}
 use mathlib.Core.Path.{refl, sym, ap, _∙_}
 use Rattle.grammar.specs.Kaori.{above, kaori, rules, assigned}
-use Rattle.grammar.specs.Refusal.{Refuses}
 use Rattle.grammar.specs.Rows.{make, put, fill, numbers, write}
 use Rattle.grammar.specs.Rule.{rule}
+use Rattle.grammar.specs.Space.{has-word}
 use Rattle.grammar.proofs.Room.{paid, spare}
 use Rattle.grammar.proofs.Tables.{unkeyed}
-use Rattle.reading.proofs.Entering.{row-made}
-use Rattle.reading.proofs.Laws.{alone, joined, taken, ready-next, ready-on}
-use Rattle.reading.proofs.Replies.{Told, success, passed, answer, after-once}
+use Rattle.reading.proofs.Entering.{row-tried}
+use Rattle.reading.proofs.Laws.{plain, alone, taken, ready-next, ready-on}
+use Rattle.reading.proofs.Refusals as Refuses
+use Rattle.reading.proofs.Replies.{Told, success, passed, answer, after-once, built-once}
 use Rattle.reading.proofs.Taking.{free}
 use Rattle.parser.proofs.readers.+arg+arguments+assign+binary+bind+block+body+call+chained+else_+expression+form+function+group+if_+items+lambda+map_+not_+pair+pairs+plus+postfix+prefix+primary+return_+statement+unary+while_ as cycle
 use Rattle.parser.proofs.readers as readers
@@ -83,16 +84,15 @@ module _ (t : ℕ) where
       (Refuses.past-token k h))
 
   returns-4 : lts.Need-returns-4 claims (assign-at (just t)) assign.Post
-  unfolding kaori rules paid spare above make put fill numbers write rule
+  unfolding kaori rules paid spare above make put fill numbers write rule has-word
   returns-4 c =
       let d = c .before .before .before .before .before in
       let k = sym (to-kind-at d .kind-at .ensures) ∙ (to-else1 d) .if1 .left in
       let z = right d in
       let w = z .within in
-      rw (c .made .ensures)
-      (answer (to-start (to-left d) .pre .1) (record { pays = tt }) (w .at)
-      (joined (left (to-left d) .reading) (ap (kaori assigned) k) (taken k (z .reading))
-      (row-made (c .before .before .before .assign .ensures) (omega (arith, w .rows, w .at, w .roomy .nodes)) refl)))
+      let p = to-start (to-left d) .pre .1 in
+      built-once p (record { pays = tt }) (w .at) (left (to-left d) .reading) (ap (kaori assigned) k) (taken k (z .reading))
+      (row-tried w (p .lent) (λ h e. plain refl h) refl (c .made .ensures) (c .before .before .before .assign .ensures))
 
   pub spec : {M : Type 1} → lts.Closed claims (assign-at (just t)) assign.Post M
   spec =
@@ -100,7 +100,7 @@ module _ (t : ℕ) where
       (λ c κs. left c .within .at) (λ c. search needs) (λ c. search needs) (λ c. search needs) returns-2
       (λ c. let w = left (c .before .before) .within in omega (arith, w .at, to-start (c .before .before) .pre .1 .lent .whole .most)) expression-requires-2 (λ c. search needs)
       (λ c. search needs) (λ c. search needs) (λ c. search needs) (λ c. search needs) returns-3 (λ c κs. free (to-start (to-left (c .before)) .pre .1 .lent) (right (c .before) .within))
-      (λ c κs. let d = c .before .before .before .before in free (to-start (to-left d) .pre .1 .lent) (right d .within) .number)
+      (λ c κs. let d = c .before .before .before .before in free (to-start (to-left d) .pre .1 .lent) (right d .within))
       (λ c. let d = c .before .before .before .before .before in omega (arith, left (to-left d) .reading .rooms, right d .reading .rooms))
       (λ c. let d = c .before .before .before .before .before in omega (arith, left (to-left d) .reading .rooms, right d .reading .rooms))
       (λ c. let d = c .before .before .before .before .before in omega (arith, left (to-left d) .reading .rooms, right d .reading .rooms)) returns-4

@@ -3,14 +3,16 @@ use Prim.Native.Nat.{ℕ, _-_}
 use borrow.Author.Needs.{needs}
 use native.Mathlib.Omega.{arith}
 use mathlib.Core.Path.{refl, sym}
-use Rattle.grammar.specs.Refusal.{Refuses}
 use Rattle.grammar.specs.Token.{count}
+use Rattle.reading.specs.Parts.{Makes}
 use Rattle.reading.specs.State.{state}
 use Rattle.reading.proofs.Chains.{going-link}
-use Rattle.reading.proofs.Laws.{ready-next, ready-on, taken}
+use Rattle.reading.proofs.Entering.{made-of, unmade-of}
+use Rattle.reading.proofs.Laws.{ready-next, ready-on, taken, full-linked}
 use Rattle.parser.proofs.Levels.{Climbing, climbing-none, climbing-on, settled, refused-link, refused-operand}
-use Rattle.reading.proofs.Picks.{level-is, level-most, operator-goes, operator-form, operator-made}
-use Rattle.reading.proofs.Replies.{Told, success, passed, answered, further}
+use Rattle.reading.proofs.Picks.{level-is, level-most, operator-goes, operator-form, operator-tried}
+use Rattle.reading.proofs.Refusals as Refuses
+use Rattle.reading.proofs.Replies.{Told, success, passed, answered, refuse, further}
 use Rattle.reading.proofs.Taking.{free}
 use Rattle.parser.proofs.readers.+arg+arguments+assign+binary+bind+block+body+call+chained+else_+expression+form+function+group+if_+items+lambda+map_+not_+pair+pairs+plus+postfix+prefix+primary+return_+statement+unary+while_ as cycle
 use Rattle.parser.proofs.readers as readers
@@ -19,6 +21,7 @@ use cycle.Proof.Measures.{just, below, binary-at, prefix-at}
 use readers.binary.Reads as binary
 use readers.prefix.Reads as prefix
 use Rattle.reading.proofs.pieces.joined.Reads as joined-reads
+use Rattle.reading.proofs.pieces.no_room.Reads as no-room-reads
 use Rattle.token.proofs.list.kind_at.Reads as kind-at-reads
 use Rattle.token.proofs.ops.level_of.Reads as level-of-reads
 
@@ -42,6 +45,8 @@ module _ (t : ℕ) where
     binary.Post,
     joined-reads.Asked,
     joined-reads.Learnt,
+    no-room-reads.Asked,
+    no-room-reads.Learnt,
   )
 
   -- back from where one part is known to where the one before it is
@@ -104,15 +109,29 @@ module _ (t : ℕ) where
       passed (c .enum-told2 .given .1) (c .before .before .before .before .before .before .before .before .binary .ensures)
       (λ x h. refused-link l (further (i .grown _ (lead d .reading) .link _ l (level-is k e)) (operator-form k e (omega (arith, p .1 .0, l))) (Refuses.past-token refl h)))
 
+  returns-3 : lts.Need-returns-3 claims (binary-at (just t)) binary.Post Inv-loop μ-loop
+  returns-3 c =
+      let d = c .before .before .before .before .before .before .before in
+      let z = part d in
+      let p = to-start (to-loop d .before) .pre in
+      let i = to-loop d .loop .inv in
+      let k = to-kind-at d .kind-at .ensures in
+      let e = to-level-of d .level-of .ensures in
+      let l = to-else1 d .if1 .left in
+      rw (c .no-room .ensures)
+      (refuse (refused-link l
+      (full-linked (i .grown _ (lead (to-loop d .before) .reading) .link _ l (level-is k e)) (operator-form k e (omega (arith, p .1 .0, l))) (taken refl (z .reading))
+      (unmade-of (operator-tried k (z .within) (p .1 .1 .lent) (Makes.full (c .before .if2 .taken)) (c .before .before .before .before .before .joined .ensures))))))
+
   loop-less : lts.Need-loop-less claims (binary-at (just t)) binary.Post Inv-loop μ-loop
   loop-less c =
-      let d = c .before .before .before .before in
+      let d = c .before .before .before .before .before .before in
       let z = part d in
       omega (arith, z .past, to-loop d .loop .inv .within .at)
 
   loop-again : lts.Need-loop-again claims (binary-at (just t)) binary.Post Inv-loop μ-loop
   loop-again c =
-      let d = c .before .before .before .before in
+      let d = c .before .before .before .before .before .before in
       let z = part d in
       let p = to-start (to-loop d .before) .pre in
       let i = to-loop d .loop .inv in
@@ -121,10 +140,10 @@ module _ (t : ℕ) where
       let l = to-else1 d .if1 .left in
       climbing-on i (level-is k e) l (settled _ (omega (arith, p .1 .0, l)) (z .reading .reads))
       (going-link (i .within) (operator-form k e (omega (arith, p .1 .0, l))) (taken refl (z .reading))
-      (operator-made k (c .before .before .joined .ensures) (omega (arith, z .within .rows, z .within .at, z .within .roomy .nodes))) (z .within .at))
+      (made-of (operator-tried k (z .within) (p .1 .1 .lent) (Makes.made (c .if2 .left)) (c .before .before .before .before .joined .ensures))) (z .within .at))
 
-  returns-3 : lts.Need-returns-3 claims (binary-at (just t)) binary.Post Inv-loop μ-loop
-  returns-3 c =
+  returns-4 : lts.Need-returns-4 claims (binary-at (just t)) binary.Post Inv-loop μ-loop
+  returns-4 c =
       let z = lead (c .before .before .before .before) in
       let i = c .before .before .before .loop .inv in
       answered (record {
@@ -162,5 +181,8 @@ module _ (t : ℕ) where
             (c .before .before .before .before .before .before .before .before .before .before .before .before .before .before .before .before) .reading .rooms,
       ))
       returns-2 (λ c κs. free (to-start (to-loop (c .before) .before) .pre .1 .1 .lent) (part (c .before) .within))
-      (λ c. let d = c .before .before .before .before in omega (arith, free (to-start (to-loop d .before) .pre .1 .1 .lent) (part d .within) .number)) loop-less loop-again
-      (λ c. search needs) (λ c. search needs) (λ c. search needs) returns-3
+      (λ c κs. search needs) (λ c. omega (arith, part (c .before .before .before .before .before .before .before) .reading .rooms, to-loop (c .before .before .before .before .before .before .before) .loop .inv .rooms, lead (to-loop (c .before .before .before .before .before .before .before) .before) .reading .rooms))
+      (λ c. omega (arith, part (c .before .before .before .before .before .before .before) .reading .rooms, to-loop (c .before .before .before .before .before .before .before) .loop .inv .rooms, lead (to-loop (c .before .before .before .before .before .before .before) .before) .reading .rooms))
+      (λ c. omega (arith, part (c .before .before .before .before .before .before .before) .reading .rooms, to-loop (c .before .before .before .before .before .before .before) .loop .inv .rooms, lead (to-loop (c .before .before .before .before .before .before .before) .before) .reading .rooms)) returns-3
+      (λ c. let d = c .before .before .before .before .before .before in omega (arith, free (to-start (to-loop d .before) .pre .1 .1 .lent) (part d .within))) loop-less loop-again
+      (λ c. search needs) (λ c. search needs) (λ c. search needs) returns-4

@@ -6,29 +6,30 @@ use lib.Dec.{eqb}
 use mathlib.Core.Bool.{Bool, true, false, cond}
 use mathlib.Core.List.{List, [], _∷_}
 use mathlib.Core.Path.{_≡_, refl, ap}
-use Rattle.ast.specs.Inserted.{Inserted}
+use Rattle.ast.specs.Inserted.{Tried}
 use Rattle.ast.specs.declared.Node.{Node as Entry}
 use Rattle.grammar.specs.Handle.{Handle, upto}
 use Rattle.grammar.specs.Kaori.{Form, above}
 use Rattle.grammar.specs.Kind.{Let, Const}
 use Rattle.grammar.specs.Label.{Node, Label, number-of}
 use Rattle.grammar.specs.Phrase.{node, whole}
-use Rattle.grammar.specs.Refusal.{Refuses}
 use Rattle.grammar.specs.Rows.{make, put, fill, numbers, write}
 use Rattle.grammar.specs.Rule.{child, named, writes, rule}
+use Rattle.grammar.specs.Space.{has-word}
 use Rattle.grammar.specs.Token.{start as start-of}
 use Rattle.grammar.proofs.Room.{paid, spare}
 use Rattle.names.specs.Resolved.{names-of}
 use Rattle.reading.specs.Answers.{node-of, Answered}
-use Rattle.reading.specs.Parts.{grown, binding-node}
+use Rattle.reading.specs.Parts.{Makes, binding-node}
 use Rattle.reading.specs.Reading.{Reading}
 use Rattle.reading.specs.State.{State, state, written, Within, Ready}
 use Rattle.reading.specs.declared.Cursor.{Cursor}
 use Rattle.reading.specs.declared.Read.{Read}
 use Rattle.reading.proofs.Bound.{Paid}
 use Rattle.reading.proofs.Laws.{both, ready-on}
+use Rattle.reading.proofs.Refusals as Refuses
 use Rattle.reading.proofs.Replies.{Told, success, token-taken, passed, lacks, after}
-use Rattle.reading.proofs.Taking.{Taken-by, starts, past-at, led, led-refused, ready-led, free, inserted-as, row-answered, binder-low}
+use Rattle.reading.proofs.Taking.{Taken-by, starts, past-at, led, led-refused, ready-led, free, tried-as, row-answered, binder-low}
 use Rattle.parser.proofs.readers.+arg+arguments+assign+binary+bind+block+body+call+chained+else_+expression+form+function+group+if_+items+lambda+map_+not_+pair+pairs+plus+postfix+prefix+primary+return_+statement+unary+while_ as cycle
 use Rattle.parser.proofs.readers as readers
 use cycle.Lts-bind as lts
@@ -48,16 +49,22 @@ binds ts σ a b xs ys x y true is-const = refl
 binds ts σ a b xs ys x y false true = refl
 binds ts σ a b xs ys x y false false = refl
 
-bound-answered : (k : ℕ) {ts ns ns′ ls ss : List ℕ} {limit o i u v j f e : ℕ} {s : State} {p : Form} {c : Cursor} {n : Entry} {q : Read} → q ≡ Read.Node n (grown c) → Ready ts limit o s →
+bound-plain : (is-let is-const : Bool) → has-word (Label.Row (cond is-let Node.Variable (cond is-const Node.Constant Node.Ref))) ≡ false
+unfolding has-word
+bound-plain true is-const = refl
+bound-plain false true = refl
+bound-plain false false = refl
+
+bound-answered : (k : ℕ) {ts ns ns′ ls ss : List ℕ} {limit o i u v j f e : ℕ} {s : State} {p : Form} {c : Cursor} {n : Entry} {q : Read} → Makes n c q → Ready ts limit o s →
     Paid (node (Label.Row (binding-node k)) p) → Reading ts limit (whole p) o s (Handle.name i u v ∷ []) (Handle.node j f e ∷ []) (state ns ls ss c) → Within ts (state ns ls ss c) →
-    Inserted (c .nodes) (number-of (binding-node k)) (start-of ts (s .cursor .at)) e (i ∷ u ∷ v ∷ j ∷ []) ns ns′ n → Answered ts limit node-of (whole (node (Label.Row (binding-node k)) p)) o
+    Tried (c .nodes) (number-of (binding-node k)) (start-of ts (s .cursor .at)) e (i ∷ u ∷ v ∷ j ∷ []) ns ns′ n → Answered ts limit node-of (whole (node (Label.Row (binding-node k)) p)) o
     s ns′ ls ss q
 unfolding make put fill numbers write
 bound-answered k {ts} {ns} {ls = ls} {ss = ss} {i = i} {u} {v} {j} {f} {e} {s} {c = c} m h p r w z =
     let x : Handle = Handle.name i u v in
     let y : Handle = Handle.node j f e in
     row-answered m h p r w z
-    (ap (λ q. put (number-of (binding-node k)) q (written (state ns ls ss c))) (binds ts (names-of ts ss) (s .cursor .at) (c .at) (x ∷ []) (y ∷ []) x y (eqb k Let) (eqb k Const)))
+    (ap (λ q. put (number-of (binding-node k)) q (written (state ns ls ss c))) (binds ts (names-of ts ss) (s .cursor .at) (c .at) (x ∷ []) (y ∷ []) x y (eqb k Let) (eqb k Const))) (bound-plain (eqb k Let) (eqb k Const))
 
 module _ (t : ℕ) where
   abbrev claims : lts.Claims
@@ -155,7 +162,7 @@ module _ (t : ℕ) where
       let l = binder-low (p .0) in
       bound-answered (to-start (to-lead (to-word (to-sign d))) .args .kind) (c .made .ensures) (p .1) (record { pays = tt })
       (led k (both (word (to-word (to-sign d)) .reading) (led (sign (to-sign d)) (z .reading)))) (z .within)
-      (inserted-as (starts k) refl refl (c .before .before .before .bound .ensures))
+      (tried-as (starts k) refl refl (c .before .before .before .bound .ensures))
 
   pub spec : {M : Type 1} → lts.Closed claims (bind-at (just t)) bind.Post M
   spec =
@@ -166,7 +173,7 @@ module _ (t : ℕ) where
       (λ c. omega (arith, word (to-word (c .before .before .before .before .before .before .before .before .before .before .before .before)) .reading .rooms))
       (λ c. omega (arith, word (to-word (c .before .before .before .before .before .before .before .before .before .before .before .before)) .reading .rooms)) returns-4
       (λ c κs. free (to-start (to-lead (to-word (to-sign (c .before)))) .pre .1 .1 .lent) (right (c .before) .within))
-      (λ c κs. let d = c .before .before .before .before in free (to-start (to-lead (to-word (to-sign d))) .pre .1 .1 .lent) (right d .within) .number)
+      (λ c κs. let d = c .before .before .before .before in free (to-start (to-lead (to-word (to-sign d))) .pre .1 .1 .lent) (right d .within))
       (λ c. let d = c .before .before .before .before .before in omega (arith, word (to-word (to-sign d)) .reading .rooms, right d .reading .rooms))
       (λ c. let d = c .before .before .before .before .before in omega (arith, word (to-word (to-sign d)) .reading .rooms, right d .reading .rooms))
       (λ c. let d = c .before .before .before .before .before in omega (arith, word (to-word (to-sign d)) .reading .rooms, right d .reading .rooms)) returns-5

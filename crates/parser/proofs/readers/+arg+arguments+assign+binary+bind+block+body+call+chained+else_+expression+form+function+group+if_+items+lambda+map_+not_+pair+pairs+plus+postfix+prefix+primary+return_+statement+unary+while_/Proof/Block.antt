@@ -2,13 +2,13 @@
 use Prim.Native.Nat.{ℕ}
 use borrow.Author.Needs.{needs}
 use native.Mathlib.Omega.{arith}
-use Rattle.grammar.specs.Refusal.{Refuses}
 use Rattle.grammar.proofs.Room.{paid, spare}
-use Rattle.reading.proofs.Laws.{opened, labelled, opened-deep}
-use Rattle.reading.proofs.Replies.{token-taken, filled, refuse, lacks, passed-fill, inside, after}
+use Rattle.reading.proofs.Laws.{ready-deep, opened-deep}
+use Rattle.reading.proofs.Refusals as Refuses
+use Rattle.reading.proofs.Replies.{token-taken, filled, refuse, lacks, passed-fill, after, built, nested-answer}
 use Rattle.reading.proofs.Taking.{Taken-by, led, ready-led, opened-led, led-refused, starts, past-at}
 use Rattle.reading.proofs.Gathering.{Fill-told, Kept-fill, Ready-at, Within-at, token-within, token-closes, token-end, token-held, fill-kept, fill-reading}
-use Rattle.reading.proofs.Gathering.{kept-as, kept-under, gather-asks, gathered-free, numbers-fit, gathered-answer, block-made}
+use Rattle.reading.proofs.Gathering.{kept-as, kept-under, gather-asks, gathered-free, gathered-numbers, numbers-fit, block-tried}
 use Rattle.parser.proofs.readers.+arg+arguments+assign+binary+bind+block+body+call+chained+else_+expression+form+function+group+if_+items+lambda+map_+not_+pair+pairs+plus+postfix+prefix+primary+return_+statement+unary+while_ as cycle
 use Rattle.parser.proofs.readers as readers
 use cycle.Lts-block as lts
@@ -18,7 +18,7 @@ use readers.items.Reads as items
 use Rattle.ast.proofs.block.Reads as block-reads
 use Rattle.reading.proofs.lists.consume.Reads as consume-reads
 use Rattle.reading.proofs.lists.gather.Reads as gather-reads
-use Rattle.reading.proofs.pieces.made.Reads as made-reads
+use Rattle.reading.proofs.pieces.made_list.Reads as made-list-reads
 
 module _ (t : ℕ) where
   abbrev claims : lts.Claims
@@ -31,8 +31,8 @@ module _ (t : ℕ) where
     gather-reads.Learnt,
     block-reads.Asked,
     block-reads.Learnt,
-    made-reads.Asked,
-    made-reads.Learnt,
+    made-list-reads.Asked,
+    made-list-reads.Learnt,
   )
 
   -- back from where one part is known to where the one before it is
@@ -78,7 +78,7 @@ module _ (t : ℕ) where
   returns c = refuse (Refuses.too-deep (c .if1 .taken))
 
   returns-2 : lts.Need-returns-2 claims (block-at (just t)) block.Post
-  returns-2 c = lacks (c .enum-told .given .1) (c .before .before .consume .ensures) (λ n. inside (c .before .before .before .if1 .left) (Refuses.in-node (Refuses.missing n)))
+  returns-2 c = lacks (c .enum-told .given .1) (c .before .before .consume .ensures) (λ n. Refuses.inside (c .before .before .before .if1 .left) (Refuses.in-node (Refuses.missing n)))
 
   items-requires : lts.Need-items-requires claims (block-at (just t)) block.Post
   items-requires c κs = (
@@ -98,24 +98,26 @@ module _ (t : ℕ) where
   returns-3 c =
       let d = c .before .before .before .before .before .before .before .before .before .before .before .before in
       passed-fill (c .enum-told2 .given .1) (c .before .before .before .before .before .before .before .before .items .ensures)
-      (λ x h. inside (to-else1 d .if1 .left) (Refuses.in-node (led-refused (lead d) (Refuses.in-first h))))
+      (λ x h. Refuses.inside (to-else1 d .if1 .left) (Refuses.in-node (led-refused (lead d) (Refuses.in-first h))))
 
   returns-4 : lts.Need-returns-4 claims (block-at (just t)) block.Post
   returns-4 c =
       lacks (c .enum-told3 .given .1) (c .before .before .consume2 .ensures)
-      (λ n. inside (to-else1 (to-lead (c .before .before .before)) .if1 .left)
+      (λ n. Refuses.inside (to-else1 (to-lead (c .before .before .before)) .if1 .left)
       (Refuses.in-node (led-refused (lead (to-lead (c .before .before .before))) (after (statements (c .before .before .before) .reading) (Refuses.missing n)))))
 
   returns-5 : lts.Need-returns-5 claims (block-at (just t)) block.Post
   unfolding paid spare
   returns-5 c =
-      let d = c .before .before .before .before .before .before .before .before .before .before .before in
-      let g = c .before .before .before .before .before .before .before .gather .ensures in
+      let d = c .before .before .before .before .before .before .before .before .before .before .before .before in
+      let g = c .before .before .before .before .before .before .before .before .gather .ensures in
       let l = fill-reading (token-held (lead (to-lead (to-statements d)))) (statements (to-statements d)) in
       let w = within d in
-      gathered-answer (c .made .ensures) (to-start (to-lead (to-statements d)) .pre .1) (record { pays = tt }) w g
-      (opened (labelled (led (lead (to-lead (to-statements d))) (token-closes (close d) (omega (arith, to-else1 (to-lead (to-statements d)) .if1 .left)) l))
-      (block-made w g (starts (lead (to-lead (to-statements d)))) (kept d) (token-end (close d)) (statements (to-statements d) .tail) (c .before .before .before .block .ensures))))
+      let p = to-start (to-lead (to-statements d)) .pre .1 in
+      let h = to-else1 (to-lead (to-statements d)) .if1 .left in
+      nested-answer _ h
+      (built (ready-deep p h) (record { pays = tt }) (w .at) (led (lead (to-lead (to-statements d))) (token-closes (close d) (omega (arith, h)) l))
+      (block-tried w (p .lent) g (starts (lead (to-lead (to-statements d)))) (c .made-list .ensures) (kept d) (token-end (close d)) (statements (to-statements d) .tail) (c .before .before .before .before .block .ensures)))
 
   pub spec : {M : Type 1} → lts.Closed claims (block-at (just t)) block.Post M
   spec =
@@ -127,8 +129,8 @@ module _ (t : ℕ) where
       (λ c. let d = c .before .before .before .before .before .before .before in omega (arith, numbers-fit (asked (to-lead (to-statements d)) .lent) (within d) .1))
       (λ c κs. let d = c .before .before .before .before .before .before .before in gathered-free (asked (to-lead (to-statements d)) .lent) (within d)
       (c .before .before .before .gather .ensures))
-      (λ c κs. let d = c .before .before .before .before .before .before .before .before .before .before in gathered-free (asked (to-lead (to-statements d)) .lent) (within d)
-      (c .before .before .before .before .before .before .gather .ensures) .number)
-      (λ c. omega (arith, statements (to-statements (c .before .before .before .before .before .before .before .before .before .before .before)) .reading .rooms))
-      (λ c. omega (arith, statements (to-statements (c .before .before .before .before .before .before .before .before .before .before .before)) .reading .rooms))
-      (λ c. omega (arith, statements (to-statements (c .before .before .before .before .before .before .before .before .before .before .before)) .reading .rooms)) returns-5
+      (λ c κs. let d = c .before .before .before .before .before .before .before .before .before .before .before in gathered-numbers (asked (to-lead (to-statements d)) .lent) (within d)
+      (c .before .before .before .before .before .before .before .gather .ensures))
+      (λ c. omega (arith, statements (to-statements (c .before .before .before .before .before .before .before .before .before .before .before .before)) .reading .rooms))
+      (λ c. omega (arith, statements (to-statements (c .before .before .before .before .before .before .before .before .before .before .before .before)) .reading .rooms))
+      (λ c. omega (arith, statements (to-statements (c .before .before .before .before .before .before .before .before .before .before .before .before)) .reading .rooms)) returns-5

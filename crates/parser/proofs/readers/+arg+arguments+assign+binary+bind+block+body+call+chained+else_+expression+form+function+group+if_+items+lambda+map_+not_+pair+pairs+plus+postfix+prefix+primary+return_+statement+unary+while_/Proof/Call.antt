@@ -6,13 +6,13 @@ use mathlib.Core.Path.{_≡_, ap}
 use Rattle.grammar.specs.Kaori.{kaori, rules, row, function-call as form, calls}
 use Rattle.grammar.specs.Kind.{LeftParen}
 use Rattle.grammar.specs.Label.{Node}
-use Rattle.grammar.specs.Refusal.{Refuses}
+use Rattle.reading.proofs.Refusals as Refuses
 use Rattle.reading.proofs.Replies.{token-taken, listed, after, further}
-use Rattle.reading.proofs.Chains.{going-link, goes, stops-lacking, stopped-list}
+use Rattle.reading.proofs.Chains.{tried, stops-lacking, stopped-list}
 use Rattle.reading.proofs.Taking.{Taken-by, led, ready-led, led-refused, starts, past-at, opened-led}
 use Rattle.reading.proofs.Listings.{Held}
 use Rattle.reading.proofs.Gathering.{Kept-told, Ready-at, Within-at, token-within, token-closes, token-end, token-held, list-kept, list-reading, kept-as}
-use Rattle.reading.proofs.Gathering.{kept-under, gather-asks, gathered-free, gathered-at, numbers-fit, call-made}
+use Rattle.reading.proofs.Gathering.{kept-under, gather-asks, gathered-free, gathered-numbers, numbers-fit, call-tried}
 use Rattle.parser.proofs.readers.+arg+arguments+assign+binary+bind+block+body+call+chained+else_+expression+form+function+group+if_+items+lambda+map_+not_+pair+pairs+plus+postfix+prefix+primary+return_+statement+unary+while_ as cycle
 use Rattle.parser.proofs.readers as readers
 use cycle.Lts-call as lts
@@ -22,7 +22,7 @@ use readers.call.Reads as call
 use Rattle.reading.proofs.lists.consume.Reads as consume-reads
 use Rattle.ast.proofs.function_call.Reads as function-call-reads
 use Rattle.reading.proofs.lists.gather.Reads as gather-reads
-use Rattle.reading.proofs.pieces.made.Reads as made-reads
+use Rattle.reading.proofs.pieces.made_list.Reads as made-list-reads
 
 -- a `(` after a callee is a call
 call-link : {x : ℕ} → x ≡ LeftParen → kaori calls x ≡ row Node.FunctionCall form
@@ -40,8 +40,8 @@ module _ (t : ℕ) where
     gather-reads.Learnt,
     function-call-reads.Asked,
     function-call-reads.Learnt,
-    made-reads.Asked,
-    made-reads.Learnt,
+    made-list-reads.Asked,
+    made-list-reads.Learnt,
   )
 
   -- back from where one part is known to where the one before it is
@@ -106,15 +106,14 @@ module _ (t : ℕ) where
 
   returns-4 : lts.Need-returns-4 claims (call-at (just t)) call.Post
   returns-4 c =
-      let d = c .before .before .before .before .before .before .before .before .before .before .before in
-      let g = c .before .before .before .before .before .before .before .gather .ensures in
+      let d = c .before .before .before .before .before .before .before .before .before .before .before .before in
+      let g = c .before .before .before .before .before .before .before .before .gather .ensures in
       let l = list-reading (token-held (lead (to-lead (to-items d)))) (items (to-items d)) in
       let w = within d in
-      rw (c .made .ensures)
-      (goes (omega (arith, gathered-at g, past-at (close d), past-at (lead (to-lead (to-items d))), items (to-items d) .past))
-      (going-link (to-start (to-lead (to-items d)) .pre .1 .1 .within) (call-link (to-start (to-lead (to-items d)) .pre .1 .0))
-      (led (lead (to-lead (to-items d))) (token-closes (close d) (to-start (to-lead (to-items d)) .pre .1 .1 .deep) l))
-      (call-made w g (starts (lead (to-lead (to-items d)))) (kept d) (token-end (close d)) (c .before .before .before .function-call .ensures)) (w .at)))
+      let p = to-start (to-lead (to-items d)) .pre .1 in
+      tried (p .1 .within) (call-link (p .0)) (led (lead (to-lead (to-items d))) (token-closes (close d) (p .1 .deep) l)) (w .at)
+      (omega (arith, past-at (close d), past-at (lead (to-lead (to-items d))), items (to-items d) .past))
+      (call-tried w (p .1 .lent) g (starts (lead (to-lead (to-items d)))) (c .made-list .ensures) (kept d) (token-end (close d)) (c .before .before .before .before .function-call .ensures))
 
   pub spec : {M : Type 1} → lts.Closed claims (call-at (just t)) call.Post M
   spec =
@@ -126,8 +125,8 @@ module _ (t : ℕ) where
       (λ c. let d = c .before .before .before .before .before .before .before in omega (arith, numbers-fit (asked (to-lead (to-items d)) .lent) (within d) .1))
       (λ c κs. let d = c .before .before .before .before .before .before .before in gathered-free (asked (to-lead (to-items d)) .lent) (within d)
       (c .before .before .before .gather .ensures))
-      (λ c κs. let d = c .before .before .before .before .before .before .before .before .before .before in gathered-free (asked (to-lead (to-items d)) .lent) (within d)
-      (c .before .before .before .before .before .before .gather .ensures) .number)
-      (λ c. omega (arith, items (to-items (c .before .before .before .before .before .before .before .before .before .before .before)) .reading .rooms))
-      (λ c. omega (arith, items (to-items (c .before .before .before .before .before .before .before .before .before .before .before)) .reading .rooms))
-      (λ c. omega (arith, items (to-items (c .before .before .before .before .before .before .before .before .before .before .before)) .reading .rooms)) returns-4
+      (λ c κs. let d = c .before .before .before .before .before .before .before .before .before .before .before in gathered-numbers (asked (to-lead (to-items d)) .lent) (within d)
+      (c .before .before .before .before .before .before .before .gather .ensures))
+      (λ c. omega (arith, items (to-items (c .before .before .before .before .before .before .before .before .before .before .before .before)) .reading .rooms))
+      (λ c. omega (arith, items (to-items (c .before .before .before .before .before .before .before .before .before .before .before .before)) .reading .rooms))
+      (λ c. omega (arith, items (to-items (c .before .before .before .before .before .before .before .before .before .before .before .before)) .reading .rooms)) returns-4

@@ -2,9 +2,9 @@
 use Prim.Native.Nat.{ℕ}
 use borrow.Author.Needs.{needs}
 use native.Mathlib.Omega.{arith}
-use Rattle.grammar.specs.Refusal.{Refuses}
 use Rattle.reading.proofs.Laws.{opened, ready-deep}
-use Rattle.reading.proofs.Replies.{mapped, refuse, inside}
+use Rattle.reading.proofs.Refusals as Refuses
+use Rattle.reading.proofs.Replies.{mapped, refuse}
 use Rattle.parser.proofs.readers.+arg+arguments+assign+binary+bind+block+body+call+chained+else_+expression+form+function+group+if_+items+lambda+map_+not_+pair+pairs+plus+postfix+prefix+primary+return_+statement+unary+while_ as cycle
 use Rattle.parser.proofs.readers as readers
 use cycle.Lts-expression as lts
@@ -25,7 +25,7 @@ module _ (t : ℕ) where
   returns-2 : lts.Need-returns-2 claims (expression-at (just t)) expression.Post
   returns-2 c =
       mapped _ (omega arith) (c .before .before .before .before .before .before .binary .ensures) (λ n d r. opened r)
-      (λ x h. inside (c .before .before .before .before .before .before .before .before .before .before .if1 .left) h)
+      (λ x h. Refuses.inside (c .before .before .before .before .before .before .before .before .before .before .if1 .left) h)
 
   pub spec : {M : Type 1} → lts.Closed claims (expression-at (just t)) expression.Post M
   spec =

@@ -3,9 +3,9 @@ use Prim.Native.Nat.{ℕ}
 use borrow.Author.Needs.{needs}
 use mathlib.Core.Logic.{inl, inr, ⊎-elim}
 use mathlib.Core.Path.{ap, sym, _∙_}
-use Rattle.grammar.specs.Refusal.{Refuses}
 use Rattle.reading.specs.Parts.{form-of}
 use Rattle.parser.proofs.Forms.{binder-of, keyword-of, keyword-single, form-binding, form-single, form-other}
+use Rattle.reading.proofs.Refusals as Refuses
 use Rattle.reading.proofs.Replies.{refuse}
 use Rattle.parser.proofs.readers.+arg+arguments+assign+binary+bind+block+body+call+chained+else_+expression+form+function+group+if_+items+lambda+map_+not_+pair+pairs+plus+postfix+prefix+primary+return_+statement+unary+while_ as cycle
 use Rattle.parser.proofs.readers as readers

@@ -4,14 +4,14 @@ use borrow.Author.Needs.{needs}
 use native.Mathlib.Omega.{arith}
 use mathlib.Core.Logic.{inl, inr}
 use mathlib.Core.Path.{refl, _∙_}
-use Rattle.grammar.specs.Refusal.{Refuses}
 use Rattle.grammar.proofs.Room.{paid, spare}
-use Rattle.reading.proofs.Laws.{both, both-first, labelled, ready-on}
+use Rattle.reading.proofs.Laws.{both, both-first, ready-on}
 use Rattle.reading.proofs.Listings.{Held, lower}
-use Rattle.reading.proofs.Replies.{token-taken, listed, Told, success, lacks, passed, passed-list, after}
+use Rattle.reading.proofs.Refusals as Refuses
+use Rattle.reading.proofs.Replies.{token-taken, listed, Told, success, lacks, passed, passed-list, after, built}
 use Rattle.reading.proofs.Taking.{Taken-by, led, ready-led, led-refused, starts, past-at, opened-led}
 use Rattle.reading.proofs.Gathering.{Kept-told, Ready-at, Within-at, token-within, token-closes, token-held, list-kept, list-reading, kept-as, kept-on}
-use Rattle.reading.proofs.Gathering.{kept-under, gather-asks, gathered-free, numbers-fit, gathered-answer, function-made}
+use Rattle.reading.proofs.Gathering.{kept-under, gather-asks, gathered-free, gathered-numbers, numbers-fit, function-tried}
 use Rattle.parser.proofs.readers.+arg+arguments+assign+binary+bind+block+body+call+chained+else_+expression+form+function+group+if_+items+lambda+map_+not_+pair+pairs+plus+postfix+prefix+primary+return_+statement+unary+while_ as cycle
 use Rattle.parser.proofs.readers as readers
 use cycle.Lts-function as lts
@@ -23,7 +23,7 @@ use Rattle.ast.proofs.function.Reads as function-reads
 use Rattle.reading.proofs.lists.gather.Reads as gather-reads
 use Rattle.reading.proofs.lists.name.Reads as name-reads
 use Rattle.reading.proofs.lists.names.Reads as names-reads
-use Rattle.reading.proofs.pieces.made.Reads as made-reads
+use Rattle.reading.proofs.pieces.made_list.Reads as made-list-reads
 
 module _ (t : ℕ) where
   abbrev claims : lts.Claims
@@ -40,8 +40,8 @@ module _ (t : ℕ) where
     gather-reads.Learnt,
     function-reads.Asked,
     function-reads.Learnt,
-    made-reads.Asked,
-    made-reads.Learnt,
+    made-list-reads.Asked,
+    made-list-reads.Learnt,
   )
 
   -- back from where one part is known to where the one before it is
@@ -177,13 +177,13 @@ module _ (t : ℕ) where
       (led (paren (to-paren (to-names-from-close d)))
       (token-closes (close d) (to-start (to-lead (to-word (to-paren (to-names-from-close d)))) .pre .1 .deep) (names (to-names-from-close d) .reading))) in
       passed (c .enum-told6 .given .1) (c .before .before .before .before .before .before .before .before .block .ensures)
-      (λ x h. Refuses.in-node (led-refused (lead (to-lead (to-word (to-paren (to-names-from-close d))))) (after f h)))
+      (λ x h. Refuses.in-node (led-refused (lead (to-lead (to-word (to-paren (to-names-from-close d))))) (after f (Refuses.lowered h))))
 
   returns-7 : lts.Need-returns-7 claims (function-at (just t)) function.Post
   unfolding paid spare
   returns-7 c =
-      let d = c .before .before .before .before .before .before .before .before .before .before .before in
-      let g = c .before .before .before .before .before .before .before .gather .ensures in
+      let d = c .before .before .before .before .before .before .before .before .before .before .before .before in
+      let g = c .before .before .before .before .before .before .before .before .gather .ensures in
       let z = part d in
       let l = list-reading
       (token-held (paren (to-paren (to-names-from-close (to-close d)))) ∙ word (to-word (to-paren (to-names-from-close (to-close d)))) .reading .holds ∙ token-held
@@ -192,9 +192,9 @@ module _ (t : ℕ) where
       (led (paren (to-paren (to-names-from-close (to-close d))))
       (token-closes (close (to-close d)) (to-start (to-lead (to-word (to-paren (to-names-from-close (to-close d))))) .pre .1 .deep) l)) in
       let b = lower (to-start (to-lead (to-word (to-paren (to-names-from-close (to-close d))))) .args .cur .held) (kept-under (held (to-close d))) (z .reading) in
-      gathered-answer (c .made .ensures) (to-start (to-lead (to-word (to-paren (to-names-from-close (to-close d))))) .pre .1) (record { pays = tt }) (z .within) g
-      (labelled (led (lead (to-lead (to-word (to-paren (to-names-from-close (to-close d)))))) (both-first f b))
-      (function-made (z .within) g (starts (lead (to-lead (to-word (to-paren (to-names-from-close (to-close d))))))) (kept d) (c .before .before .before .function .ensures)))
+      let p = to-start (to-lead (to-word (to-paren (to-names-from-close (to-close d))))) .pre .1 in
+      built p (record { pays = tt }) (z .within .at) (led (lead (to-lead (to-word (to-paren (to-names-from-close (to-close d)))))) (both-first f b))
+      (function-tried (z .within) (p .lent) g (starts (lead (to-lead (to-word (to-paren (to-names-from-close (to-close d))))))) (c .made-list .ensures) (kept d) (c .before .before .before .before .function .ensures))
 
   pub spec : {M : Type 1} → lts.Closed claims (function-at (just t)) function.Post M
   spec =
@@ -224,12 +224,12 @@ module _ (t : ℕ) where
       (arith, numbers-fit (asked (to-lead (to-word (to-paren (to-names-from-close (to-close d))))) .lent) (part d .within) .1))
       (λ c κs. let d = c .before .before .before .before .before .before .before in gathered-free (asked (to-lead (to-word (to-paren (to-names-from-close (to-close d))))) .lent)
       (part d .within) (c .before .before .before .gather .ensures))
-      (λ c κs. let d = c .before .before .before .before .before .before .before .before .before .before in gathered-free
-      (asked (to-lead (to-word (to-paren (to-names-from-close (to-close d))))) .lent) (part d .within) (c .before .before .before .before .before .before .gather .ensures) .number)
-      (λ c. let d = c .before .before .before .before .before .before .before .before .before .before .before in omega
+      (λ c κs. let d = c .before .before .before .before .before .before .before .before .before .before .before in gathered-numbers
+      (asked (to-lead (to-word (to-paren (to-names-from-close (to-close d))))) .lent) (part d .within) (c .before .before .before .before .before .before .before .gather .ensures))
+      (λ c. let d = c .before .before .before .before .before .before .before .before .before .before .before .before in omega
       (arith, word (to-word (to-paren (to-names-from-close (to-close d)))) .reading .rooms, names (to-names-from-close (to-close d)) .reading .rooms, part d .reading .rooms))
-      (λ c. let d = c .before .before .before .before .before .before .before .before .before .before .before in omega
+      (λ c. let d = c .before .before .before .before .before .before .before .before .before .before .before .before in omega
       (arith, word (to-word (to-paren (to-names-from-close (to-close d)))) .reading .rooms, names (to-names-from-close (to-close d)) .reading .rooms, part d .reading .rooms))
-      (λ c. let d = c .before .before .before .before .before .before .before .before .before .before .before in omega
+      (λ c. let d = c .before .before .before .before .before .before .before .before .before .before .before .before in omega
       (arith, word (to-word (to-paren (to-names-from-close (to-close d)))) .reading .rooms, names (to-names-from-close (to-close d)) .reading .rooms, part d .reading .rooms))
       returns-7

@@ -3,9 +3,9 @@ use Prim.Native.Nat.{ℕ}
 use borrow.Author.Needs.{needs}
 use native.Mathlib.Omega.{arith}
 use Rattle.grammar.specs.Kaori.{above}
-use Rattle.grammar.specs.Refusal.{Refuses}
 use Rattle.grammar.proofs.Room.{paid, spare}
 use Rattle.reading.proofs.Laws.{nothing, both, ready-on}
+use Rattle.reading.proofs.Refusals as Refuses
 use Rattle.reading.proofs.Replies.{Told, success, token-taken, passed, answer, lacks, after}
 use Rattle.reading.proofs.Taking.{Taken-by, past-at, led, led-refused, ready-led}
 use Rattle.parser.proofs.readers.+arg+arguments+assign+binary+bind+block+body+call+chained+else_+expression+form+function+group+if_+items+lambda+map_+not_+pair+pairs+plus+postfix+prefix+primary+return_+statement+unary+while_ as cycle

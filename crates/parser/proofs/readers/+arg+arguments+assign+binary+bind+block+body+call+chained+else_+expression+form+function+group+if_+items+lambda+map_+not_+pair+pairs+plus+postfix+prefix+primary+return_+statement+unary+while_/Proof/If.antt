@@ -4,13 +4,13 @@ use borrow.Author.Needs.{needs}
 use native.Mathlib.Omega.{arith}
 use mathlib.Core.Path.{refl, sym, _∙_}
 use Rattle.grammar.specs.Kaori.{rules, above, otherwise}
-use Rattle.grammar.specs.Refusal.{Refuses}
 use Rattle.grammar.proofs.Room.{paid, spare}
 use Rattle.grammar.proofs.Tables.{keyed, unkeyed}
-use Rattle.reading.proofs.Laws.{nothing, both, both-more, opened, chosen, labelled, taken, ready-next, ready-deep, ready-on}
-use Rattle.reading.proofs.Replies.{token-taken, Told, success, refuse, answer, lacks, passed, inside, after}
+use Rattle.reading.proofs.Laws.{nothing, both, both-more, chosen, taken, ready-next, ready-deep, ready-on}
+use Rattle.reading.proofs.Refusals as Refuses
+use Rattle.reading.proofs.Replies.{token-taken, Told, success, refuse, lacks, passed, after, built, nested-answer}
 use Rattle.reading.proofs.Taking.{Taken-by, led, ready-led, led-refused, starts, past-at, free}
-use Rattle.reading.proofs.Gathering.{Ready-at, if-made, else-made}
+use Rattle.reading.proofs.Gathering.{Ready-at, if-tried, else-tried}
 use Rattle.parser.proofs.readers.+arg+arguments+assign+binary+bind+block+body+call+chained+else_+expression+form+function+group+if_+items+lambda+map_+not_+pair+pairs+plus+postfix+prefix+primary+return_+statement+unary+while_ as cycle
 use Rattle.parser.proofs.readers as readers
 use cycle.Lts-if_ as lts
@@ -96,7 +96,7 @@ module _ (t : ℕ) where
   returns c = refuse (Refuses.too-deep (c .if1 .taken))
 
   returns-2 : lts.Need-returns-2 claims (if--at (just t)) if-.Post
-  returns-2 c = lacks (c .enum-told .given .1) (c .before .before .consume .ensures) (λ n. inside (c .before .before .before .if1 .left) (Refuses.in-node (Refuses.missing n)))
+  returns-2 c = lacks (c .enum-told .given .1) (c .before .before .consume .ensures) (λ n. Refuses.inside (c .before .before .before .if1 .left) (Refuses.in-node (Refuses.missing n)))
 
   expression-requires : lts.Need-expression-requires claims (if--at (just t)) if-.Post
   expression-requires c κs = (
@@ -115,7 +115,7 @@ module _ (t : ℕ) where
   returns-3 c =
       let d = c .before .before .before .before .before .before .before .before .before .before .before .before in
       passed (c .enum-told2 .given .1) (c .before .before .before .before .before .before .before .before .expression .ensures)
-      (λ x h. inside (to-else1 d .if1 .left) (Refuses.in-node (led-refused (lead d) (Refuses.in-first h))))
+      (λ x h. Refuses.inside (to-else1 d .if1 .left) (Refuses.in-node (led-refused (lead d) (Refuses.in-first h))))
 
   block-requires : lts.Need-block-requires claims (if--at (just t)) if-.Post
   block-requires c κs = (
@@ -136,7 +136,7 @@ module _ (t : ℕ) where
   returns-4 c =
       let d = c .before .before .before .before .before .before .before .before .before .before .before .before in
       passed (c .enum-told3 .given .1) (c .before .before .before .before .before .before .before .before .block .ensures)
-      (λ x h. inside (to-else1 (to-lead d) .if1 .left) (Refuses.in-node (led-refused (lead (to-lead d)) (after (condition d .reading) (Refuses.in-first h)))))
+      (λ x h. Refuses.inside (to-else1 (to-lead d) .if1 .left) (Refuses.in-node (led-refused (lead (to-lead d)) (after (condition d .reading) (Refuses.in-first h)))))
 
   returns-5 : lts.Need-returns-5 claims (if--at (just t)) if-.Post
   unfolding paid spare above rules
@@ -144,12 +144,12 @@ module _ (t : ℕ) where
       let d = c .before .before .before .before .before .before .before in
       let z = body d in
       let e = unkeyed otherwise _ refl (λ k. c .before .before .before .before .before .if2 .taken (c .before .before .before .before .before .before .kind-at .ensures ∙ k)) in
-      rw (c .made .ensures)
-      (answer (to-start (to-lead (to-condition d)) .pre .1) (record { pays = tt }) (z .within .at)
-      (opened (labelled
-      (led (lead (to-lead (to-condition d)))
-      (both-more (condition (to-condition d) .reading) (both (z .reading) (chosen e (nothing (omega (arith, to-else1 (to-lead (to-condition d)) .if1 .left)))))))
-      (if-made (z .within) (starts (lead (to-lead (to-condition d)))) (c .before .before .before .if- .ensures)))))
+      let p = to-start (to-lead (to-condition d)) .pre .1 in
+      let h = to-else1 (to-lead (to-condition d)) .if1 .left in
+      nested-answer _ h
+      (built (ready-deep p h) (record { pays = tt }) (z .within .at)
+      (led (lead (to-lead (to-condition d))) (both-more (condition (to-condition d) .reading) (both (z .reading) (chosen e (nothing (omega (arith, h)))))))
+      (if-tried (z .within) (p .lent) (starts (lead (to-lead (to-condition d)))) (c .made .ensures) (c .before .before .before .if- .ensures)))
 
   else--requires : lts.Need-else--requires claims (if--at (just t)) if-.Post
   else--requires c κs =
@@ -176,7 +176,7 @@ module _ (t : ℕ) where
       let k = sym (c .before .before .before .before .before .before .before .before .before .before .before .before .before .kind-at .ensures) ∙
       c .before .before .before .before .before .before .before .before .before .before .before .before .if2 .left in
       passed (c .enum-told4 .given .1) (c .before .before .before .before .before .before .before .before .else- .ensures)
-      (λ x h. inside (to-else1 (to-lead (to-condition d)) .if1 .left)
+      (λ x h. Refuses.inside (to-else1 (to-lead (to-condition d)) .if1 .left)
       (Refuses.in-node
       (led-refused (lead (to-lead (to-condition d)))
       (after (condition (to-condition d) .reading) (after (body d .reading) (Refuses.in-choice (keyed otherwise _ refl k) (Refuses.past-token k h)))))))
@@ -187,12 +187,13 @@ module _ (t : ℕ) where
       let d = c .before .before .before .before .before in
       let z = other d in
       let k = sym (to-kind-at d .kind-at .ensures) ∙ (to-else2 d) .if2 .left in
-      rw (c .made2 .ensures)
-      (answer (to-start (to-lead (to-condition (to-body d))) .pre .1) (record { pays = tt }) (z .within .at)
-      (opened (labelled
+      let p = to-start (to-lead (to-condition (to-body d))) .pre .1 in
+      let h = to-else1 (to-lead (to-condition (to-body d))) .if1 .left in
+      nested-answer _ h
+      (built (ready-deep p h) (record { pays = tt }) (z .within .at)
       (led (lead (to-lead (to-condition (to-body d))))
       (both-more (condition (to-condition (to-body d)) .reading) (both (body (to-body d) .reading) (chosen (keyed otherwise _ refl k) (taken k (z .reading))))))
-      (else-made (z .within) (starts (lead (to-lead (to-condition (to-body d))))) (c .before .before .before .if-2 .ensures)))))
+      (else-tried (z .within) (p .lent) (starts (lead (to-lead (to-condition (to-body d))))) (c .made2 .ensures) (c .before .before .before .if-2 .ensures)))
 
   pub spec : {M : Type 1} → lts.Closed claims (if--at (just t)) if-.Post M
   spec =
@@ -201,7 +202,7 @@ module _ (t : ℕ) where
       (λ c. omega (arith, to-else1 (to-lead (c .before .before .before)) .if1 .left, to-start (to-lead (c .before .before .before)) .fits .limit)) block-requires (λ c. search needs)
       (λ c. search needs) (λ c. search needs) (λ c. search needs) (λ c. search needs) returns-4 (λ c κs. body c .within .at)
       (λ c κs. free (asked (to-lead (to-condition (c .before .before .before))) .lent) (body (c .before .before .before) .within))
-      (λ c κs. let d = c .before .before .before .before .before .before in free (asked (to-lead (to-condition d)) .lent) (body d .within) .number)
+      (λ c κs. let d = c .before .before .before .before .before .before in free (asked (to-lead (to-condition d)) .lent) (body d .within))
       (λ c. let d = c .before .before .before .before .before .before .before in omega (arith, condition (to-condition d) .reading .rooms, body d .reading .rooms))
       (λ c. let d = c .before .before .before .before .before .before .before in omega (arith, condition (to-condition d) .reading .rooms, body d .reading .rooms))
       (λ c. let d = c .before .before .before .before .before .before .before in omega (arith, condition (to-condition d) .reading .rooms, body d .reading .rooms)) returns-5
@@ -215,7 +216,7 @@ module _ (t : ℕ) where
       (λ c. let d = c .before .before .before .before .before .before .before .before .before .before .before .before .before .before in omega
       (arith, condition (to-condition d) .reading .rooms, body d .reading .rooms))
       returns-6 (λ c κs. free (asked (to-lead (to-condition (to-body (c .before)))) .lent) (other (c .before) .within))
-      (λ c κs. let d = c .before .before .before .before in free (asked (to-lead (to-condition (to-body d))) .lent) (other d .within) .number)
+      (λ c κs. let d = c .before .before .before .before in free (asked (to-lead (to-condition (to-body d))) .lent) (other d .within))
       (λ c. let d = c .before .before .before .before .before in omega
       (arith, condition (to-condition (to-body d)) .reading .rooms, body (to-body d) .reading .rooms, other d .reading .rooms))
       (λ c. let d = c .before .before .before .before .before in omega

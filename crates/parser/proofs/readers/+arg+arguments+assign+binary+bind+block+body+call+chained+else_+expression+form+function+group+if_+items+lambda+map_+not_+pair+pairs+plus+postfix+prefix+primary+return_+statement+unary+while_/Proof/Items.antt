@@ -15,6 +15,7 @@ use Rattle.reading.specs.State.{State, state}
 use Rattle.reading.specs.declared.Read.{Read}
 use Rattle.reading.specs.declared.Refusal.{Refusal}
 use Rattle.reading.proofs.Listings.{Statements, Item-of, item-less, hold-room, hold-number}
+use Rattle.reading.proofs.Refusals.{lowered}
 use Rattle.reading.proofs.Replies.{stated, further}
 use Rattle.parser.proofs.Statements.{statements-none, statements-more, tail-held, block-ends}
 use Rattle.parser.proofs.readers.+arg+arguments+assign+binary+bind+block+body+call+chained+else_+expression+form+function+group+if_+items+lambda+map_+not_+pair+pairs+plus+postfix+prefix+primary+return_+statement+unary+while_ as cycle
@@ -57,7 +58,7 @@ module _ (t : ℕ) where
   returns c =
       passed (c .enum-told .given .1) (c .before .before .before .before .before .before .before .before .statement .ensures)
       (λ x h. further (c .before .before .before .before .before .before .before .before .before .before .before .before .before .before .list .inv .listing .listed .reading)
-      (on (c .before .before .before .before .before .before .before .before .before .before .before .before)) h)
+      (on (c .before .before .before .before .before .before .before .before .before .before .before .before)) (lowered h))
 
   list-less : lts.Need-list-less claims (items-at (just t)) items.Post Inv-list μ-list
   list-less c =

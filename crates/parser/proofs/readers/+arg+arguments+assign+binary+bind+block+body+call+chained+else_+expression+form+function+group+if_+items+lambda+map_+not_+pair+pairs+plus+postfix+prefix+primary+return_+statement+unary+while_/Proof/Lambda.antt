@@ -4,14 +4,14 @@ use borrow.Author.Needs.{needs}
 use native.Mathlib.Omega.{arith}
 use mathlib.Core.Logic.{inl}
 use mathlib.Core.Path.{refl}
-use Rattle.grammar.specs.Refusal.{Refuses}
 use Rattle.grammar.proofs.Room.{paid, spare}
-use Rattle.reading.proofs.Laws.{both, labelled, ready-on}
+use Rattle.reading.proofs.Laws.{both, ready-on}
 use Rattle.reading.proofs.Listings.{Held, lower}
-use Rattle.reading.proofs.Replies.{token-taken, listed, Told, success, lacks, passed, passed-list, after}
+use Rattle.reading.proofs.Refusals as Refuses
+use Rattle.reading.proofs.Replies.{token-taken, listed, Told, success, lacks, passed, passed-list, after, built}
 use Rattle.reading.proofs.Taking.{Taken-by, led, ready-led, led-refused, starts, past-at, opened-led}
 use Rattle.reading.proofs.Gathering.{Kept-told, Ready-at, Within-at, token-within, token-held, list-kept, list-reading, kept-as, kept-on, kept-under}
-use Rattle.reading.proofs.Gathering.{gather-asks, gathered-free, numbers-fit, gathered-answer, lambda-made}
+use Rattle.reading.proofs.Gathering.{gather-asks, gathered-free, gathered-numbers, numbers-fit, lambda-tried}
 use Rattle.parser.proofs.readers.+arg+arguments+assign+binary+bind+block+body+call+chained+else_+expression+form+function+group+if_+items+lambda+map_+not_+pair+pairs+plus+postfix+prefix+primary+return_+statement+unary+while_ as cycle
 use Rattle.parser.proofs.readers as readers
 use cycle.Lts-lambda as lts
@@ -22,7 +22,7 @@ use Rattle.reading.proofs.lists.consume.Reads as consume-reads
 use Rattle.reading.proofs.lists.gather.Reads as gather-reads
 use Rattle.ast.proofs.lambda.Reads as lambda-reads
 use Rattle.reading.proofs.lists.names.Reads as names-reads
-use Rattle.reading.proofs.pieces.made.Reads as made-reads
+use Rattle.reading.proofs.pieces.made_list.Reads as made-list-reads
 
 module _ (t : ℕ) where
   abbrev claims : lts.Claims
@@ -37,8 +37,8 @@ module _ (t : ℕ) where
     gather-reads.Learnt,
     lambda-reads.Asked,
     lambda-reads.Learnt,
-    made-reads.Asked,
-    made-reads.Learnt,
+    made-list-reads.Asked,
+    made-list-reads.Learnt,
   )
 
   -- back from where one part is known to where the one before it is
@@ -126,20 +126,20 @@ module _ (t : ℕ) where
   returns-4 c =
       let d = c .before .before .before .before .before .before .before .before .before .before .before .before in
       passed (c .enum-told4 .given .1) (c .before .before .before .before .before .before .before .before .body .ensures)
-      (λ x h. Refuses.in-node (led-refused (lead (to-lead (to-names-from-close d))) (after (names (to-names-from-close d) .reading) (led-refused (close d) h))))
+      (λ x h. Refuses.in-node (led-refused (lead (to-lead (to-names-from-close d))) (after (names (to-names-from-close d) .reading) (Refuses.lowered (led-refused (close d) h)))))
 
   returns-5 : lts.Need-returns-5 claims (lambda-at (just t)) lambda.Post
   unfolding paid spare
   returns-5 c =
-      let d = c .before .before .before .before .before .before .before .before .before .before .before in
-      let g = c .before .before .before .before .before .before .before .gather .ensures in
+      let d = c .before .before .before .before .before .before .before .before .before .before .before .before in
+      let g = c .before .before .before .before .before .before .before .before .gather .ensures in
       let z = part d in
       let l = list-reading (token-held (lead (to-lead (to-names-from-close (to-close d))))) (names (to-names-from-close (to-close d))) in
       let b = lower (to-start (to-lead (to-names-from-close (to-close d))) .args .cur .held)
       (omega (arith, names (to-names-from-close (to-close d)) .count, token-held (lead (to-lead (to-names-from-close (to-close d)))))) (led (close (to-close d)) (z .reading)) in
-      gathered-answer (c .made .ensures) (to-start (to-lead (to-names-from-close (to-close d))) .pre .1) (record { pays = tt }) (z .within) g
-      (labelled (led (lead (to-lead (to-names-from-close (to-close d)))) (both l b))
-      (lambda-made (z .within) g (starts (lead (to-lead (to-names-from-close (to-close d))))) (kept d) (c .before .before .before .lambda .ensures)))
+      let p = to-start (to-lead (to-names-from-close (to-close d))) .pre .1 in
+      built p (record { pays = tt }) (z .within .at) (led (lead (to-lead (to-names-from-close (to-close d)))) (both l b))
+      (lambda-tried (z .within) (p .lent) g (starts (lead (to-lead (to-names-from-close (to-close d))))) (c .made-list .ensures) (kept d) (c .before .before .before .before .lambda .ensures))
 
   pub spec : {M : Type 1} → lts.Closed claims (lambda-at (just t)) lambda.Post M
   spec =
@@ -156,12 +156,12 @@ module _ (t : ℕ) where
       (λ c. let d = c .before .before .before .before .before .before .before in omega (arith, numbers-fit (asked (to-lead (to-names-from-close (to-close d))) .lent) (part d .within) .1))
       (λ c κs. let d = c .before .before .before .before .before .before .before in gathered-free (asked (to-lead (to-names-from-close (to-close d))) .lent) (part d .within)
       (c .before .before .before .gather .ensures))
-      (λ c κs. let d = c .before .before .before .before .before .before .before .before .before .before in gathered-free (asked (to-lead (to-names-from-close (to-close d))) .lent)
-      (part d .within) (c .before .before .before .before .before .before .gather .ensures) .number)
-      (λ c. let d = c .before .before .before .before .before .before .before .before .before .before .before in omega
+      (λ c κs. let d = c .before .before .before .before .before .before .before .before .before .before .before in gathered-numbers (asked (to-lead (to-names-from-close (to-close d))) .lent)
+      (part d .within) (c .before .before .before .before .before .before .before .gather .ensures))
+      (λ c. let d = c .before .before .before .before .before .before .before .before .before .before .before .before in omega
       (arith, names (to-names-from-close (to-close d)) .reading .rooms, part d .reading .rooms))
-      (λ c. let d = c .before .before .before .before .before .before .before .before .before .before .before in omega
+      (λ c. let d = c .before .before .before .before .before .before .before .before .before .before .before .before in omega
       (arith, names (to-names-from-close (to-close d)) .reading .rooms, part d .reading .rooms))
-      (λ c. let d = c .before .before .before .before .before .before .before .before .before .before .before in omega
+      (λ c. let d = c .before .before .before .before .before .before .before .before .before .before .before .before in omega
       (arith, names (to-names-from-close (to-close d)) .reading .rooms, part d .reading .rooms))
       returns-5

@@ -3,14 +3,13 @@ use Prim.Native.Nat.{ℕ}
 use borrow.Author.Needs.{needs}
 use native.Mathlib.Omega.{arith}
 use mathlib.Core.Path.{_∙_}
-use Rattle.grammar.specs.Refusal.{Refuses}
 use Rattle.grammar.proofs.Room.{paid, spare}
-use Rattle.reading.proofs.Laws.{labelled}
-use Rattle.reading.proofs.Replies.{token-taken, listed, lacks, passed-list, after}
+use Rattle.reading.proofs.Refusals as Refuses
+use Rattle.reading.proofs.Replies.{token-taken, listed, lacks, passed-list, after, built}
 use Rattle.reading.proofs.Taking.{Taken-by, led, ready-led, led-refused, starts, past-at, opened-led}
 use Rattle.reading.proofs.Listings.{Held}
 use Rattle.reading.proofs.Gathering.{Kept-told, Ready-at, Within-at, token-within, token-closes, token-end, token-held, list-kept, list-reading, kept-as}
-use Rattle.reading.proofs.Gathering.{kept-under, gather-asks, gathered-free, numbers-fit, gathered-answer, map-made}
+use Rattle.reading.proofs.Gathering.{kept-under, gather-asks, gathered-free, gathered-numbers, numbers-fit, map-tried}
 use Rattle.parser.proofs.readers.+arg+arguments+assign+binary+bind+block+body+call+chained+else_+expression+form+function+group+if_+items+lambda+map_+not_+pair+pairs+plus+postfix+prefix+primary+return_+statement+unary+while_ as cycle
 use Rattle.parser.proofs.readers as readers
 use cycle.Lts-map_ as lts
@@ -20,7 +19,7 @@ use readers.map_.Reads as map-
 use Rattle.reading.proofs.lists.consume.Reads as consume-reads
 use Rattle.reading.proofs.lists.gather.Reads as gather-reads
 use Rattle.ast.proofs.map.Reads as map-reads
-use Rattle.reading.proofs.pieces.made.Reads as made-reads
+use Rattle.reading.proofs.pieces.made_list.Reads as made-list-reads
 
 module _ (t : ℕ) where
   abbrev claims : lts.Claims
@@ -33,8 +32,8 @@ module _ (t : ℕ) where
     gather-reads.Learnt,
     map-reads.Asked,
     map-reads.Learnt,
-    made-reads.Asked,
-    made-reads.Learnt,
+    made-list-reads.Asked,
+    made-list-reads.Learnt,
   )
 
   -- back from where one part is known to where the one before it is
@@ -120,13 +119,13 @@ module _ (t : ℕ) where
   returns-5 : lts.Need-returns-5 claims (map--at (just t)) map-.Post
   unfolding paid spare
   returns-5 c =
-      let d = c .before .before .before .before .before .before .before .before .before .before .before in
-      let g = c .before .before .before .before .before .before .before .gather .ensures in
+      let d = c .before .before .before .before .before .before .before .before .before .before .before .before in
+      let g = c .before .before .before .before .before .before .before .before .gather .ensures in
       let l = list-reading (token-held (brace (to-brace (to-entries d))) ∙ token-held (lead (to-lead (to-brace (to-entries d))))) (entries (to-entries d)) in
-      gathered-answer (c .made .ensures) (to-start (to-lead (to-brace (to-entries d))) .pre .1) (record { pays = tt }) (within d) g
-      (labelled
-      (led (lead (to-lead (to-brace (to-entries d)))) (led (brace (to-brace (to-entries d))) (token-closes (close d) (to-start (to-lead (to-brace (to-entries d))) .pre .1 .deep) l)))
-      (map-made (within d) g (starts (lead (to-lead (to-brace (to-entries d))))) (kept d) (token-end (close d)) (c .before .before .before .map .ensures)))
+      let p = to-start (to-lead (to-brace (to-entries d))) .pre .1 in
+      built p (record { pays = tt }) (within d .at)
+      (led (lead (to-lead (to-brace (to-entries d)))) (led (brace (to-brace (to-entries d))) (token-closes (close d) (p .deep) l)))
+      (map-tried (within d) (p .lent) g (starts (lead (to-lead (to-brace (to-entries d))))) (c .made-list .ensures) (kept d) (token-end (close d)) (c .before .before .before .before .map .ensures))
 
   pub spec : {M : Type 1} → lts.Closed claims (map--at (just t)) map-.Post M
   spec =
@@ -138,8 +137,8 @@ module _ (t : ℕ) where
       (λ c. let d = c .before .before .before .before .before .before .before in omega (arith, numbers-fit (opened (to-brace (to-entries d)) .lent) (within d) .1))
       (λ c κs. let d = c .before .before .before .before .before .before .before in gathered-free (opened (to-brace (to-entries d)) .lent) (within d)
       (c .before .before .before .gather .ensures))
-      (λ c κs. let d = c .before .before .before .before .before .before .before .before .before .before in gathered-free (opened (to-brace (to-entries d)) .lent) (within d)
-      (c .before .before .before .before .before .before .gather .ensures) .number)
-      (λ c. omega (arith, entries (to-entries (c .before .before .before .before .before .before .before .before .before .before .before)) .reading .rooms))
-      (λ c. omega (arith, entries (to-entries (c .before .before .before .before .before .before .before .before .before .before .before)) .reading .rooms))
-      (λ c. omega (arith, entries (to-entries (c .before .before .before .before .before .before .before .before .before .before .before)) .reading .rooms)) returns-5
+      (λ c κs. let d = c .before .before .before .before .before .before .before .before .before .before .before in gathered-numbers (opened (to-brace (to-entries d)) .lent) (within d)
+      (c .before .before .before .before .before .before .before .gather .ensures))
+      (λ c. omega (arith, entries (to-entries (c .before .before .before .before .before .before .before .before .before .before .before .before)) .reading .rooms))
+      (λ c. omega (arith, entries (to-entries (c .before .before .before .before .before .before .before .before .before .before .before .before)) .reading .rooms))
+      (λ c. omega (arith, entries (to-entries (c .before .before .before .before .before .before .before .before .before .before .before .before)) .reading .rooms)) returns-5

@@ -4,13 +4,14 @@ use borrow.Author.Needs.{needs}
 use native.Mathlib.Omega.{arith}
 use mathlib.Core.Path.{refl}
 use Rattle.grammar.specs.Kaori.{above}
-use Rattle.grammar.specs.Refusal.{Refuses}
 use Rattle.grammar.specs.Rows.{make, put, fill, numbers, write}
 use Rattle.grammar.specs.Rule.{rule}
+use Rattle.grammar.specs.Space.{has-word}
 use Rattle.grammar.proofs.Room.{paid, spare}
 use Rattle.reading.proofs.Laws.{opened, ready-deep}
-use Rattle.reading.proofs.Replies.{Told, success, token-taken, passed, refuse, lacks, inside}
-use Rattle.reading.proofs.Taking.{Taken-by, starts, ends, past-at, led, led-refused, ready-led, free, inserted-as, row-answered}
+use Rattle.reading.proofs.Refusals as Refuses
+use Rattle.reading.proofs.Replies.{Told, success, token-taken, passed, refuse, lacks}
+use Rattle.reading.proofs.Taking.{Taken-by, starts, ends, past-at, led, led-refused, ready-led, free, tried-as, row-answered}
 use Rattle.parser.proofs.readers.+arg+arguments+assign+binary+bind+block+body+call+chained+else_+expression+form+function+group+if_+items+lambda+map_+not_+pair+pairs+plus+postfix+prefix+primary+return_+statement+unary+while_ as cycle
 use Rattle.parser.proofs.readers as readers
 use cycle.Lts-not_ as lts
@@ -61,20 +62,20 @@ module _ (t : ℕ) where
       passed (c .enum-told2 .given .1) (c .before .before .before .before .before .before .before .before .binary .ensures)
       (λ x h. Refuses.in-node
       (led-refused (lead (c .before .before .before .before .before .before .before .before .before .before .before .before .before))
-      (inside (c .before .before .before .before .before .before .before .before .before .before .before .before .if1 .left) h)))
+      (Refuses.inside (c .before .before .before .before .before .before .before .before .before .before .before .before .if1 .left) h)))
 
   returns-4 : lts.Need-returns-4 claims (not--at (just t)) not-.Post
-  unfolding paid spare above make put fill numbers write rule
+  unfolding paid spare above make put fill numbers write rule has-word
   returns-4 c =
       let d = c .before .before .before .before .before in
       let k = lead (to-lead d) in
       let z = part d in
       row-answered (c .made .ensures) (to-start (to-lead d) .pre .1) (record { pays = tt }) (led k (opened (z .reading))) (z .within)
-      (inserted-as (starts k) (ends k) refl (c .before .before .before .logical-not .ensures)) refl
+      (tried-as (starts k) (ends k) refl (c .before .before .before .logical-not .ensures)) refl refl
 
   pub spec : {M : Type 1} → lts.Closed claims (not--at (just t)) not-.Post M
   spec =
       lts.spec claims (not--at (just t)) not-.Post (λ c κs. search needs) (λ c. search needs) (λ c. search needs) returns returns-2 (λ c. search needs) binary-requires (λ c. search needs)
       (λ c. search needs) (λ c. search needs) (λ c. search needs) (λ c. search needs) returns-3 (λ c κs. free (to-start (to-lead (c .before)) .pre .1 .lent) (part (c .before) .within))
-      (λ c κs. let d = c .before .before .before .before in free (to-start (to-lead d) .pre .1 .lent) (part d .within) .number) (λ c. search needs) (λ c. search needs) (λ c. search needs)
+      (λ c κs. let d = c .before .before .before .before in free (to-start (to-lead d) .pre .1 .lent) (part d .within)) (λ c. search needs) (λ c. search needs) (λ c. search needs)
       returns-4

@@ -4,11 +4,11 @@ use borrow.Author.Needs.{needs}
 use native.Mathlib.Omega.{arith}
 use mathlib.Core.Path.{refl}
 use Rattle.grammar.specs.Kaori.{value, rules}
-use Rattle.grammar.specs.Refusal.{Refuses}
 use Rattle.grammar.proofs.Tables.{keyed}
 use Rattle.parser.proofs.Entries.{entry-alone, entry-pair}
 use Rattle.reading.proofs.Laws.{ready-next, ready-on}
 use Rattle.reading.proofs.Names.{separated}
+use Rattle.reading.proofs.Refusals as Refuses
 use Rattle.reading.proofs.Replies.{Told, success, passed, after}
 use Rattle.parser.proofs.readers.+arg+arguments+assign+binary+bind+block+body+call+chained+else_+expression+form+function+group+if_+items+lambda+map_+not_+pair+pairs+plus+postfix+prefix+primary+return_+statement+unary+while_ as cycle
 use Rattle.parser.proofs.readers as readers

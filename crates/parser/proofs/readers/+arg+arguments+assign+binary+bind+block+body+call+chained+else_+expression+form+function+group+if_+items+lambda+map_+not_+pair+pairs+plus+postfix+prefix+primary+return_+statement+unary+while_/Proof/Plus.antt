@@ -3,9 +3,9 @@ use Prim.Native.Nat.{ℕ}
 use borrow.Author.Needs.{needs}
 use native.Mathlib.Omega.{arith}
 use Rattle.grammar.specs.Kaori.{above}
-use Rattle.grammar.specs.Refusal.{Refuses}
 use Rattle.reading.proofs.Laws.{opened, ready-deep}
-use Rattle.reading.proofs.Replies.{token-taken, mapped, refuse, lacks, inside}
+use Rattle.reading.proofs.Refusals as Refuses
+use Rattle.reading.proofs.Replies.{token-taken, mapped, refuse, lacks}
 use Rattle.reading.proofs.Taking.{Taken-by, past-at, led, led-refused, ready-led}
 use Rattle.parser.proofs.readers.+arg+arguments+assign+binary+bind+block+body+call+chained+else_+expression+form+function+group+if_+items+lambda+map_+not_+pair+pairs+plus+postfix+prefix+primary+return_+statement+unary+while_ as cycle
 use Rattle.parser.proofs.readers as readers
@@ -35,7 +35,7 @@ module _ (t : ℕ) where
   returns c = refuse (Refuses.too-deep (c .if1 .taken))
 
   returns-2 : lts.Need-returns-2 claims (plus-at (just t)) plus.Post
-  returns-2 c = lacks (c .enum-told .given .1) (c .before .before .consume .ensures) (λ h. inside (c .before .before .before .if1 .left) (Refuses.missing h))
+  returns-2 c = lacks (c .enum-told .given .1) (c .before .before .consume .ensures) (λ h. Refuses.inside (c .before .before .before .if1 .left) (Refuses.missing h))
 
   binary-requires : lts.Need-binary-requires claims (plus-at (just t)) plus.Post
   binary-requires c κs =
@@ -54,7 +54,7 @@ module _ (t : ℕ) where
       let b = c .before .before .before .before .before .before .before .before .before .before in
       let k = lead b in
       let e = past-at k in
-      mapped _ (omega arith) (c .before .before .before .before .before .before .binary .ensures) (λ n d r. opened (led k r)) (λ x h. inside (to-else1 b .if1 .left) (led-refused k h))
+      mapped _ (omega arith) (c .before .before .before .before .before .before .binary .ensures) (λ n d r. opened (led k r)) (λ x h. Refuses.inside (to-else1 b .if1 .left) (led-refused k h))
 
   pub spec : {M : Type 1} → lts.Closed claims (plus-at (just t)) plus.Post M
   spec =

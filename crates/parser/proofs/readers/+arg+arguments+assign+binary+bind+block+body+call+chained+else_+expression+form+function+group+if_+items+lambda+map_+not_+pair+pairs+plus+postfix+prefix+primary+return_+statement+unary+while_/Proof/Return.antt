@@ -4,12 +4,13 @@ use borrow.Author.Needs.{needs}
 use native.Mathlib.Omega.{arith}
 use mathlib.Core.Path.{refl}
 use Rattle.grammar.specs.Kaori.{above}
-use Rattle.grammar.specs.Refusal.{Refuses}
 use Rattle.grammar.specs.Rows.{make, put, fill, numbers, write}
 use Rattle.grammar.specs.Rule.{rule}
+use Rattle.grammar.specs.Space.{has-word}
 use Rattle.grammar.proofs.Room.{paid, spare}
+use Rattle.reading.proofs.Refusals as Refuses
 use Rattle.reading.proofs.Replies.{Told, success, token-taken, passed, lacks}
-use Rattle.reading.proofs.Taking.{Taken-by, starts, past-at, led, led-refused, ready-led, free, inserted-as, row-answered}
+use Rattle.reading.proofs.Taking.{Taken-by, starts, past-at, led, led-refused, ready-led, free, tried-as, row-answered}
 use Rattle.parser.proofs.readers.+arg+arguments+assign+binary+bind+block+body+call+chained+else_+expression+form+function+group+if_+items+lambda+map_+not_+pair+pairs+plus+postfix+prefix+primary+return_+statement+unary+while_ as cycle
 use Rattle.parser.proofs.readers as readers
 use cycle.Lts-return_ as lts
@@ -56,17 +57,17 @@ module _ (t : ℕ) where
       (λ x h. Refuses.in-node (led-refused (lead (c .before .before .before .before .before .before .before .before .before .before .before .before)) h))
 
   returns-3 : lts.Need-returns-3 claims (return--at (just t)) return-.Post
-  unfolding paid spare above make put fill numbers write rule
+  unfolding paid spare above make put fill numbers write rule has-word
   returns-3 c =
       let d = c .before .before .before .before .before in
       let k = lead (to-lead d) in
       let z = part d in
       row-answered (c .made .ensures) (to-start (to-lead d) .pre .1) (record { pays = tt }) (led k (z .reading)) (z .within)
-      (inserted-as (starts k) refl refl (c .before .before .before .return- .ensures)) refl
+      (tried-as (starts k) refl refl (c .before .before .before .return- .ensures)) refl refl
 
   pub spec : {M : Type 1} → lts.Closed claims (return--at (just t)) return-.Post M
   spec =
       lts.spec claims (return--at (just t)) return-.Post (λ c κs. search needs) (λ c. search needs) (λ c. search needs) returns expression-requires (λ c. search needs) (λ c. search needs)
       (λ c. search needs) (λ c. search needs) (λ c. search needs) returns-2 (λ c κs. free (to-start (to-lead (c .before)) .pre .1 .lent) (part (c .before) .within))
-      (λ c κs. let d = c .before .before .before .before in free (to-start (to-lead d) .pre .1 .lent) (part d .within) .number) (λ c. search needs) (λ c. search needs) (λ c. search needs)
+      (λ c κs. let d = c .before .before .before .before in free (to-start (to-lead d) .pre .1 .lent) (part d .within)) (λ c. search needs) (λ c. search needs) (λ c. search needs)
       returns-3

@@ -6,13 +6,14 @@ use mathlib.Core.List.{[], _∷_}
 use mathlib.Core.Path.{refl, sym, ap, _∙_}
 use Rattle.grammar.specs.Kaori.{above}
 use Rattle.grammar.specs.Operator.{place, unary-operators}
-use Rattle.grammar.specs.Refusal.{Refuses}
 use Rattle.grammar.specs.Rows.{make, put, fill, numbers, write}
 use Rattle.grammar.specs.Rule.{rule}
+use Rattle.grammar.specs.Space.{has-word}
 use Rattle.grammar.proofs.Room.{paid, spare}
-use Rattle.reading.proofs.Laws.{opened, ready-deep}
-use Rattle.reading.proofs.Replies.{Told, success, token-taken, passed, answer, refuse, lacks, inside}
-use Rattle.reading.proofs.Taking.{Taken-by, starts, past-at, led, led-refused, ready-led, free, inserted-as, rowed, sign-low}
+use Rattle.reading.proofs.Laws.{ready-deep}
+use Rattle.reading.proofs.Refusals as Refuses
+use Rattle.reading.proofs.Replies.{Told, success, token-taken, passed, refuse, lacks, nested-answer}
+use Rattle.reading.proofs.Taking.{Taken-by, starts, past-at, led, led-refused, ready-led, free, tried-as, row-answered, sign-low}
 use Rattle.parser.proofs.readers.+arg+arguments+assign+binary+bind+block+body+call+chained+else_+expression+form+function+group+if_+items+lambda+map_+not_+pair+pairs+plus+postfix+prefix+primary+return_+statement+unary+while_ as cycle
 use Rattle.parser.proofs.readers as readers
 use cycle.Lts-unary as lts
@@ -64,7 +65,7 @@ module _ (t : ℕ) where
   returns c = refuse (Refuses.too-deep (c .if1 .taken))
 
   returns-2 : lts.Need-returns-2 claims (unary-at (just t)) unary.Post
-  returns-2 c = lacks (c .enum-told .given .1) (c .before .before .consume .ensures) (λ h. inside (c .before .before .before .if1 .left) (Refuses.in-node (Refuses.missing h)))
+  returns-2 c = lacks (c .enum-told .given .1) (c .before .before .consume .ensures) (λ h. Refuses.inside (c .before .before .before .if1 .left) (Refuses.in-node (Refuses.missing h)))
 
   binary-requires : lts.Need-binary-requires claims (unary-at (just t)) unary.Post
   binary-requires c κs =
@@ -79,27 +80,27 @@ module _ (t : ℕ) where
       let d = c .before .before .before .before .before .before .before .before .before .before .before .before in
       let l = sign-low (to-start d .pre .1 .0) in
       passed (c .enum-told2 .given .1) (c .before .before .before .before .before .before .before .before .binary .ensures)
-      (λ x h. inside (to-else1 d .if1 .left) (Refuses.in-node (led-refused (lead d) h)))
+      (λ x h. Refuses.inside (to-else1 d .if1 .left) (Refuses.in-node (led-refused (lead d) h)))
 
   returns-4 : lts.Need-returns-4 claims (unary-at (just t)) unary.Post
-  unfolding paid spare above make put fill numbers write rule
+  unfolding paid spare above make put fill numbers write rule has-word
   returns-4 c =
       let d = c .before .before .before .before .before .before in
       let k = lead (to-lead d) in
       let z = part d in
       let p = to-start (to-lead d) .pre .1 in
       let l = sign-low (p .0) in
-      rw (c .made .ensures)
-      (answer (p .1) (record { pays = tt }) (z .within .at)
-      (opened (rowed (led k (z .reading)) (z .within)
-      (inserted-as (starts k) refl
+      let h = to-else1 (to-lead d) .if1 .left in
+      nested-answer _ h
+      (row-answered (c .made .ensures) (ready-deep (p .1) h) (record { pays = tt }) (led k (z .reading)) (z .within)
+      (tried-as (starts k) refl
       (ap (λ n. n ∷ c .before .before .before .before .before .before .before .read2 .given .0 .0 .id ∷ [])
-      (c .before .before .before .before .sign-of .ensures ∙ ap (λ x. place x unary-operators) (sym (k .kind-is)))) (c .before .before .before .unary .ensures)) refl)))
+      (c .before .before .before .before .sign-of .ensures ∙ ap (λ x. place x unary-operators) (sym (k .kind-is)))) (c .before .before .before .unary .ensures)) refl refl)
 
   pub spec : {M : Type 1} → lts.Closed claims (unary-at (just t)) unary.Post M
   spec =
       lts.spec claims (unary-at (just t)) unary.Post returns (λ c κs. search needs) (λ c. search needs) (λ c. search needs) returns-2 (λ c. search needs) binary-requires (λ c. search needs)
       (λ c. search needs) (λ c. search needs) (λ c. search needs) (λ c. search needs) returns-3 (λ c κs. search needs)
       (λ c κs. free (to-start (to-lead (c .before .before)) .pre .1 .1 .lent) (part (c .before .before) .within))
-      (λ c κs. let d = c .before .before .before .before .before in free (to-start (to-lead d) .pre .1 .1 .lent) (part d .within) .number) (λ c. search needs) (λ c. search needs)
+      (λ c κs. let d = c .before .before .before .before .before in free (to-start (to-lead d) .pre .1 .1 .lent) (part d .within)) (λ c. search needs) (λ c. search needs)
       (λ c. search needs) returns-4

@@ -4,13 +4,14 @@ use borrow.Author.Needs.{needs}
 use native.Mathlib.Omega.{arith}
 use mathlib.Core.Path.{refl}
 use Rattle.grammar.specs.Kaori.{above}
-use Rattle.grammar.specs.Refusal.{Refuses}
 use Rattle.grammar.specs.Rows.{make, put, fill, numbers, write}
 use Rattle.grammar.specs.Rule.{rule}
+use Rattle.grammar.specs.Space.{has-word}
 use Rattle.grammar.proofs.Room.{paid, spare}
 use Rattle.reading.proofs.Laws.{both, ready-on}
+use Rattle.reading.proofs.Refusals as Refuses
 use Rattle.reading.proofs.Replies.{Told, success, token-taken, passed, lacks, after}
-use Rattle.reading.proofs.Taking.{Taken-by, starts, past-at, led, led-refused, ready-led, free, inserted-as, row-answered}
+use Rattle.reading.proofs.Taking.{Taken-by, starts, past-at, led, led-refused, ready-led, free, tried-as, row-answered}
 use Rattle.parser.proofs.readers.+arg+arguments+assign+binary+bind+block+body+call+chained+else_+expression+form+function+group+if_+items+lambda+map_+not_+pair+pairs+plus+postfix+prefix+primary+return_+statement+unary+while_ as cycle
 use Rattle.parser.proofs.readers as readers
 use cycle.Lts-while_ as lts
@@ -92,20 +93,20 @@ module _ (t : ℕ) where
       (λ x h. Refuses.in-node (led-refused (lead (to-lead d)) (after (condition d .reading) h)))
 
   returns-4 : lts.Need-returns-4 claims (while--at (just t)) while-.Post
-  unfolding paid spare above make put fill numbers write rule
+  unfolding paid spare above make put fill numbers write rule has-word
   returns-4 c =
       let d = c .before .before .before .before .before in
       let k = lead (to-lead (to-condition d)) in
       let z = body d in
       row-answered (c .made .ensures) (to-start (to-lead (to-condition d)) .pre .1) (record { pays = tt }) (led k (both (condition (to-condition d) .reading) (z .reading))) (z .within)
-      (inserted-as (starts k) refl refl (c .before .before .before .while-loop .ensures)) refl
+      (tried-as (starts k) refl refl (c .before .before .before .while-loop .ensures)) refl refl
 
   pub spec : {M : Type 1} → lts.Closed claims (while--at (just t)) while-.Post M
   spec =
       lts.spec claims (while--at (just t)) while-.Post (λ c κs. search needs) (λ c. search needs) (λ c. search needs) returns expression-requires (λ c. search needs) (λ c. search needs)
       (λ c. search needs) (λ c. search needs) (λ c. search needs) returns-2 block-requires (λ c. search needs) (λ c. search needs) (λ c. search needs) (λ c. search needs) (λ c. search needs)
       returns-3 (λ c κs. free (to-start (to-lead (to-condition (c .before))) .pre .1 .lent) (body (c .before) .within))
-      (λ c κs. let d = c .before .before .before .before in free (to-start (to-lead (to-condition d)) .pre .1 .lent) (body d .within) .number)
+      (λ c κs. let d = c .before .before .before .before in free (to-start (to-lead (to-condition d)) .pre .1 .lent) (body d .within))
       (λ c. let d = c .before .before .before .before .before in omega (arith, condition (to-condition d) .reading .rooms, body d .reading .rooms))
       (λ c. let d = c .before .before .before .before .before in omega (arith, condition (to-condition d) .reading .rooms, body d .reading .rooms))
       (λ c. let d = c .before .before .before .before .before in omega (arith, condition (to-condition d) .reading .rooms, body d .reading .rooms)) returns-4
