@@ -1,6 +1,7 @@
 // What stands below a row of a tree, in the order of the text. Every function answers for any numbers: what is not there is ABSENT, so that a walk needs no promise
 // about the rows.
 use ast::ABSENT;
+use ast::LINK_WIDTH;
 use ast::NODE_WIDTH;
 use ast::kinds;
 ghost use Prim.Native.Nat.{_+_, _*_};
@@ -8,9 +9,6 @@ ghost use mathlib.Core.Path.{_≡_};
 ghost use Rattle.grammar.specs.Handle.{absent};
 ghost use Rattle.grammar.specs.Room.{node-width, link-width};
 ghost use Rattle.children.specs.Below.{Number, three, Below, Linked, Places, Child};
-
-// The numbers of a link row.
-const LINK_WIDTH: usize = 3;
 
 // Number i of a node row.
 // Ruled out: the number before it; 0 past the room.

@@ -8,7 +8,7 @@ use Rattle.grammar.specs.Answer.{Answer}
 use Rattle.grammar.specs.Door.{Admitted}
 use Rattle.grammar.specs.Label.{Label}
 use Rattle.grammar.specs.Phrase.{Tree}
-use Rattle.grammar.specs.Room.{Rooms, node-width, link-width, symbol-width, scratch-width}
+use Rattle.grammar.specs.Room.{Rooms, scratch-width}
 use Rattle.grammar.proofs.Answers.{admitted-not-wrong, one-answer}
 use Rattle.grammar.proofs.Demands.{Read-as, Refused-at, Sorts, sorts}
 use Rattle.lexer.specs.Lexes.{Lexes}
@@ -42,14 +42,11 @@ made-fits (Lexes.no-token h x) e = absurd (omega arith)
 made-fits (Lexes.too-many h x f) e = absurd (omega arith)
 made-fits (Lexes.made {ts = ts} h x f) e = (simp (length-append, length-replicate) (omega (arith, f .rows, reads-lent (h .ascii) x (f .most) .whole .rows)), f .most)
 
--- a text, a limit and rooms within the limits: each room has the 4,096 rows that the longest list asks for
+-- a text, a limit and a scratch room within the limits: it has the 4,096 rows that the longest list asks for
 pub record Within-limits (text : List ℕ) (limit : ℕ) (before : Rooms) : Type 0 where
   pub short : length text ≤ 65536
   pub some-depth : 1 ≤ limit
   pub least-depth : limit ≤ 64
-  pub nodes : 4096 ≤ length (before .nodes) / node-width
-  pub links : 4096 ≤ length (before .links) / link-width
-  pub symbols : 4096 ≤ length (before .symbols) / symbol-width
   pub scratch : 4096 ≤ length (before .scratch) / scratch-width
 
 -- the codes of the maker's refusals, within the limits
@@ -69,7 +66,7 @@ unmade-code (Lexes.made h x f) s n = absurd (n refl)
 pub made-admitted : {text list room : List ℕ} {limit : ℕ} {before : Rooms} {l : Lexed} → Within-limits text limit before → Lexes text list l room → l .code ≡ 0 → Admitted (call text (made-list l room) limit before)
 made-admitted w x e =
     let p = made x e .lent in
-    record { whole = p .whole; short = w .short; some-depth = w .some-depth; least-depth = w .least-depth; roomy = record { nodes = omega (arith, p .whole .most, w .nodes); links = omega (arith, p .whole .most, w .links); symbols = omega (arith, p .whole .most, w .symbols); scratch = omega (arith, p .whole .most, w .scratch) }; ascii = p .ascii; sound = p .sound; closed = p .closed }
+    record { whole = p .whole; short = w .short; some-depth = w .some-depth; least-depth = w .least-depth; roomy = omega (arith, p .whole .most, w .scratch); ascii = p .ascii; sound = p .sound; closed = p .closed }
 
 -- a text within the limits is refused by 5, 16 or 1; or the tokens ts that it reads as are refused in reading, or have exactly one tree
 pub data Texts (text : List ℕ) (limit : ℕ) (before after : Rooms) (r : Numbers) : Type 0 where

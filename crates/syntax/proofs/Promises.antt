@@ -5,12 +5,16 @@ use native.Mathlib.Omega.{arith}
 use mathlib.Core.List.{List}
 use mathlib.Core.Logic.{_⊎_, inl, inr}
 use mathlib.Core.Path.{_≡_, ap}
+use lib.ListN.{length}
 use Rattle.grammar.specs.Answer.{Answer}
 use Rattle.grammar.specs.Door.{Admitted}
 use Rattle.grammar.specs.Kaori.{Script}
 use Rattle.grammar.specs.Label.{Label}
+use Rattle.grammar.specs.Parent.{written}
 use Rattle.grammar.specs.Phrase.{Tree, depth}
 use Rattle.grammar.specs.Room.{Rooms}
+use Rattle.grammar.specs.Space.{space-of, Enough}
+use Rattle.grammar.specs.Symbol.{symbol-rows, symbol}
 use Rattle.grammar.specs.Token.{kind, count}
 use Rattle.grammar.proofs.Answers.{admitted-not-wrong, one-answer}
 use Rattle.grammar.proofs.Demands.{Read-as, Refused-at, Sorts, sorts}
@@ -34,16 +38,17 @@ module _ {text ts : List ℕ} {limit : ℕ} {before after : Rooms} {r : Numbers}
     where
       by : Sorts (call text ts limit before) (numbers r) after → (t : Tree Label) × Read-as (call text ts limit before) (numbers r) after t
       by (Sorts.read d {t = t} x) = (t, x)
-      by (Sorts.stopped d x) = absurd (omega (arith, x .codes .0))
+      by (Sorts.stopped d x) = absurd (omega (arith, x .codes .least))
       by (Sorts.turned x) = absurd (omega (arith, x .codes .0))
 
-  -- and what the door lets in and has a reading no deeper than the limit succeeds
-  pub reading-succeeds : Admitted (call text ts limit before) → {t : Tree Label} → Script (kind ts) (count ts - 1) t → depth t ≤ limit → r .code ≡ 0
-  reading-succeeds d x h = by (sorts (p .answers))
+  -- and what the door lets in and has a reading no deeper than the limit, whose rows fit all three rooms, succeeds
+  pub reading-succeeds : Admitted (call text ts limit before) → {t : Tree Label} → Script (kind ts) (count ts - 1) t → depth t ≤ limit →
+      Enough (space-of before) (written ts (symbol text ts) t) → length (symbol-rows text ts (count ts)) ≤ length (before .symbols) → r .code ≡ 0
+  reading-succeeds d x h e k = by (sorts (p .answers))
     where
       by : Sorts (call text ts limit before) (numbers r) after → r .code ≡ 0
       by (Sorts.read f y) = ap (λ n. n .code) (y .numbers-are)
-      by (Sorts.stopped f y) = absurd (script-not-refused x h (y .refusal))
+      by (Sorts.stopped f y) = absurd (script-not-refused text ts (length (before .symbols)) (d .whole) x h e k (y .refusal))
       by (Sorts.turned y) = absurd (admitted-not-wrong d (y .turned .wrong))
 
   -- codes 1 to 7 are for what the door does not let in, and leave the rooms as they were

@@ -6,7 +6,7 @@ use native.Mathlib.Nat.{mul-div-cancel-left}
 use native.Mathlib.Omega.{arith}
 use mathlib.Core.List.{List, [], _∷_, _++_}
 use mathlib.Core.Path.{_≡_, refl, sym, ap, subst, _∙_}
-use lib.ListN.{length, take, drop, length-append, length-drop}
+use lib.ListN.{length, take, drop, length-append, length-drop, length-take}
 use lib.Seq.{length-take-le, take-at}
 use Rattle.ast.specs.Inserted.{Inserted}
 use Rattle.ast.specs.Written.{Written, Cleared}
@@ -19,35 +19,42 @@ use Rattle.door.proofs.Codes.{opened, shut}
 use Rattle.grammar.specs.Answer.{success, rooms-cleared, rooms-filled, Answers}
 use Rattle.grammar.specs.Door.{Lent}
 use Rattle.grammar.specs.Handle.{absent}
-use Rattle.grammar.specs.Kaori.{script-items, Script}
+use Rattle.grammar.specs.Kaori.{script, script-items, Script}
 use Rattle.grammar.specs.Kind.{Eof}
 use Rattle.grammar.specs.Label.{Label}
 use Rattle.grammar.specs.Naming.{height}
 use Rattle.grammar.specs.Outcome.{Comes}
 use Rattle.grammar.specs.Parent.{parented, written}
 use Rattle.grammar.specs.Phrase.{empty, chain, whole, made, Tree, Reads, depth}
-use Rattle.grammar.specs.Refusal.{Refused, Refuses}
+use Rattle.grammar.specs.Refusal.{refused}
 use Rattle.grammar.specs.Room.{node-width, Rooms, cleared, filled}
-use Rattle.grammar.specs.Rows.{Rows, numbers as field-numbers, write, fill, put, make, walk, unparented}
-use Rattle.grammar.specs.Symbol.{symbol-rows, symbol}
+use Rattle.grammar.specs.Rows.{Rows, padded, links-of, numbers as field-numbers, write, fill, put, make, walk, unparented}
+use Rattle.grammar.specs.Space.{Space, space-of, Enough, has-word, Named}
+use Rattle.grammar.specs.Symbol.{symbol-rows, symbol, symbol-in}
 use Rattle.grammar.specs.Token.{kind, count}
 use Rattle.grammar.proofs.Answers.{admitted-lent}
-use Rattle.grammar.proofs.Demands.{refused-place}
+use Rattle.grammar.proofs.Demands.{Stopped, refused-place}
+use Rattle.grammar.proofs.Lengths.{enough-written}
 use Rattle.grammar.proofs.Outcomes.{ends-at-eof}
 use Rattle.grammar.proofs.Parents.{parented-length}
-use Rattle.grammar.proofs.Symbols.{rows-few}
+use Rattle.grammar.proofs.Room.{links-length}
+use Rattle.grammar.proofs.Symbols.{rows-few, symbol-in-all}
 use Rattle.grammar.proofs.Trees.{one-tree}
+use Rattle.grammar.proofs.Worded.{words-fit}
 use Rattle.names.specs.Resolved.{Open, Resolved, names-of}
 use Rattle.names.proofs.Readers.{names-are}
 use Rattle.parents.specs.Adopted.{first, Adoptable, Adopted}
 use Rattle.reading.specs.Answers.{Listed, List-case, Lists}
 use Rattle.reading.specs.Reading.{refusal, Refusing}
-use Rattle.reading.specs.State.{State, state, Opened}
+use Rattle.reading.specs.State.{State, state, written as written-so-far, Opened}
 use Rattle.reading.specs.declared.Cursor.{Cursor}
 use Rattle.reading.specs.declared.Read.{Read}
 use Rattle.reading.specs.declared.Refusal.{Refusal}
+use Rattle.reading.proofs.Entering.{padded-length, entered, links-full, listed-row-full}
 use Rattle.reading.proofs.Gathering.{first-link}
-use Rattle.syntax.specs.Parsed.{numbers, rooms, Parsed, Let-in, refused-numbers, Cut, with-root, Root-fits, Rooted}
+use Rattle.reading.proofs.Laws.{plain, full}
+use Rattle.reading.proofs.Refusals.{in-node}
+use Rattle.syntax.specs.Parsed.{numbers, rooms, call, Root-room, Script-case, Scripted, Parsed, Let-in, refused-numbers, Cut, with-root, Root-fits, Rooted}
 use Rattle.syntax.specs.declared.Numbers.{Numbers}
 
 -- a room that is cleared from its start
@@ -115,6 +122,9 @@ cut zn zl zy zs e = record { numbers-are = e; rooms-are = rw (wiped zn, wiped zl
 abbrev pub start : Cursor
 start = record { at = 0; nodes = 0; links = 0; held = 0 }
 
+enough-as : {z : Space} {w v : Rows} → w ≡ v → Enough z v → Enough z w
+enough-as e x = rw e x
+
 -- rooms of the same lengths are cleared and filled alike
 pub record Alike (r s : Rooms) : Type 0 where
   pub nodes : length (s .nodes) ≡ length (r .nodes)
@@ -133,25 +143,25 @@ module _ {text ts : List ℕ} {limit : ℕ} {before : Rooms} (d : Let-in text ts
   lent = admitted-lent (d .admitted)
 
   -- what is asked where the symbols are found
-  pub names-open : Open text ts (before .symbols) (before .scratch)
-  names-open = let r = d .admitted .roomy in record { whole = lent .whole; sound = lent .sound; symbol-room = omega (arith, r .symbols); scratch-room = omega (arith, r .scratch) }
+  pub names-open : Open text ts (before .scratch)
+  names-open = record { whole = lent .whole; sound = lent .sound; scratch-room = omega (arith, d .admitted .roomy) }
 
   -- once they are found
-  module _ {symbols scratch : List ℕ} {known : ℕ} (v : Resolved text ts (count ts) (before .symbols) (before .scratch) symbols scratch known) where
+  module _ {symbols scratch : List ℕ} {known : ℕ} (v : Resolved text ts (before .symbols) (before .scratch) symbols scratch known) where
     -- the state that is read from
     abbrev pub from : State
     from = state (before .nodes) (before .links) scratch start
 
     pub asked : Opened ts limit 0 from
     asked =
-        let r = d .admitted .roomy in
         record {
           ready = record {
             lent = record { whole = lent .whole; closed = lent .closed };
             deep = omega arith;
             within =
                 record {
-                  roomy = record { nodes = omega (arith, r .nodes); links = omega (arith, r .links); scratch = omega (arith, r .scratch, v .scratch-size) };
+                  roomy = record { scratch = omega (arith, d .admitted .roomy, v .scratch-size) };
+                  stands = record { node-rows = omega arith; link-rows = omega arith };
                   at = omega (arith, lent .whole .some);
                   rows = omega arith;
                   links = omega arith;
@@ -161,16 +171,23 @@ module _ {text ts : List ℕ} {limit : ℕ} {before : Rooms} (d : Let-in text ts
           spare = omega arith;
         }
 
-    -- a refusal among the statements is the script's, at a token
-    module _ {q : Refusal} (x : Refusing ts limit (chain empty script-items) 0 from (refusal q)) where
+    -- the symbols that are read with are those of the lent room
+    symbols-are : names-of ts scratch ≡ symbol-in text ts (length (before .symbols))
+    symbols-are = names-are (lent .whole) v
+
+    -- a refusal of the script is at a token
+    module _ {q : Refusal} (x : Refusing ts limit script 0 from (refusal q)) where
+      stops : Stopped (call text ts limit before) (refusal q)
+      stops = rw symbols-are at (x .refuses)
+
       pub refused-at : q .at < count ts
-      refused-at = omega (arith, refused-place (d .admitted) (Refuses.in-node x) .place, lent .whole .some)
+      refused-at = omega (arith, refused-place (d .admitted) stops .place, lent .whole .some)
 
       pub refused-answer : {middle after : Rooms} {r : Numbers} → Alike before middle → Cut ts q middle after r → Parsed text ts limit before after r
-      refused-answer a c = record { answers = rw (c .numbers-are, c .rooms-are, cleared-alike a) (Answers.refused (d .admitted) (Comes.stop (Refuses.in-node x))) }
+      refused-answer a c = record { answers = rw (c .numbers-are, c .rooms-are, cleared-alike a) (Answers.refused (d .admitted) (Comes.stop stops)) }
 
     -- the statements up to Eof are a script
-    module _ {ns ls ss : List ℕ} {c : Cursor} (l : Listed ts limit (whole (chain empty script-items)) 0 from (state ns ls ss c)) where
+    module _ {ns ls ss : List ℕ} {c : Cursor} (l : Listed ts limit (whole (chain empty script-items)) 0 from (state ns ls ss c)) (h : Root-room c ns ls) where
       tree : Tree Label
       tree = made Label.Script 0 (c .at) (l .reading .tree)
 
@@ -183,33 +200,56 @@ module _ {text ts : List ℕ} {limit : ℕ} {before : Rooms} (d : Let-in text ts
       unfolding unparented walk make put fill field-numbers write tree
       read-rows = let n : c .held ≡ length (l .items) = omega (arith, l .count) in rw (l .reading .rows, first-link (l .within), l .rows, n)
 
-      script-rows : unparented ts (symbol text ts) tree ≡ with-root c (rooms ns ls symbols ss)
-      script-rows = ap (λ σ. unparented ts σ tree) (sym (names-are (lent .whole) v)) ∙ read-rows
-
-      pub fitting : Root-fits c known (rooms ns ls symbols ss)
-      fitting =
-          let w = l .within in
-          let r = w .roomy in
-          let few = rows-few text ts (count ts) in
-          let k = v .entered .size in
-          record {
-            nodes = omega (arith, w .rows, w .at, r .nodes);
-            links = omega (arith, w .links, w .at, r .links);
-            symbols = omega (arith, v .symbol-size, d .admitted .roomy .symbols);
-            scratch = omega (arith, w .links, w .at, r .scratch);
-            few = omega (arith, w .rows, w .links, w .at, lent .whole .most);
-            tree = rw (← script-rows) (one-tree ts (symbol text ts) reads-script (omega (arith, w .at, lent .whole .most)));
-          }
-
       -- the Eof that ends it is the last token
       ends-last : c .at ≡ count ts - 1
       ends-last =
           let e : kind ts (c .at) ≡ Eof = elim (ℕ-discrete (kind ts (c .at)) Eof) [ yes h ↦ h | no n ↦ absurd (n (ends-at-eof reads-script)) ] in
           omega (arith, lent .closed (c .at) (l .within .at) .only e)
 
+      reads-all : Script (kind ts) (count ts - 1) tree
+      reads-all = subst (λ n. Script (kind ts) n tree) ends-last reads-script
+
+      -- all of it passes: its depth, its words and its rows
+      named : Named (symbol-in text ts (length (before .symbols))) tree
+      unfolding Named has-word tree
+      named = (rw symbols-are at (l .reading .named), λ e z. plain refl e)
+
+      symbols-fit : length (symbol-rows text ts (count ts)) ≤ length (before .symbols)
+      symbols-fit = words-fit text ts (length (before .symbols)) reads-all named
+
       tree-fits : depth tree ≤ limit
       unfolding depth tree
       tree-fits = omega (arith, l .reading .fits)
+
+      script-rows : unparented ts (symbol text ts) tree ≡ with-root c (rooms ns ls symbols ss)
+      script-rows = ap (λ σ. unparented ts σ tree) (sym (symbol-in-all text ts (lent .whole) symbols-fit) ∙ sym symbols-are) ∙ read-rows
+
+      enough : Enough (space-of before) (written ts (symbol text ts) tree)
+      unfolding unparented
+      enough =
+          let all = with-root c (rooms ns ls symbols ss) in
+          let m = l .reading .rooms in
+          let n = length-append (take (node-width * c .nodes) ns) (padded (20 ∷ 0 ∷ 0 ∷ c .links ∷ c .held ∷ absent ∷ [])) in
+          let k = length-append (take (3 * c .links) ls) (take (3 * c .held) ss) in
+          let fit : Enough (space-of before) all = record {
+            nodes = omega (arith, n, padded-length (20 ∷ 0 ∷ 0 ∷ c .links ∷ c .held ∷ absent ∷ []), length-take (node-width * c .nodes) ns, h .rows, m .nodes);
+            links = omega (arith, k, length-take (3 * c .links) ls, length-take (3 * c .held) ss, h .lists, m .links);
+          } in
+          enough-written ts (symbol text ts) (symbol text ts) tree (enough-as script-rows fit)
+
+      pub fitting : Root-fits c known (rooms ns ls symbols ss)
+      fitting =
+          let w = l .within in
+          let few = rows-few text ts (count ts) in
+          let k = v .entered symbols-fit .size in
+          record {
+            nodes = h .rows;
+            links = h .lists;
+            symbols = omega (arith, v .symbol-size, symbols-fit, k);
+            scratch = omega (arith, w .links, w .at, w .roomy .scratch);
+            few = omega (arith, w .rows, w .links, w .at, lent .whole .most);
+            tree = rw (← script-rows) (one-tree ts (symbol text ts) reads-script (omega (arith, w .at, lent .whole .most)));
+          }
 
       pub accepted-answer : {after : Rooms} {r : Numbers} → Rooted c known (rooms ns ls symbols ss) after r → Parsed text ts limit before after r
       unfolding written
@@ -218,26 +258,52 @@ module _ {text ts : List ℕ} {limit : ℕ} {before : Rooms} (d : Let-in text ts
           let w = written ts (symbol text ts) tree in
           let found = symbol-rows text ts (count ts) in
           let alike : Alike before (rooms ns ls symbols ss) = record { nodes = m .nodes; links = m .links; symbols = v .symbol-size; scratch = m .scratch ∙ v .scratch-size } in
-          let x = subst (λ n. Script (kind ts) n tree) ends-last reads-script in
-          let n : numbers r ≡ success w found = a .numbers-are ∙ rw (script-rows, v .entered .rows) in
-          let o : after ≡ rooms-filled w found before = a .rooms-are ∙ rw (script-rows, v .entered .rows) (filled-alike (parented (with-root c (rooms ns ls symbols ss))) found alike) in
-          record { answers = rw (n, o) (Answers.accepted (d .admitted) (Comes.read x tree-fits)) }
+          let e = v .entered symbols-fit .rows in
+          let n : numbers r ≡ success w found = a .numbers-are ∙ rw (script-rows, e) in
+          let o : after ≡ rooms-filled w found before = a .rooms-are ∙ rw (script-rows, e) (filled-alike (parented (with-root c (rooms ns ls symbols ss))) found alike) in
+          record { answers = rw (n, o) (Answers.accepted (d .admitted) (Comes.read reads-all tree-fits enough symbols-fit)) }
+
+-- a refusal among the statements is the script's
+pub chain-told : {ts : List ℕ} {limit : ℕ} {s : State} {ns ls ss : List ℕ} {r : Read} {q : Refusal} → r ≡ Read.Refused q → Lists ts limit (whole (chain empty script-items)) 0 s ns ls ss r →
+    Scripted ts limit s ns ls ss r
+unfolding List-case Script-case
+chain-told e a = rw e (record { says = in-node ((rw e at a) .says) })
+
+-- the root's links or its row have no room: the script is refused at the Eof
+module _ {ts : List ℕ} {limit : ℕ} {s : State} {ns ls ss : List ℕ} {c : Cursor} (l : Listed ts limit (whole (chain empty script-items)) 0 s (state ns ls ss c)) (z : s .cursor .held ≡ 0) where
+  root-made : make ts (names-of ts ss) Label.Script (s .cursor .at) (c .at) (written-so-far (state ns ls ss c)) (l .items) [] ≡
+      entered c ns ls 20 0 0 (c .links ∷ length (l .items) ∷ absent ∷ []) (links-of (l .items))
+  unfolding make put fill field-numbers write
+  root-made = rw (first-link (l .within))
+
+  pub no-links : length ls < 3 * (c .links + c .held) → Refusing ts limit script 0 s (refused 4 (c .at) 255)
+  unfolding has-word
+  no-links h = full (l .reading) (links-full 20 0 0 (c .links ∷ length (l .items) ∷ absent ∷ []) (l .within .stands) (links-of (l .items)) refl root-made (omega (arith, h, l .count, z, links-length (l .items))))
+
+  pub no-row : 3 * (c .links + c .held) ≤ length ls → length ns < node-width * (c .nodes + 1) → Refusing ts limit script 0 s (refused 4 (c .at) 255)
+  unfolding has-word
+  no-row h i =
+      full (l .reading) (listed-row-full 20 0 0 (c .links ∷ length (l .items) ∷ absent ∷ []) (l .within .stands) (links-of (l .items)) refl root-made i (omega (arith, h, l .count, z, links-length (l .items))))
 
 -- what the statements' answer says, by its case
-module _ {ts : List ℕ} {limit : ℕ} {s : State} {ns ls ss : List ℕ} {r : Read} (a : Lists ts limit (whole (chain empty script-items)) 0 s ns ls ss r) where
-  pub refused-told : {q : Refusal} → r ≡ Read.Refused q → Refusing ts limit (chain empty script-items) 0 s (refusal q)
-  unfolding List-case
+module _ {ts : List ℕ} {limit : ℕ} {s : State} {ns ls ss : List ℕ} {r : Read} (a : Scripted ts limit s ns ls ss r) where
+  pub refused-told : {q : Refusal} → r ≡ Read.Refused q → Refusing ts limit script 0 s (refusal q)
+  unfolding Script-case
   refused-told e = (rw e at a) .says
 
   pub listed-told : {n : Node} {c : Cursor} → r ≡ Read.Node n c → Listed ts limit (whole (chain empty script-items)) 0 s (state ns ls ss c)
-  unfolding List-case
-  listed-told e = (rw e at a) .says .1
+  unfolding Script-case
+  listed-told e = (rw e at a) .says .0
+
+  pub room-told : {n : Node} {c : Cursor} → r ≡ Read.Node n c → Root-room c ns ls
+  unfolding Script-case
+  room-told e = (rw e at a) .says .1
 
 -- what the door's answer says, by its case
 module _ {text ts : List ℕ} {limit : ℕ} {before : Rooms} {e : Entry}
-    (a : Entered text ts limit (length (before .nodes)) (length (before .links)) (length (before .symbols)) (length (before .scratch)) e) where
+    (a : Entered text ts limit (length (before .scratch)) e) where
   pub let-in : e ≡ Entry.Open → Let-in text ts limit before
-  let-in h = record { admitted = opened ((rw h at a) .says before refl refl refl refl) refl }
+  let-in h = record { admitted = opened ((rw h at a) .says before refl) refl }
 
   pub turned : {q : Turned} {r : Numbers} → e ≡ Entry.Refused q → numbers r ≡ entry-numbers (Entry.Refused q) → Parsed text ts limit before before r
-  turned h n = let b = rw h at a in record { answers = rw n (shut (b .says before refl refl refl refl) (b .told)) }
+  turned h n = let b = rw h at a in record { answers = rw n (shut (b .says before refl) (b .told)) }

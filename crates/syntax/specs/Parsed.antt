@@ -8,13 +8,20 @@ use Rattle.grammar.specs.Answer.{Answer, success, refuse, rooms-cleared, rooms-
 use Rattle.grammar.specs.Call.{Call}
 use Rattle.grammar.specs.Door.{Admitted}
 use Rattle.grammar.specs.Handle.{absent}
+use Rattle.grammar.specs.Kaori.{script, script-items}
 use Rattle.grammar.specs.Label.{Node, number-of}
 use Rattle.grammar.specs.Naming.{One-tree}
 use Rattle.grammar.specs.Parent.{parented}
+use Rattle.grammar.specs.Phrase.{empty, chain, whole}
 use Rattle.grammar.specs.Room.{Rooms, node-width, link-width, symbol-width, scratch-width}
 use Rattle.grammar.specs.Rows.{Rows, padded}
 use Rattle.grammar.specs.Token.{start, end}
+use Rattle.reading.specs.Answers.{Listed}
+use Rattle.reading.specs.Clauses.{Slices, entry}
+use Rattle.reading.specs.Reading.{refusal, Refusing}
+use Rattle.reading.specs.State.{State, state}
 use Rattle.reading.specs.declared.Cursor.{Cursor}
+use Rattle.reading.specs.declared.Read.{Read}
 use Rattle.reading.specs.declared.Refusal.{Refusal}
 use Rattle.syntax.specs.declared.Numbers.{Numbers}
 
@@ -44,6 +51,22 @@ refused-numbers ts q = refuse (q .code) (q .at) (start ts (q .at)) (end ts (q .a
 pub record Cut (ts : List ℕ) (q : Refusal) (before after : Rooms) (r : Numbers) : Type 0 where
   pub numbers-are : numbers r ≡ refused-numbers ts q
   pub rooms-are : after ≡ rooms-cleared before
+
+-- the root's links and row have room
+pub record Root-room (c : Cursor) (nodes links : List ℕ) : Type 0 where
+  pub rows : node-width * (c .nodes + 1) ≤ length nodes
+  pub lists : link-width * (c .links + c .held) ≤ length links
+
+-- the statements up to Eof are read and held, and the root has room; or the script is refused
+unfoldable pub Script-case : (ts : List ℕ) (limit : ℕ) → State → (nodes links scratch : List ℕ) → Read → Type 0
+Script-case ts limit s ns ls ss (Read.Node n c) = Listed ts limit (whole (chain empty script-items)) 0 s (state ns ls ss c) × Root-room c ns ls
+Script-case ts limit s ns ls ss (Read.Refused q) = Refusing ts limit script 0 s (refusal q)
+
+pub record Scripted (ts : List ℕ) (limit : ℕ) (s : State) (ns ls ss : List ℕ) (r : Read) : Type 0 where
+  pub says : Script-case ts limit s ns ls ss r
+
+abbrev pub scripted : (tokens nodes links scratch : Slices) (limit : ℕ) (cur : Cursor) → Read → Type 0
+scripted ts ns ls ss limit cur r = Scripted (ts .entry .now) limit (entry ns ls ss cur) (ns .exit .now) (ls .exit .now) (ss .exit .now) r
 
 -- the rows of a script whose statements are read and held, with its root: 'Root: 0, 0', and no tail; their parents are not put in
 abbrev pub with-root : Cursor → Rooms → Rows

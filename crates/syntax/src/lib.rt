@@ -1,6 +1,7 @@
 // The public entry: a port of `parse` of parser.rs. The door, then the symbols of all names, the statements up to Eof, the root's row, the
 // parents, and zeros.
 use ast::ABSENT;
+use ast::LINK_WIDTH;
 use ast::NODE_WIDTH;
 use ast::Node;
 use ast::room::clear;
@@ -16,6 +17,7 @@ use reading::Cursor;
 use reading::Read;
 use reading::Refusal;
 use reading::codes;
+use reading::pieces::no_room;
 use token::kinds;
 use token::list::end_at;
 use token::list::kind_at;
@@ -28,7 +30,7 @@ ghost use Rattle.grammar.specs.Kaori as form;
 ghost use Rattle.grammar.specs.Phrase.{empty, chain, whole};
 ghost use Rattle.grammar.specs.Token.{count};
 ghost use Rattle.reading.specs.Clauses.{opened, lists};
-ghost use Rattle.syntax.specs.Parsed.{numbers, rooms, Parsed, Let-in, Cut, Root-fits, Rooted};
+ghost use Rattle.syntax.specs.Parsed.{numbers, rooms, scripted, Parsed, Let-in, Cut, Root-fits, Rooted};
 
 // The answer of a call: a code, which is 0 or a refusal's; how many rows each room has, 0 for a refusal; and a refusal's place and the kind that was
 // required there (255: no certain kind).
@@ -103,6 +105,33 @@ fn statements(
     Read::Node(list, now)
 }
 
+// The whole script: its statements are read, and the root's links and row have room; or it is refused, without them at the Eof.
+fn whole(
+    tokens: &[u32],
+    nodes: &mut [u32],
+    links: &mut [u32],
+    scratch: &mut [u32],
+    limit: u32,
+    cur: Cursor,
+) -> Read
+    requires { ⌜ cur .held ≡ 0 ⌝ }
+    requires { ⌜ opened tokens nodes links scratch limit 0 cur ⌝ }
+    ensures { λ r. ⌜ scripted tokens nodes links scratch limit cur r ⌝ }
+{
+    let read = statements(tokens, nodes, links, scratch, limit, cur);
+    let Read::Node(list, end) = read else {
+        return read;
+    };
+    let used = end.links + end.held;
+    if links.len() < LINK_WIDTH * used {
+        return no_room(end.at);
+    }
+    if nodes.len() < NODE_WIDTH * (end.nodes + 1) {
+        return no_room(end.at);
+    }
+    Read::Node(list, end)
+}
+
 // The answer of a script that is read: the statements that are held become the root's links, the root is the last row, each row gets its parent, and zeros follow in
 // each room. `known` is the number of symbol rows.
 fn root(
@@ -122,9 +151,9 @@ fn root(
     let n = end.nodes;
     link(links, first, scratch, 0, count);
     let last = ast::block(nodes, n, first as u32, count as u32, ABSENT, 0, 0);
-    adopt(nodes, &links[..3 * used], last.id + 1);
+    adopt(nodes, &links[..LINK_WIDTH * used], last.id + 1);
     clear(nodes, NODE_WIDTH * (n + 1));
-    clear(links, 3 * used);
+    clear(links, LINK_WIDTH * used);
     clear(symbols, 2 * known);
     clear(scratch, 0);
     Numbers {
@@ -181,7 +210,7 @@ fn script(
         links: 0,
         nodes: 0,
     };
-    let read = statements(tokens, nodes, links, scratch, limit, start);
+    let read = whole(tokens, nodes, links, scratch, limit, start);
     match read {
         Read::Refused(why) => cut(tokens, nodes, links, symbols, scratch, why),
         Read::Node(_, end) => root(nodes, links, symbols, scratch, known, end),
@@ -189,7 +218,7 @@ fn script(
 }
 
 // Reads a script as `parse` does, but looks at lengths and the limit alone. It asks that text and list have what checks 1 and 5 to 7 ask: the crates above know that
-// of a list that they made. Ruled out: 4 where the limit is 0; a reading in rooms that are too small.
+// of a list that they made. Ruled out: 4 where the limit is 0; a reading whose rows do not fit.
 pub fn parse_checked(
     text: &[u8],
     tokens: &[u32],
@@ -202,23 +231,15 @@ pub fn parse_checked(
     requires { ⌜ Lent (now text) (now tokens) ⌝ }
     ensures { λ r. ⌜ Parsed (now (text .entry)) (now (tokens .entry)) limit (rooms (now (nodes .entry)) (now (links .entry)) (now (symbols .entry)) (now (scratch .entry))) (rooms (now (nodes .exit)) (now (links .exit)) (now (symbols .exit)) (now (scratch .exit))) r ⌝ }
 {
-    let code = lengths(
-        tokens.len(),
-        text.len(),
-        limit,
-        nodes.len(),
-        links.len(),
-        symbols.len(),
-        scratch.len(),
-    );
+    let code = lengths(tokens.len(), text.len(), limit, scratch.len());
     if code != 0 {
         return refused(code, 0, 0, 0, 255);
     }
     script(text, tokens, limit, nodes, links, symbols, scratch)
 }
 
-// Reads a script. Refusals 1 to 7 leave the rooms as they are, and 8 to 11 leave zeros throughout; success leaves the script's rows and then zeros, and
-// zeros throughout in `scratch`. Any text, list, limit and rooms have an answer.
+// Reads a script. What the door refuses, by 1 to 7, leaves the rooms as they are; a refusal in reading, by 4 or 8 to 11, leaves zeros throughout; success leaves the
+// script's rows and then zeros, and zeros throughout in `scratch`. Any text, list, limit and rooms have an answer.
 // Ruled out: a row count that is not the tree's; a room that is not zero after a refusal in reading.
 pub fn parse(
     text: &[u8],
@@ -231,15 +252,7 @@ pub fn parse(
 ) -> Numbers
     ensures { λ r. ⌜ Parsed (now (text .entry)) (now (tokens .entry)) limit (rooms (now (nodes .entry)) (now (links .entry)) (now (symbols .entry)) (now (scratch .entry))) (rooms (now (nodes .exit)) (now (links .exit)) (now (symbols .exit)) (now (scratch .exit))) r ⌝ }
 {
-    let entry = check(
-        text,
-        tokens,
-        limit,
-        nodes.len(),
-        links.len(),
-        symbols.len(),
-        scratch.len(),
-    );
+    let entry = check(text, tokens, limit, scratch.len());
     match entry {
         Entry::Refused(why) => refused(why.code, why.at, why.start, why.end, 255),
         Entry::Open => script(text, tokens, limit, nodes, links, symbols, scratch),

@@ -15,6 +15,7 @@ use Rattle.grammar.specs.Outcome.{accepted, Comes}
 use Rattle.grammar.specs.Parent.{tenth, Parent-of}
 use Rattle.grammar.specs.Room.{node-width, own-width}
 use Rattle.grammar.specs.Rows.{Rows, lined}
+use Rattle.grammar.specs.Space.{Space, space-of}
 use Rattle.grammar.specs.Symbol.{symbol}
 use Rattle.grammar.proofs.Calls.{written-whole, accepted-rows}
 use Rattle.grammar.proofs.Decoding.{Whole}
@@ -28,10 +29,10 @@ use Rattle.view.specs.declared.SpanAnswer.{SpanAnswer}
 number-at : (before ys after : List ℕ) (row i : ℕ) → node-width * row ≡ length before → number ((before ++ ys) ++ after) row i ≡ getD (ys ++ after) i 0
 number-at before ys after row i e = rw (e, append-assoc before ys after) (getD-append-add before (ys ++ after) i 0)
 
-accepted-whole : {text ts ss : List ℕ} {limit : ℕ} {w : Rows} → Comes text ts limit (accepted w ss) → Whole w
-accepted-whole {text} {ts} (Comes.read x h) = written-whole ts (symbol text ts) x
+accepted-whole : {text ts ss : List ℕ} {limit room : ℕ} {space : Space} {w : Rows} → Comes text ts limit space room (accepted w ss) → Whole w
+accepted-whole {text} {ts} (Comes.read x h i j) = written-whole ts (symbol text ts) x
 
-module _ {c : Call} {w : Rows} {ss : List ℕ} (d : Admitted c) (o : Comes (c .text) (c .tokens) (c .limit) (accepted w ss)) where
+module _ {c : Call} {w : Rows} {ss : List ℕ} (d : Admitted c) (o : Comes (c .text) (c .tokens) (c .limit) (space-of (c .rooms)) (length (c .rooms .symbols)) (accepted w ss)) where
   abbrev nodes : List ℕ
   nodes = rooms-filled w ss (c .rooms) .nodes
 

@@ -18,6 +18,7 @@ use Rattle.reading.specs.State.{State, state, Within}
 use Rattle.reading.specs.declared.Read.{Read}
 use Rattle.reading.specs.declared.Refusal.{Refusal}
 use Rattle.reading.proofs.Listings.{Listing, Item-of, listing-none, listing-more, listing-end, lists, item-less, hold-room, hold-number}
+use Rattle.reading.proofs.Refusals.{lowered}
 use Rattle.reading.proofs.Replies.{stated, further}
 use Rattle.parser.proofs.Sorts.{statement-link}
 use Rattle.syntax.proofs.statements.Statement.{statement}
@@ -60,7 +61,7 @@ returns : tie.Need-returns Inv-list μ-list
 returns c =
     passed (c .enum-told .given .1) (c .before .before .before .before .before .before .before .before .statement .ensures)
     (λ x h. further (c .before .before .before .before .before .before .before .before .before .before .before .before .before .list .inv .listing .listed .reading)
-    (on (c .before .before .before .before .before .before .before .before .before .before .before .before)) h)
+    (on (c .before .before .before .before .before .before .before .before .before .before .before .before)) (lowered h))
 
 push-requires : tie.Need-push-requires Inv-list μ-list
 push-requires c κs =
