@@ -66,6 +66,7 @@ fn mark(rest: &mut &[u8], expected: [u8; 2]) -> Option<()> {
     (rest.split_off(..2)? == expected).then_some(())
 }
 
-fn number(rest: &mut &[u8]) -> Option<u32> {
+/// The next four bytes as a number.
+pub fn number(rest: &mut &[u8]) -> Option<u32> {
     rest.split_off(..4)?.try_into().ok().map(u32::from_le_bytes)
 }

@@ -1,12 +1,16 @@
-//! What a list of cases covers: which productions, refusals and required kinds its answers show.
+//! What a list of cases covers: which productions, refusals and required kinds its answers show, and what rooms do.
 use std::collections::BTreeMap;
 
-use kaori::syntax::token::Token::{self, *};
+use kaori::{
+    recorder::Row,
+    syntax::token::Token::{self, *},
+};
 
 use crate::{
     answer::{LIMIT, outcome},
     case::Case,
     kinds,
+    rooms::{Judge, Known, Lent, Rooms},
     rows::{ABSENT, NO_KIND, Outcome, Rows},
 };
 
@@ -48,19 +52,50 @@ impl Coverage {
         }
     }
 
+    /// Of frames of the program `batch` with rooms of their own.
+    pub fn of_rooms(frames: impl Iterator<Item = Vec<u8>>) -> Coverage {
+        let (mut coverage, mut judge, mut last) = (Coverage::default(), Judge::default(), Vec::new());
+        for frame in frames {
+            coverage.cases += 1;
+            let Some(lent) = Lent::decode(&frame) else {
+                coverage.show("no head");
+                continue;
+            };
+            let Some(known) = judge.known(&lent) else {
+                coverage.show("bad input");
+                continue;
+            };
+            for name in in_rooms(known, lent.rooms) {
+                coverage.show(&name);
+            }
+            if lent.input != last {
+                coverage.show(match known.outcome() {
+                    Outcome::Accepted(_) => "scripts: accepted, rows counted",
+                    Outcome::Refused(_) => "scripts: refused",
+                });
+                last = lent.input;
+            }
+        }
+        coverage
+    }
+
     fn show(&mut self, name: &str) {
         *self.shown.entry(name.into()).or_default() += 1;
     }
 
     /// Prints all that is shown, and what is missing; true if nothing is.
     pub fn print(&self) -> bool {
-        for (name, count) in &self.shown {
-            println!("{count:7}  {name}");
-        }
+        self.print_shown();
         let missing = self.missing();
         missing.iter().for_each(|name| println!("missing: {name}"));
         println!("{} cases, {} things shown, {} missing", self.cases, self.shown.len(), missing.len());
         missing.is_empty()
+    }
+
+    pub fn print_shown(&self) {
+        for (name, count) in &self.shown {
+            println!("{count:7}  {name}");
+        }
     }
 
     /// What must be shown and is not.
@@ -104,6 +139,34 @@ const OTHERS: [&str; 33] = [
     "condition If", "statement Block", "statement If", "statement WhileLoop", "statement Function",
     "statement Import", "statement Assign", "tail Import", "tail Variable",
 ];
+
+/// What is shown by a case in rooms of chosen sizes: of a 4 in reading, which row lacks room, and what else stands at its
+/// token.
+fn in_rooms(known: &Known, rooms: Rooms) -> Vec<String> {
+    if let Some(refusal) = known.turned_away(rooms) {
+        return vec![format!("code {} at the door", refusal.code)];
+    }
+    let Some(lacking) = known.lacking(rooms) else {
+        return vec![match known.outcome() {
+            Outcome::Accepted(_) => "code 0".into(),
+            Outcome::Refused(refusal) => format!("code {}", refusal.code),
+        }];
+    };
+    let row = format!("code 4 by a {:?} row", lacking.row);
+    let mut names = vec![row.clone()];
+    match known.outcome() {
+        Outcome::Accepted(_) => names.push(format!("{row} of an accepted script")),
+        Outcome::Refused(refusal) if refusal.at as usize == lacking.at => {
+            names.push(format!("{row}, before {} at its token", refusal.code));
+        }
+        Outcome::Refused(_) => {}
+    }
+    let at_token = known.asked().iter().filter(|asked| asked.at == lacking.at);
+    if lacking.row != Row::Symbol && at_token.clone().any(|asked| asked.row == Row::Symbol) {
+        names.push(format!("{row}, before a symbol row at its token"));
+    }
+    names
+}
 
 fn productions(case: &Case, rows: &Rows) -> Vec<String> {
     let mut names = Vec::new();

@@ -1,11 +1,17 @@
-//! Checks 1 to 7 of document 01, as far as an input of `rows` can fail them; its rooms are large enough.
+//! Checks 1 to 7 of document 01. Check 4 is of the scratch room alone: document 02, L6.
 use crate::{
     case::{Case, Token},
     kinds::{EOF, fits},
     rows::{NO_KIND, Refusal},
 };
 
+/// With scratch enough, as `rows` lends it.
 pub fn refusal(case: &Case, limit: u32) -> Option<Refusal> {
+    refusal_with(case, limit, case.tokens.len())
+}
+
+/// With so many rows of scratch.
+pub fn refusal_with(case: &Case, limit: u32, scratch: usize) -> Option<Refusal> {
     if !(1..=4_096).contains(&case.tokens.len()) {
         return Some(placeless(1));
     }
@@ -14,6 +20,9 @@ pub fn refusal(case: &Case, limit: u32) -> Option<Refusal> {
     }
     if !(1..=64).contains(&limit) {
         return Some(placeless(3));
+    }
+    if scratch < case.tokens.len() {
+        return Some(placeless(4));
     }
     if let Some(offset) = case.text.iter().position(|byte| *byte > 127) {
         let offset = offset as u32;

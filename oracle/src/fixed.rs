@@ -1,5 +1,5 @@
-//! The fixed list of cases, and its file: for each case a frame with the input of `rows`, then one with the
-//! answer.
+//! The fixed lists, as the gate runs them. For the program `replay` a file: for each case a frame with the input of
+//! `rows`, then one with the answer. For `batch` two: the frames that it reads, and those that it must write.
 use std::{collections::HashSet, io::Cursor};
 
 use crate::{
@@ -9,7 +9,9 @@ use crate::{
     drawn::{Cases, exact},
     frame,
     list::script,
+    rooms::Judge,
     rows::Outcome,
+    tight,
 };
 
 /// The cases of the list, in order.
@@ -77,13 +79,21 @@ pub fn file() -> Vec<u8> {
     bytes
 }
 
-/// The pairs of case and answer in a file.
-pub fn pairs(file: &[u8]) -> Vec<(Vec<u8>, Vec<u8>)> {
-    let mut rest = Cursor::new(file);
-    let mut pairs = Vec::new();
-    while let Some(case) = frame::read(&mut rest).expect("whole frames") {
-        let answer = frame::read(&mut rest).expect("whole frames").expect("an answer to every case");
-        pairs.push((case, answer));
+/// What `batch` reads, and what it must write: some inputs of `rows`, whole and broken, and the corners of rooms of any
+/// size.
+pub fn batch_files() -> (Vec<u8>, Vec<u8>) {
+    let whole = script("a;").encode();
+    let plain = [whole.clone(), Vec::new(), [&whole[..], &[0]].concat(), whole[..8].to_vec()];
+    let (mut read, mut written, mut judge) = (Vec::new(), Vec::new(), Judge::default());
+    for case in plain.into_iter().chain(tight::corners()) {
+        frame::write(&mut read, &case).expect("memory");
+        frame::write(&mut written, &judge.answer(&case)).expect("memory");
     }
-    pairs
+    (read, written)
+}
+
+/// The frames of a file.
+pub fn frames(file: &[u8]) -> Vec<Vec<u8>> {
+    let mut rest = Cursor::new(file);
+    std::iter::from_fn(|| frame::read(&mut rest).expect("whole frames")).collect()
 }

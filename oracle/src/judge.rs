@@ -1,4 +1,4 @@
-//! Runs the original parser, and the derived one that counts openings, and holds one against the other.
+//! Runs the original parser, and the derived ones that count openings and record rows, and holds one against the other.
 use std::{
     cell::Cell,
     panic::{self, AssertUnwindSafe},
@@ -8,7 +8,8 @@ use std::{
 use kaori::{
     compiler::{Compiler, FOR, NESTED, fresh_interner},
     diagnostics::error::Error,
-    syntax::{ast::Ast, counted, parser, token},
+    recorder::{self, Asked, Row},
+    syntax::{ast::Ast, counted, parser, recorded, token},
 };
 
 use crate::{
@@ -24,12 +25,13 @@ pub struct Reading {
     pub deepest: u32,
 }
 
+static TURN: Mutex<()> = Mutex::new(()); // there is one interner
+
 /// Reads a case that has passed the door.
 pub fn read(case: &Case, limit: u32) -> Reading {
-    static TURN: Mutex<()> = Mutex::new(()); // there is one interner
     let _turn = TURN.lock().unwrap_or_else(PoisonError::into_inner);
 
-    let text = str::from_utf8(&case.text).expect("the door lets ASCII alone through");
+    let text = text(case);
     let compiler = Compiler::with_limit(limit);
     let counted = result(case, || counted::Parser::new(text, tokens(case), &compiler).parse());
     let deepest = compiler.deepest();
@@ -45,11 +47,41 @@ pub fn read(case: &Case, limit: u32) -> Reading {
     Reading { outcome, deepest }
 }
 
+/// The rows that the reading of a case asks for, in order, up to its end or its refusal: what `read` gives. The case
+/// has passed the door.
+pub fn record(case: &Case, limit: u32, outcome: &Outcome) -> Vec<Asked> {
+    let _turn = TURN.lock().unwrap_or_else(PoisonError::into_inner);
+    fresh_interner();
+    recorder::start();
+    let compiler = Compiler::with_limit(limit);
+    let parsed = silently(|| recorded::Parser::new(text(case), tokens(case), &compiler).parse());
+    let asked = recorder::asked();
+    match (parsed, outcome) {
+        (Ok(Ok(_)), Outcome::Accepted(rows)) => {
+            let count = |row: Row| asked.iter().filter(|asked| asked.row == row).count();
+            let counts = [Row::Node, Row::Link, Row::Symbol].map(count);
+            let written = [rows.nodes.len(), rows.links.len(), rows.symbols.len()];
+            assert_eq!(counts, written, "rows asked for and written: {}", show::case(&case.encode()));
+        }
+        (Ok(Err(error)), Outcome::Refused(refusal)) => {
+            let Refusal { start, end, message, .. } = refusal;
+            assert_eq!((error.span.start, error.span.end, &error.message), (*start, *end, message));
+        }
+        _ => panic!("the recording parser differs:\n{}", show::case(&case.encode())),
+    }
+    assert!(asked.is_sorted_by_key(|asked| asked.at), "rows are asked for from left to right");
+    asked
+}
+
 enum Parsed {
     Rows(Rows),
     Error(Error),
     /// `todo!()`
     Panic,
+}
+
+fn text(case: &Case) -> &str {
+    str::from_utf8(&case.text).expect("the door lets ASCII alone through")
 }
 
 fn tokens(case: &Case) -> Vec<(token::Token, token::Span)> {

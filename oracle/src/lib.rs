@@ -14,6 +14,7 @@ pub mod lines;
 pub mod list;
 pub mod numbers;
 pub mod random;
+pub mod rooms;
 pub mod rows;
 pub mod scripts;
 pub mod show;
@@ -21,14 +22,21 @@ pub mod shrink;
 pub mod subject;
 pub mod table;
 pub mod texts;
+pub mod tight;
 
 pub use answer::{LIMIT, answer, answer_with};
 
 /// Runs `work` with stack enough for the original parser on any input of `rows`.
 pub fn with_large_stack<T: Send + 'static>(work: impl FnOnce() -> T + Send + 'static) -> T {
-    let thread = std::thread::Builder::new().stack_size(256 << 20).spawn(work);
-    match thread.expect("a thread").join() {
+    match large_thread(work).join() {
         Ok(result) => result,
         Err(panic) => std::panic::resume_unwind(panic),
     }
+}
+
+/// A thread with so much stack.
+pub fn large_thread<T: Send + 'static>(
+    work: impl FnOnce() -> T + Send + 'static,
+) -> std::thread::JoinHandle<T> {
+    std::thread::Builder::new().stack_size(256 << 20).spawn(work).expect("a thread")
 }

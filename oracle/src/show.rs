@@ -1,7 +1,16 @@
 //! Cases and answers for people to read.
-use crate::{case::Case, kinds::name};
+use crate::{
+    case::Case,
+    kinds::name,
+    rooms::{Lent, WIDTHS},
+};
 
 pub fn case(input: &[u8]) -> String {
+    if let Some(Lent { limit, rooms, input }) = Lent::decode(input) {
+        let rows: Vec<_> = rooms.iter().zip(WIDTHS).map(|(size, width)| (size / width).to_string()).collect();
+        let rows = rows.join(" ");
+        return format!("{}limit    {limit}\nrooms    {rooms:?} numbers, {rows} rows\n", case(&input));
+    }
     let Some(case) = Case::decode(input) else {
         return format!("bytes    {}\n", hex(input));
     };

@@ -7,7 +7,7 @@ use std::{
     time::{Duration, Instant},
 };
 
-use crate::frame;
+use crate::{frame, large_thread};
 
 /// After so long without an answer a program is ended.
 pub const PATIENCE: Duration = Duration::from_secs(20);
@@ -65,7 +65,7 @@ impl Subject {
         mut each: impl FnMut(Answer) -> bool,
     ) -> Result<(), String> {
         let (mut child, input, output) = self.start()?;
-        thread::spawn(move || {
+        large_thread(move || {
             let mut input = BufWriter::new(input);
             for case in cases {
                 if frame::write(&mut input, &case).is_err() {

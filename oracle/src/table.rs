@@ -3,7 +3,8 @@
 use crate::{
     case::Case,
     numbers::Number,
-    rows::{Outcome, Rows},
+    rooms::{Lent, Rooms},
+    rows::{self, Outcome},
     show,
 };
 
@@ -18,11 +19,12 @@ pub trait Row: Clone {
     fn shown(&self) -> String;
 }
 
-/// A case with its limit and what the original made of it.
+/// A case with its limit, its rooms and what the original made of it.
 #[derive(Clone)]
 pub struct Entry {
     pub case: Case,
     pub limit: u32,
+    pub rooms: Rooms,
     pub outcome: Outcome,
 }
 
@@ -53,18 +55,18 @@ cases =
     fn proofs(model: &str) -> String {
         let model = replaced(
             model,
-            "specs.Samples.{Sample, All-right, samples, points}",
+            "specs.Samples.{Sample, All-right, samples, points, tight}",
             "specs.Samples.{Sample, All-right}\nuse Rattle.grammar.specs.Cases.{cases}",
         );
         let model = replaced(&model, " 400 script", &format!(" {FUEL} script"));
         let model = replaced(
             &model,
-            "pub samples-right : All-right (samples ++ points)",
+            "pub samples-right : All-right (samples ++ points ++ tight)",
             "pub cases-right : All-right cases",
         );
         replaced(
             &model,
-            "samples-right = all-right (samples ++ points) refl",
+            "samples-right = all-right (samples ++ points ++ tight) refl",
             "cases-right = all-right cases refl",
         )
     }
@@ -74,8 +76,9 @@ cases =
     }
 
     fn shown(&self) -> String {
-        let case = show::case(&self.case.encode());
-        format!("{case}limit    {}\nRust\n         {:?}\n", self.limit, self.outcome)
+        let Entry { limit, rooms, .. } = *self;
+        let case = show::case(&Lent { limit, rooms, input: self.case.encode() }.encode());
+        format!("{case}Rust\n         {:?}\n", self.outcome)
     }
 }
 
@@ -122,11 +125,11 @@ fn replaced(text: &str, old: &str, new: &str) -> String {
     text.replace(old, new)
 }
 
-fn sample(Entry { case, limit, outcome }: &Entry) -> String {
+fn sample(Entry { case, limit, rooms, outcome }: &Entry) -> String {
     let text = list(case.text.iter().map(|byte| *byte as u32));
     let tokens = list(case.tokens.iter().flat_map(|token| [token.kind as u32, token.start, token.end]));
     let outcome = match outcome {
-        Outcome::Accepted(Rows { nodes, links, symbols }) => {
+        Outcome::Accepted(rows::Rows { nodes, links, symbols }) => {
             let [nodes, links, symbols] =
                 [nodes.as_flattened(), links.as_flattened(), symbols.as_flattened()]
                     .map(|numbers| list(numbers.iter().copied()));
@@ -136,7 +139,9 @@ fn sample(Entry { case, limit, outcome }: &Entry) -> String {
             format!("refusal (refused {} {} {})", refusal.code, refusal.at, refusal.expected)
         }
     };
-    format!("record {{ text = {text}; tokens = {tokens}; limit = {limit}; outcome = {outcome} }}")
+    let [nodes, links, symbols, _] = rooms;
+    let rooms = format!("space = record {{ nodes = {nodes}; links = {links} }}; room = {symbols}");
+    format!("record {{ text = {text}; tokens = {tokens}; limit = {limit}; {rooms}; outcome = {outcome} }}")
 }
 
 fn list(numbers: impl Iterator<Item = u32>) -> String {

@@ -1,8 +1,10 @@
 //! The syntax module of Kaori, compiled from the source documents as they stand, over stubs of what it leans on.
-//! `syntax::parser` is the original; `syntax::counted` is derived from it by build.rs and counts openings.
+//! `syntax::parser` is the original. build.rs derives `syntax::counted` from it, which counts openings, and
+//! `syntax::recorded`, which also tells `recorder` of each row that it asks for.
 #![allow(dead_code)]
 
 pub mod compiler;
 pub mod diagnostics;
+pub mod recorder;
 
 include!(concat!(env!("OUT_DIR"), "/kaori.rs"));

@@ -1,23 +1,35 @@
-//! compare N [--batch] [--seed S] COMMAND..: runs N cases through the original and through COMMAND.
+//! compare N [--tight] [--batch] [--seed S] COMMAND..: runs N cases through the original and through COMMAND.
 use std::{
     process::ExitCode,
     time::{Duration, Instant},
 };
 
 use oracle::{
-    answer,
     drawn::Cases,
+    rooms::{Judge, Lent},
     show,
     shrink::shrunk,
     subject::{Answer, PATIENCE, Subject},
+    tight,
 };
 
-const USAGE: &str = "compare N [--batch] [--seed S] COMMAND..";
+const USAGE: &str = "compare N [--seed S] COMMAND.. | compare N [--tight] [--seed S] --batch COMMAND..";
 
 struct Options {
     count: u64,
     seed: u64,
+    tight: bool,
     subject: Subject,
+}
+
+impl Options {
+    fn cases(&self) -> Box<dyn Iterator<Item = Vec<u8>> + Send> {
+        if self.tight {
+            return Box::new(tight::frames(self.seed));
+        }
+        let cases = Cases::new(self.seed);
+        Box::new((0..).map(move |index| cases.get(index)))
+    }
 }
 
 fn main() -> ExitCode {
@@ -31,20 +43,23 @@ fn main() -> ExitCode {
 fn options(words: Vec<String>) -> Option<Options> {
     let mut words = words.into_iter().peekable();
     let count = words.next()?.parse().ok()?;
-    let (mut seed, mut batch) = (1, false);
+    let (mut seed, mut batch, mut tight) = (1, false, false);
     loop {
         match words.peek()?.as_str() {
             "--batch" => batch = words.next().is_some(),
+            "--tight" => tight = words.next().is_some(),
             "--seed" => seed = words.nth(1)?.parse().ok()?,
             _ => break,
         }
     }
-    Some(Options { count, seed, subject: Subject { words: words.collect(), batch } })
+    let subject = Subject { words: words.collect(), batch };
+    (batch || !tight).then_some(Options { count, seed, tight, subject })
 }
 
 /// The differences met so far.
 #[derive(Default)]
 struct Tally {
+    judge: Judge,
     compared: u64,
     differences: u64,
     smallest: Option<Vec<u8>>,
@@ -53,7 +68,7 @@ struct Tally {
 impl Tally {
     fn add(&mut self, case: Vec<u8>, given: Answer) {
         self.compared += 1;
-        if given.as_ref() == Ok(&answer(&case)) {
+        if given.as_ref() == Ok(&self.judge.answer(&case)) {
             return;
         }
         self.differences += 1;
@@ -63,14 +78,15 @@ impl Tally {
     }
 }
 
-fn run(Options { count, seed, subject }: Options) -> ExitCode {
-    let cases = Cases::new(seed);
+fn run(options: Options) -> ExitCode {
+    let Options { count, subject, .. } = &options;
+    let mut cases = options.cases();
     let mut tally = Tally::default();
     let failure = if subject.batch {
-        let sent = Cases::new(seed);
-        let answered = subject.stream((0..count).map(move |index| sent.get(index)), |given| {
-            if tally.compared < count {
-                tally.add(cases.get(tally.compared), given);
+        let sent = options.cases().take(*count as usize);
+        let answered = subject.stream(sent, |given| {
+            if tally.compared < *count {
+                tally.add(cases.next().expect("cases do not end"), given);
                 return true;
             }
             tally.differences += 1; // an answer to no case
@@ -78,8 +94,7 @@ fn run(Options { count, seed, subject }: Options) -> ExitCode {
         });
         answered.err()
     } else {
-        for index in 0..count {
-            let case = cases.get(index);
+        for case in cases.by_ref().take(*count as usize) {
             let start = Instant::now();
             let given = subject.one(&case);
             tally.add(case, given);
@@ -93,36 +108,65 @@ fn run(Options { count, seed, subject }: Options) -> ExitCode {
     if let Some(failure) = &failure {
         println!("{failure}");
     }
-    if tally.compared < count {
+    if tally.compared < *count {
         println!("the run ended after {} cases: the others count as differences", tally.compared);
-        let unanswered = cases.get(tally.compared);
+        let unanswered = cases.next().expect("cases do not end");
         tally.differences += count - tally.compared;
         tally.smallest.get_or_insert(unanswered);
     } else if failure.is_some() {
         tally.differences += 1;
     }
     if let Some(case) = tally.smallest {
-        show_smallest(case, &subject);
+        show_smallest(case, subject);
     }
     println!("{count} cases, {} differences", tally.differences);
     ExitCode::from((tally.differences > 0) as u8)
 }
 
 fn show_smallest(case: Vec<u8>, subject: &Subject) {
-    let differs = |case: &[u8]| subject.one(case).as_ref() != Ok(&answer(case));
+    let mut judge = Judge::default();
     let start = Instant::now();
-    let shrunk = if !differs(&case) {
+    let shrunk = if !differs(&case, subject, &mut judge) {
         println!("the difference is not there when the case is run alone");
         case
     } else if start.elapsed() > Duration::from_secs(2) {
         case // to run it again and again would take too long
+    } else if let Some(lent) = Lent::decode(&case) {
+        shrunk_in_rooms(case, lent, subject, &mut judge)
     } else {
-        shrunk(case, differs)
+        shrunk(case, |case| differs(case, subject, &mut judge))
     };
     print!("the smallest case that differs:\n{}", show::case(&shrunk));
-    print!("Rust\n{}", show::answer(&answer(&shrunk)));
+    print!("Rust\n{}", show::answer(&judge.answer(&shrunk)));
     match subject.one(&shrunk) {
         Ok(given) => print!("program\n{}", show::answer(&given)),
         Err(failure) => println!("program\n         {failure}"),
     }
+}
+
+fn differs(case: &[u8], subject: &Subject, judge: &mut Judge) -> bool {
+    subject.one(case).as_ref() != Ok(&judge.answer(case))
+}
+
+/// A smaller input makes for other rooms, so for each input all rooms are tried that may tell.
+fn shrunk_in_rooms(case: Vec<u8>, lent: Lent, subject: &Subject, judge: &mut Judge) -> Vec<u8> {
+    let mut smallest = case;
+    shrunk(lent.input.clone(), |input| {
+        let frames = tight::tried(&Lent { input: input.to_vec(), ..lent });
+        let (mut compared, mut found) = (0, None);
+        let failure = subject.stream(frames.clone().into_iter(), |given| {
+            let Some(frame) = frames.get(compared) else { return false };
+            compared += 1;
+            if given.as_ref() != Ok(&judge.answer(frame)) {
+                found = Some(frame.clone());
+            }
+            found.is_none()
+        });
+        if failure.is_err() {
+            found = found.or(frames.get(compared).cloned());
+        }
+        smallest = found.clone().unwrap_or(std::mem::take(&mut smallest));
+        found.is_some()
+    });
+    smallest
 }

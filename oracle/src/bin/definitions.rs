@@ -8,13 +8,14 @@ use std::{
 };
 
 use oracle::{
-    answer::outcome,
     door,
     drawn::small,
     judge,
     numbers::number,
+    rooms::Known,
     rows::Outcome,
     table::{Entry, Row},
+    tight::settings,
 };
 
 /// Cases in one table.
@@ -80,7 +81,8 @@ fn run<R: Row>(rows: &[R], summary: String, grammar: &Path) -> ExitCode {
     ExitCode::from(!different.is_empty() as u8)
 }
 
-/// A case that passes the door, with a limit near its own depth or the usual one.
+/// A case that passes the door, with a limit near its own depth or the usual one, and rooms that tell, every other time
+/// with a row for each token.
 fn entry(seed: u64, index: u64) -> Option<Entry> {
     let (case, mut random) = small(seed, index);
     if door::refusal(&case, 64).is_some() {
@@ -89,7 +91,14 @@ fn entry(seed: u64, index: u64) -> Option<Entry> {
     let depth = judge::read(&case, 64).deepest as usize;
     let near = [64, 64, depth.saturating_sub(1), depth, depth + 1, random.between(1, depth.max(1))];
     let limit = random.pick(&near).clamp(1, 64) as u32;
-    Some(Entry { outcome: outcome(&case, limit), case, limit })
+    let known = Known::of(case.clone(), limit);
+    let mut rooms = vec![known.ample()];
+    if random.once_in(2) {
+        rooms = settings(&known, &mut random);
+        rooms.retain(|rooms| known.turned_away(*rooms).is_none());
+    }
+    let rooms = random.pick(&rooms);
+    Some(Entry { outcome: known.comes(rooms), case, limit, rooms })
 }
 
 fn codes(entries: &[Entry]) -> String {

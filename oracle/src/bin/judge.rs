@@ -3,13 +3,14 @@
 //! can be tried.
 use std::io::{self, BufReader, BufWriter, Read, Write};
 
-use oracle::{answer, frame};
+use oracle::{frame, rooms::Judge};
 
 fn main() -> io::Result<()> {
     let damage = std::env::var("ORACLE_DAMAGE").ok();
     let batch = std::env::args().nth(1).is_some_and(|word| word == "--batch");
     oracle::with_large_stack(move || {
-        let answered = |case: &[u8]| spoiled(answer(case), damage.as_deref());
+        let mut judge = Judge::default();
+        let mut answered = |case: &[u8]| spoiled(judge.answer(case), damage.as_deref());
         let mut input = BufReader::new(io::stdin().lock());
         let mut output = BufWriter::new(io::stdout().lock());
         if batch {

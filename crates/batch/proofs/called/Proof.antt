@@ -1,0 +1,17 @@
+-- `batch::called` is safe and ends: the input has as many records as it was measured to have, and the tokens lie in their list.
+use mathlib.Core.Path.{sym}
+use native.Mathlib.Omega.{arith}
+use lib.Seq.{length-take-le}
+use Rattle.wire.proofs.Scanning.{measured}
+use borrow.Author.Needs.{needs}
+use Rattle.batch.proofs.called.Statement.{statement}
+use Rattle.batch.proofs.called.Tie as tie
+
+fill-requires : tie.Need-fill-requires
+fill-requires c κs = let m = measured (c .before .before .before .before .before .before .pre .0) in (m .marks, omega (arith, m .ends), omega (arith, m .most-tokens))
+
+slice-aggregate-parse : tie.Need-slice-aggregate-parse
+slice-aggregate-parse c = let m = measured (c .before .before .before .before .before .before .before .before .before .before .pre .0) in sym (length-take-le _ _ (omega (arith, m .most-tokens)))
+
+pub called-spec : {M : Type 1} → statement M
+called-spec = tie.close (tie.spec (λ c. search needs) (λ c. search needs) (λ c. search needs) fill-requires (λ c. search needs) (λ c. search needs) (λ c. search needs) (λ c. search needs) slice-aggregate-parse (λ c κs. search needs) (λ c κs. search needs) (λ c. search needs) (λ c. search needs) (λ c. search needs) (λ c. search needs) (λ c. search needs))
