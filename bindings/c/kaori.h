@@ -36,8 +36,8 @@ enum { KAORI_ANSWER_ROOM = 8, KAORI_PLACE_ROOM = 3, KAORI_MESSAGE_ROOM = 52 };
 
 /* What stands where in an answer of kaori_parse and kaori_read. After 0: code, three counts of rows, 0, 0, 0, 255. After
    a refusal: code, 0, 0, 0, the number of the token, where it starts and ends in the text, and the kind of token that
-   was required there, or 255. Refusals 5 and 16 have no token but a byte, and 1 to 4 have no place: their numbers are
-   then 0. */
+   was required there, or 255. Refusals 5 and 16 have no token but a byte, and 1, 2, 3 and a 4 for scratch have no place:
+   their numbers are then 0. */
 enum {
     KAORI_CODE,
     KAORI_NODES,
@@ -52,14 +52,16 @@ enum {
 /* And in an answer of kaori_place, after its code. */
 enum { KAORI_LINE = 1, KAORI_COLUMN };
 
-/* Codes. The first that applies is the answer. 12 is not used. */
+/* Codes. The first that applies is the answer; in reading, from left to right, the first that is met. At one token a 4 for
+   a link's or a node's row comes first, then 11, then a 4 for a symbol's row, then 8, 9 and 10. 12 is not used. */
 enum {
     KAORI_OK = 0,
     KAORI_BAD_COUNT = 1,       /* the list's length is not three times a count from 1 to 4,096; of kaori_read: too many
                                   tokens, or too little room for their list */
     KAORI_LONG_TEXT = 2,       /* text over 65,536 bytes */
     KAORI_BAD_LIMIT = 3,       /* depth limit 0 or over 64 */
-    KAORI_SMALL_ROOM = 4,      /* a room has fewer rows than there are tokens */
+    KAORI_SMALL_ROOM = 4,      /* scratch has fewer rows than there are tokens; or, met in reading, a row does not fit the
+                                  room of its sort */
     KAORI_HIGH_BYTE = 5,       /* a byte of the text over 127 */
     KAORI_BAD_TOKEN = 6,       /* a token's kind, span or lexeme is wrong */
     KAORI_BAD_EOF = 7,         /* Eof before the last token, or no Eof there */
@@ -153,13 +155,26 @@ enum { KAORI_PARENT = 9 };
    value's row or absent, 0). A symbol row is where the symbol first stands in the text, start and end; a name's symbol
    is its text, a string's what stands between its quotes; symbols are numbered in the order of their first places. */
 
+/* How much room to lend. Scratch needs as many rows as there are tokens, the Eof counted. The node, link and symbol rooms
+   may be of any size: a script is read where its rows fit, and answered by 4 where they do not.
+   - As many rows as there are tokens are always enough, in each room.
+   - The counts of an answer of 0 are just what that script needs: with so many rows it is read, with a row less it is not.
+   - A first guess for other scripts: two thirds of the tokens for nodes, a third for links, a quarter for symbols, and four
+     rows more in each; bindings/README.md has what was measured. After a 4 lend more, and call again.
+   There are two sorts of 4. Where scratch has too few rows no place is given, and the rooms are left as they were. Else the
+   4 was met in reading: the place is the token at which the first row did not fit, and all rooms are left zeros. A symbol's
+   row is met at its name or string, a node's links and then its row at the token after the node, the root's at the Eof,
+   and there too an import's that the Eof stops. Tell the two apart by what was lent, not by the answer: of an Eof alone
+   with the span 0, 0 and no node row the eight numbers are 4 0 0 0 0 0 0 255, as they are for scratch. */
+
 /* Reads a script that is given as its text and its tokens.
    Takes: the text; the tokens, three numbers each (kind, start, end), Eof last; the depth limit, 1 to 64; four rooms,
-   each of at least as many rows as there are tokens, whatever they hold; and a room of 8 numbers or more for the answer.
-   Answers: the code: 0, 1 to 11 or 13.
+   whatever they hold, scratch with a row for each token and the others of any size; and a room of 8 numbers or more for
+   the answer.
+   Answers: the code: 0, 1 to 11 or 13. A 4 for scratch comes before 5.
    Leaves: in the answer's room the eight numbers, the rest as it was; after 0 in the other rooms the script's rows and
-   then zeros to each room's end, scratch all zeros; after 1 to 7 the four rooms as they were; after 8 to 11 the four
-   rooms all zeros; after 13 everything as it was. */
+   then zeros to each room's end, scratch all zeros; after 1, 2, 3, 5, 6, 7 and a 4 for scratch the four rooms as they
+   were; after 8 to 11 and a 4 in reading the four rooms all zeros; after 13 everything as it was. */
 uint32_t kaori_parse(const uint8_t *text, size_t text_len, const uint32_t *tokens, size_t tokens_len, uint32_t limit,
                      uint32_t *nodes, size_t nodes_len, uint32_t *links, size_t links_len, uint32_t *symbols,
                      size_t symbols_len, uint32_t *scratch, size_t scratch_len, uint32_t *answer, size_t answer_len);
@@ -169,7 +184,7 @@ uint32_t kaori_parse(const uint8_t *text, size_t text_len, const uint32_t *token
    Answers: the code. The token maker's refusals come first, in the order 2, 5, 16, 1; then 3, 4 and 8 to 11 as
    kaori_parse has them for the tokens that were made. 13 comes before all.
    Leaves: in the tokens' room the tokens and then zeros, or as it was after 2, 5 and 13, or zeros throughout after 16 and
-   1; the four rooms as they were after 1 to 5, 13 and 16, else as kaori_parse leaves them; in the answer's room the
+   1; the four rooms as they were after 1, 2, 5, 13 and 16, else as kaori_parse leaves them; in the answer's room the
    eight numbers, but after 13. */
 uint32_t kaori_read(const uint8_t *text, size_t text_len, uint32_t *tokens, size_t tokens_len, uint32_t limit,
                     uint32_t *nodes, size_t nodes_len, uint32_t *links, size_t links_len, uint32_t *symbols,

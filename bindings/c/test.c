@@ -113,21 +113,77 @@ static void reading(void) {
     EXPECT(from_text(&r, "", 64, 3, 8) == KAORI_OK && r.tokens[0] == KAORI_EOF && r.answer[KAORI_NODES] == 1);
 }
 
-/* Rooms of just enough rows for three tokens, and before that each in turn with a number less. */
-static void rows_counted(void) {
-    static const size_t enough[] = {KAORI_NODE_WIDTH * 3, KAORI_LINK_WIDTH * 3, KAORI_SYMBOL_WIDTH * 3, KAORI_SCRATCH_WIDTH * 3};
+/* A call in the first numbers of the rooms: so many of nodes, links, symbols and scratch. */
+static uint32_t parse_in(rooms *r, const char *text, const uint32_t *tokens, size_t length, const size_t *n) {
+    return kaori_parse((const uint8_t *)text, strlen(text), tokens, length, 64, r->nodes, n[0], r->links, n[1], r->symbols,
+                       n[2], r->scratch, n[3], r->answer, 8);
+}
+
+/* The numbers that were lent are all zeros, and those past them as they were. */
+static int zeros(const rooms *r, const size_t *n) {
+    const uint32_t *four[] = {r->nodes, r->links, r->symbols, r->scratch};
+    const size_t lengths[] = {LENGTH(r->nodes), LENGTH(r->links), LENGTH(r->symbols), LENGTH(r->scratch)};
+    int right = 1;
+    for (size_t i = 0; i < LENGTH(four); i++)
+        right = right && all(four[i], n[i], 0) && all(four[i] + n[i], lengths[i] - n[i], OLD);
+    return right;
+}
+
+/* `a;` in rooms of just what it needs: its rows, and a row of scratch for each token. Before that each room in turn with a
+   number less: the root's row and its link do not fit at the Eof, the symbol at its name. */
+static void just_enough(void) {
+    static const size_t enough[] = {KAORI_NODE_WIDTH * 2, KAORI_LINK_WIDTH * 1, KAORI_SYMBOL_WIDTH * 1, KAORI_SCRATCH_WIDTH * 3};
+    static const uint32_t place[][3] = {{2, 2, 2}, {2, 2, 2}, {0, 0, 1}};
     for (size_t small = 0; small <= LENGTH(enough); small++) {
         rooms r = fresh();
         size_t n[LENGTH(enough)];
         for (size_t i = 0; i < LENGTH(enough); i++) n[i] = enough[i] - (i == small);
-        uint32_t code = kaori_parse((const uint8_t *)"a;", 2, list, 9, 64, r.nodes, n[0], r.links, n[1], r.symbols, n[2],
-                                    r.scratch, n[3], r.answer, 8);
-        if (small < LENGTH(enough))
+        uint32_t code = parse_in(&r, "a;", list, 9, n);
+        if (small < LENGTH(place))
+            EXPECT(code == KAORI_SMALL_ROOM && zeros(&r, n) &&
+                   answered(&r, 4, place[small][0], place[small][1], place[small][2], KAORI_NO_KIND));
+        else if (small < LENGTH(enough))
             EXPECT(code == KAORI_SMALL_ROOM && answered(&r, 4, 0, 0, 0, KAORI_NO_KIND) && four_are(&r, OLD));
         else
-            EXPECT(code == KAORI_OK && memcmp(r.nodes, two_rows, sizeof two_rows) == 0 && fences(&r) &&
-                   all(r.nodes + LENGTH(two_rows), n[0] - LENGTH(two_rows), 0) && r.nodes[n[0]] == OLD);
+            EXPECT(code == KAORI_OK && memcmp(r.answer, accepted, sizeof accepted) == 0 && fences(&r) &&
+                   memcmp(r.nodes, two_rows, sizeof two_rows) == 0 && r.nodes[n[0]] == OLD && all(r.links, n[1], 0) &&
+                   r.links[n[1]] == OLD && r.symbols[0] == 0 && r.symbols[1] == 1 && r.symbols[n[2]] == OLD &&
+                   all(r.scratch, n[3], 0) && r.scratch[n[3]] == OLD);
     }
+}
+
+/* Rows of nodes, links and symbols, and the token of `f(a);` at which the first row does not fit: a symbol's at its name,
+   a name's row at the next token, the call's link and row after the `)`, the root's at the Eof. */
+static void row_by_row(void) {
+    static const uint32_t tokens[] = {KAORI_IDENTIFIER, 0, 1, KAORI_LEFT_PAREN, 1, 2, KAORI_IDENTIFIER, 2, 3, KAORI_RIGHT_PAREN, 3, 4, KAORI_SEMICOLON, 4, 5, KAORI_EOF, 5, 5};
+    static const uint32_t steps[][4] = {{0, 0, 0, 0}, {0, 0, 1, 1}, {1, 0, 1, 2}, {1, 0, 2, 3}, {2, 0, 2, 4}, {2, 1, 2, 4}, {3, 1, 2, 5}, {3, 2, 2, 5}};
+    static const uint32_t whole[] = {0, 4, 2, 2, 0, 0, 0, KAORI_NO_KIND};
+    size_t n[] = {KAORI_NODE_WIDTH * 4, KAORI_LINK_WIDTH * 2, KAORI_SYMBOL_WIDTH * 2, KAORI_SCRATCH_WIDTH * 6};
+    rooms full = fresh(), r = fresh();
+    EXPECT(parse(&full, "f(a);", tokens, LENGTH(tokens), 64, 8) == KAORI_OK);
+    EXPECT(parse_in(&r, "f(a);", tokens, LENGTH(tokens), n) == KAORI_OK && memcmp(r.answer, whole, sizeof whole) == 0);
+    EXPECT(memcmp(r.nodes, full.nodes, 4 * n[0]) == 0 && memcmp(r.links, full.links, 4 * n[1]) == 0 &&
+           memcmp(r.symbols, full.symbols, 4 * n[2]) == 0 && fences(&r));
+    for (size_t i = 0; i < LENGTH(steps); i++) {
+        uint32_t at = steps[i][3];
+        n[0] = KAORI_NODE_WIDTH * steps[i][0];
+        n[1] = KAORI_LINK_WIDTH * steps[i][1];
+        n[2] = KAORI_SYMBOL_WIDTH * steps[i][2];
+        r = fresh();
+        EXPECT(parse_in(&r, "f(a);", tokens, LENGTH(tokens), n) == KAORI_SMALL_ROOM && zeros(&r, n));
+        EXPECT(answered(&r, 4, at, tokens[3 * at + 1], tokens[3 * at + 2], KAORI_NO_KIND));
+    }
+}
+
+/* An Eof alone, and no node row: the answer of scratch that is too small. What is left tells which it was. */
+static void the_same_numbers(void) {
+    static const uint32_t eof[] = {KAORI_EOF, 0, 0};
+    size_t n[] = {0, 0, 0, KAORI_SCRATCH_WIDTH};
+    rooms r = fresh();
+    EXPECT(parse_in(&r, "", eof, 3, n) == KAORI_SMALL_ROOM && answered(&r, 4, 0, 0, 0, KAORI_NO_KIND) && zeros(&r, n));
+    r = fresh();
+    n[3]--;
+    EXPECT(parse_in(&r, "", eof, 3, n) == KAORI_SMALL_ROOM && answered(&r, 4, 0, 0, 0, KAORI_NO_KIND) && four_are(&r, OLD));
 }
 
 /* f, a, -a, the call, the root: each row's parent, and from the inmost name outward. */
@@ -174,7 +230,9 @@ static void telling(void) {
 int main(void) {
     parsing();
     reading();
-    rows_counted();
+    just_enough();
+    row_by_row();
+    the_same_numbers();
     parents();
     telling();
     return failed != 0;

@@ -60,6 +60,27 @@
 //! # Ok::<(), kaori_syntax::Refusal>(())
 //! ```
 //!
+//! Rooms may have fewer rows than the script has tokens, since most trees need fewer. Where a row does not fit the script
+//! is refused by 4, and can be read again in larger rooms:
+//!
+//! ```
+//! use kaori_syntax::Rooms;
+//!
+//! let text = b"let total = price * 2;"; // 8 tokens, the Eof counted
+//! let mut rooms = Rooms::with_rows(5, 1, 2, 8); // just what its tree has
+//! assert_eq!(rooms.read(text, 64)?.rows().count(), 5);
+//!
+//! let mut rooms = Rooms::with_rows(1, 1, 1, 8);
+//! let tree = loop {
+//!     match rooms.read(text, 64) {
+//!         Ok(tree) => break tree,
+//!         Err(why) => rooms.grow(why)?,
+//!     }
+//! };
+//! assert_eq!(tree.rows().count(), 5);
+//! # Ok::<(), kaori_syntax::Refusal>(())
+//! ```
+//!
 //! A refusal has a code, a place and a message:
 //!
 //! ```
@@ -97,12 +118,16 @@ pub const SYMBOL_WIDTH: usize = 2;
 pub const SCRATCH_WIDTH: usize = 3;
 
 const NO_KIND: u32 = 255;
+const EOF: u32 = 44;
+/// The code for scratch that is too small, and for a row that does not fit.
+const SMALL_ROOM: u32 = 4;
 
-/// What the reader writes into, lent for a call. Each room needs as many rows as there are tokens; what it holds does not
-/// matter.
+/// What the reader writes into, lent for a call; what it holds does not matter. `scratch` needs as many rows as there are
+/// tokens. The others may be of any size: with as many rows as the script's tree has it is read, with fewer it is refused
+/// by 4. As many rows as there are tokens are always enough.
 ///
-/// After a success each room has the script's rows and then zeros, `scratch` zeros alone. After a refusal with code 1 to 7
-/// or 16 all are as they were; after one with code 8 to 11 all are zeros.
+/// After a success each room has the script's rows and then zeros, `scratch` zeros alone. After a refusal that was met in
+/// reading, one with code 8 to 11 or a 4 with [`Refusal::found`], all are zeros; after any other all are as they were.
 #[derive(Debug)]
 pub struct Lent<'a> {
     /// [`NODE_WIDTH`] numbers a row.
@@ -131,17 +156,45 @@ pub struct Rooms {
 }
 
 impl Rooms {
-    /// Rooms for scripts of up to so many tokens, the Eof at the end counted; never more than [`MAX_TOKENS`]. A call clears
-    /// what it does not use, so rooms that fit are faster than rooms for everything.
+    /// Rooms for all scripts of up to so many tokens, the Eof at the end counted; never more than [`MAX_TOKENS`]. A call
+    /// clears what it does not use, so rooms that fit are faster than rooms for everything.
     pub fn for_tokens(tokens: usize) -> Rooms {
-        let rows = tokens.min(MAX_TOKENS);
+        Rooms::with_rows(tokens, tokens, tokens, tokens)
+    }
+
+    /// Rooms of so many node, link and symbol rows, and for up to so many tokens; never more than [`MAX_TOKENS`], and never
+    /// more than a row a token, which is always enough. What a script needs is what its tree has: as many node, link and
+    /// symbol rows. A first guess: two thirds, a third and a quarter of the tokens, and four rows more in each; bindings'
+    /// README has what was measured.
+    pub fn with_rows(nodes: usize, links: usize, symbols: usize, tokens: usize) -> Rooms {
+        let tokens = tokens.min(MAX_TOKENS);
+        let room = |width: usize, rows: usize| vec![0; width * rows.min(tokens)];
         Rooms {
-            nodes: vec![0; NODE_WIDTH * rows],
-            links: vec![0; LINK_WIDTH * rows],
-            symbols: vec![0; SYMBOL_WIDTH * rows],
-            scratch: vec![0; SCRATCH_WIDTH * rows],
-            list: vec![0; TOKEN_WIDTH * rows],
+            nodes: room(NODE_WIDTH, nodes),
+            links: room(LINK_WIDTH, links),
+            symbols: room(SYMBOL_WIDTH, symbols),
+            scratch: room(SCRATCH_WIDTH, tokens),
+            list: room(TOKEN_WIDTH, tokens),
         }
+    }
+
+    /// Doubles the node, link and symbol rows after a refusal that a row did not fit, but to no more than a row for each token
+    /// that `scratch` is for: then the script can be read again. Any other refusal is given back, and so is this one where
+    /// nothing can be grown.
+    pub fn grow(&mut self, why: Refusal) -> Result<(), Refusal> {
+        let mut left = Err(why);
+        if why.code == SMALL_ROOM && why.found.is_some() {
+            let most = (self.scratch.len() / SCRATCH_WIDTH).min(MAX_TOKENS);
+            let Rooms { nodes, links, symbols, .. } = self;
+            for (room, width) in [(nodes, NODE_WIDTH), (links, LINK_WIDTH), (symbols, SYMBOL_WIDTH)] {
+                let rows = room.len() / width;
+                if rows < most {
+                    room.resize(width * (2 * rows).clamp(1, most), 0);
+                    left = Ok(());
+                }
+            }
+        }
+        left
     }
 
     /// Reads a script's text: [`read`] in these rooms.
@@ -164,7 +217,7 @@ impl Rooms {
 /// | 1 | the token list's length is not three times a count from 1 to 4,096; by [`read`]: too many tokens, or too little list room |
 /// | 2 | text over 65,536 bytes |
 /// | 3 | depth limit 0 or over 64 |
-/// | 4 | a room has fewer rows than there are tokens |
+/// | 4 | `scratch` has fewer rows than there are tokens; met in reading: a row does not fit its room |
 /// | 5 | a text byte over 127 |
 /// | 6 | a token's kind, span or lexeme is wrong |
 /// | 7 | Eof before the last token, or none there |
@@ -177,13 +230,14 @@ impl Rooms {
 pub struct Refusal {
     /// From 1 to 11, or 16.
     pub code: u32,
-    /// The token's number, for codes 6 to 11; else 0.
+    /// The token's number, for codes 6 to 11 and a 4 that was met in reading; else 0.
     pub at: u32,
     /// The token's place in the text; for codes 5 and 16 a byte's; else 0, 0.
     pub span: Span,
     /// The kind that was required there, for code 8. Kinds are numbered in the order of token.rs's `Token`, from 0.
     pub expected: Option<u32>,
-    /// The kind of the token, for codes 6 to 11.
+    /// The kind of the token, for codes 6 to 11 and a 4 that was met in reading. So it tells the two sorts of 4 apart, also
+    /// where all other numbers are the same: without a kind it is `scratch` that is too small.
     pub found: Option<u32>,
 }
 
@@ -283,8 +337,16 @@ pub fn place(text: &[u8], offset: usize) -> Option<Place> {
 pub fn read<'a>(text: &'a [u8], list: &mut [u32], limit: u32, rooms: Lent<'a>) -> Result<Tree<'a>, Refusal> {
     let Lent { nodes, links, symbols, scratch } = rooms;
     let mut answer = [0; 8];
-    raw::read(text, list, limit, nodes, links, symbols, scratch, &mut answer);
-    tree(answer, text, list, nodes, links, symbols)
+    let code = raw::read(text, list, limit, nodes, links, symbols, scratch, &mut answer);
+    // how many tokens were made matters after a 4 alone
+    let tokens = if code == SMALL_ROOM { made(list) } else { list };
+    tree(answer, text, tokens, Lent { nodes, links, symbols, scratch })
+}
+
+/// The tokens of a list that was made, up to their Eof.
+fn made(list: &[u32]) -> &[u32] {
+    let eof = list.chunks_exact(TOKEN_WIDTH).position(|token| token[0] == EOF);
+    eof.and_then(|eof| list.get(..TOKEN_WIDTH * (eof + 1))).unwrap_or(list)
 }
 
 /// Reads a script that is given as its text and its tokens: three numbers each, kind, start and end, an Eof last. Kinds are
@@ -303,22 +365,23 @@ pub fn parse<'a>(text: &'a [u8], tokens: &[u32], limit: u32, rooms: Lent<'a>) ->
     let Lent { nodes, links, symbols, scratch } = rooms;
     let mut answer = [0; 8];
     raw::parse(text, tokens, limit, nodes, links, symbols, scratch, &mut answer);
-    tree(answer, text, tokens, nodes, links, symbols)
+    tree(answer, text, tokens, Lent { nodes, links, symbols, scratch })
 }
 
 fn tree<'a>(
     [code, node_rows, link_rows, symbol_rows, at, start, end, expected]: [u32; 8],
     text: &'a [u8],
     tokens: &[u32],
-    nodes: &'a [u32],
-    links: &'a [u32],
-    symbols: &'a [u32],
+    Lent { nodes, links, symbols, scratch }: Lent<'a>,
 ) -> Result<Tree<'a>, Refusal> {
     if code == 0 {
         return Ok(Tree::new(text, (nodes, node_rows), (links, link_rows), (symbols, symbol_rows)));
     }
+    let names_token = match code {
+        SMALL_ROOM => tokens.len() / TOKEN_WIDTH <= scratch.len() / SCRATCH_WIDTH,
+        _ => (6..=11).contains(&code),
+    };
     let expected = (expected != NO_KIND).then_some(expected);
     let found = (at as usize).checked_mul(TOKEN_WIDTH).and_then(|kind| tokens.get(kind)).copied();
-    let found = found.filter(|_| (6..=11).contains(&code));
-    Err(Refusal { code, at, span: Span { start, end }, expected, found })
+    Err(Refusal { code, at, span: Span { start, end }, expected, found: found.filter(|_| names_token) })
 }

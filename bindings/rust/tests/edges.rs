@@ -14,13 +14,10 @@ fn rooms_of_any_size() {
         }
     }
     let mut rooms = Rooms::for_tokens(16);
-    rooms.nodes.truncate(NODE_WIDTH * 13);
+    rooms.scratch.truncate(SCRATCH_WIDTH * 13);
     assert!(rooms.read(text, 64).is_ok());
-    rooms.nodes.truncate(NODE_WIDTH * 13 - 1);
-    assert_eq!(rooms.read(text, 64).unwrap_err().code, 4);
-    let mut rooms = Rooms::for_tokens(16);
-    rooms.links.truncate(LINK_WIDTH * 13 - 1);
-    assert_eq!(rooms.read(text, 64).unwrap_err().code, 4);
+    rooms.scratch.truncate(SCRATCH_WIDTH * 13 - 1);
+    assert_eq!(rooms.read(text, 64).map_err(|r| (r.code, r.at, r.found)).err(), Some((4, 0, None)));
     assert!(Rooms::for_tokens(1).read(b"", 64).is_ok());
     assert_eq!(Rooms::default().read(b"", 64).unwrap_err().code, 1);
     assert_eq!(Rooms::for_tokens(usize::MAX).nodes.len(), 10 * 4096);
@@ -177,7 +174,7 @@ fn anything_at_all() {
         "fun", "\n", "-", "@", "é",
     ];
     let mut dice = Dice(20261115);
-    let (mut accepted, mut turned, mut refused) = (0, 0, 0);
+    let (mut accepted, mut turned, mut refused, mut full) = (0, 0, 0, 0);
     for _ in 0..40_000 {
         let text: String = (0..dice.roll(12)).map(|_| PIECES[dice.roll(PIECES.len())]).collect();
         let text = text.as_bytes();
@@ -189,32 +186,45 @@ fn anything_at_all() {
             scratch: dice.numbers(SCRATCH_WIDTH * 16, 70),
             list: dice.numbers(TOKEN_WIDTH * 16, 70),
         };
-        if dice.roll(4) == 0 {
-            let short = dice.roll(NODE_WIDTH * 16 + 6);
-            for room in [&mut rooms.nodes, &mut rooms.links, &mut rooms.symbols, &mut rooms.list] {
-                room.truncate(short);
+        // rooms of less than three rows, now and then
+        let Rooms { nodes, links, symbols, .. } = &mut rooms;
+        for (room, width) in [(nodes, NODE_WIDTH), (links, LINK_WIDTH), (symbols, SYMBOL_WIDTH)] {
+            if dice.roll(4) == 0 {
+                room.truncate(dice.roll(3 * width));
             }
         }
-        let from_text = rooms
-            .read(text, limit)
-            .map(|tree| walk(&tree))
-            .map_err(|r| (r.code, r.at, r.span, r.to_string()));
+        for room in [&mut rooms.scratch, &mut rooms.list] {
+            if dice.roll(8) == 0 {
+                room.truncate(dice.roll(48));
+            }
+        }
+        let four =
+            |rooms: &Rooms| [&rooms.nodes, &rooms.links, &rooms.symbols, &rooms.scratch].map(Vec::clone);
+        let before = four(&rooms);
+        let from_text = rooms.read(text, limit).map(|tree| walk(&tree));
         match &from_text {
             Ok(()) => accepted += 1,
-            Err((code, ..)) if *code < 8 || *code == 16 => turned += 1,
-            Err((code, ..)) => {
-                assert!((8..=11).contains(code));
-                refused += 1;
+            Err(r) if r.found.is_none() => {
+                assert!([1, 3, 4, 5, 16].contains(&r.code) && four(&rooms) == before);
+                turned += 1;
+            }
+            Err(r) => {
+                assert!(r.code == 4 || (8..=11).contains(&r.code));
+                assert!(four(&rooms).concat().iter().all(|&number| number == 0));
+                if r.code == 4 {
+                    full += 1;
+                } else {
+                    refused += 1;
+                }
             }
         }
         // the tokens that were made have the same answer
         let mut list = rooms.list.clone();
         if let Some(eof) = list.chunks_exact(3).position(|token| token[0] == 44)
-            && !from_text.as_ref().is_err_and(|(code, ..)| [1, 2, 5, 16].contains(code))
+            && !from_text.is_err_and(|r| [1, 2, 5, 16].contains(&r.code))
         {
             list.truncate(3 * (eof + 1));
-            let again = rooms.parse(text, &list, limit).map(|tree| walk(&tree));
-            assert_eq!(again.map_err(|r| (r.code, r.at, r.span, r.to_string())), from_text);
+            assert_eq!(rooms.parse(text, &list, limit).map(|tree| walk(&tree)), from_text);
         }
         // and numbers that are no tokens have one
         let wild = dice.numbers(dice.0 as usize % 40, 45);
@@ -223,7 +233,8 @@ fn anything_at_all() {
         }
         let _ = place(text, dice.number(12) as usize);
     }
-    assert!(accepted > 500 && turned > 500 && refused > 500, "{accepted} {turned} {refused}");
+    let counts = [accepted, turned, refused, full];
+    assert!(counts.iter().all(|&count| count > 500), "{counts:?}");
 }
 
 #[test]
@@ -235,7 +246,7 @@ fn slices_of_the_callers() {
     assert_eq!((list[9], nodes[19], links[9], symbols[6], scratch), (0, u32::MAX, 0, 0, [0; 11]));
     assert_eq!(nodes[20..], [0; 11]);
     let lent = Lent { nodes: &mut [], links: &mut [], symbols: &mut [], scratch: &mut [] };
-    assert_eq!(parse(b"a;", &list[..9], 64, lent).unwrap_err().code, 4);
+    assert_eq!(parse(b"a;", &list[..9], 64, lent).map_err(|r| (r.code, r.found)).err(), Some((4, None)));
     let lent = Lent { nodes: &mut [], links: &mut [], symbols: &mut [], scratch: &mut [] };
     assert_eq!(parse(b"", &[], 64, lent).unwrap_err().code, 1);
 }
