@@ -11,7 +11,10 @@ use oracle::{
     case::{self, Case},
     judge::silently,
     list::script,
+    rooms::Known,
+    rows::Outcome,
     show,
+    tight::rooms_of,
 };
 
 type Tokens<'a> = &'a [(Token, u32, u32)];
@@ -54,6 +57,8 @@ fn main() {
     compare("`for` in statement place", &script("for"));
     compare("65 openings", &script(&("-".repeat(64) + "a;")));
     compare("65 openings and an error behind them", &script(&"(".repeat(65)));
+    compare_in("no room for the root's row", &script(""), [0, 0, 0]);
+    compare_in("no room for a row before an error", &script("a"), [0, 0, 1]);
     compare("4,097 tokens", &script(&"a;".repeat(2_048)));
     compare("65,537 bytes of text", &script(&" ".repeat(65_537)));
     for stack in [2, 8] {
@@ -65,11 +70,20 @@ fn main() {
 }
 
 fn compare(name: &str, case: &Case) {
+    told(name, case, outcome(case, LIMIT));
+}
+
+/// In rooms of so many node, link and symbol rows.
+fn compare_in(name: &str, case: &Case, rows: [u32; 3]) {
+    told(name, case, Known::of(case.clone(), LIMIT).comes(rooms_of(case, rows)));
+}
+
+fn told(name: &str, case: &Case, port: Outcome) {
     println!("{name}");
     if case.tokens.len() < 10 && case.text.len() < 100 {
         print!("{}", show::case(&case.encode()));
     }
-    let given = printed(&outcome(case, LIMIT));
+    let given = printed(&port);
     println!(
         "         Rust: {}\n         port: {}",
         original(case),
