@@ -105,27 +105,45 @@ fn sized(case: &[u8], at: usize, most: usize) -> usize
     most
 }
 
+// Where the limit and the four sizes of such a case stand, and its input.
+const LIMIT: usize = 2;
+
+const NODES: usize = 6;
+
+const LINKS: usize = 10;
+
+const SYMBOLS: usize = 14;
+
+const SCRATCH: usize = 18;
+
+const INPUT: usize = 22;
+
+// Its first two bytes.
+const MARK: u8 = 0x52;
+
+const MARK_TOO: u8 = 0x4D;
+
 // The answer to a case with a limit and rooms of its own. Mark 52 4D, the limit, and how many numbers the rooms of nodes, links, symbols and scratch have (4 bytes each,
 // little-endian; at most 512 rows and what can be left over) stand before an input. Each number of the rooms is 7 before the call.
 fn lent(case: &[u8], out: &mut [u8; 262144]) -> usize
     requires { ⌜ 22 ≤ length (now case) ⌝ }
     ensures { λ r. ⌜ r ≤ 262144 ⌝ }
 {
-    let form = scan(&case[22..]);
+    let form = scan(&case[INPUT..]);
     let Script::Sized(size, n) = form else {
         return put(b"bad input\n", out, 0);
     };
-    let limit = four(case, 2);
-    let ns = sized(case, 6, 5129);
-    let ls = sized(case, 10, 1538);
-    let ys = sized(case, 14, 1025);
-    let ss = sized(case, 18, 1538);
+    let limit = four(case, LIMIT);
+    let ns = sized(case, NODES, 5129);
+    let ls = sized(case, LINKS, 1538);
+    let ys = sized(case, SYMBOLS, 1025);
+    let ss = sized(case, SCRATCH, 1538);
     let mut nodes: [u32; 5129] = [7; 5129];
     let mut links: [u32; 1538] = [7; 1538];
     let mut symbols: [u32; 1025] = [7; 1025];
     let mut scratch: [u32; 1538] = [7; 1538];
     called(
-        &case[22..],
+        &case[INPUT..],
         size,
         n,
         limit,
@@ -143,7 +161,7 @@ fn turn(case: &mut [u8], out: &mut [u8; 262144]) -> bool {
     let Frame::Bytes(n) = frame else {
         return false;
     };
-    if n < 22 || case[0] != 82 || case[1] != 77 {
+    if n < INPUT || case[0] != MARK || case[1] != MARK_TOO {
         let k = answer(&case[..n], out);
         return sent(out, k);
     }

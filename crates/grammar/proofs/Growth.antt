@@ -4,12 +4,12 @@ use mathlib.Core.List.{List, [], _∷_, _++_}
 use mathlib.Core.Path.{_≡_, refl}
 use native.Mathlib.Omega.{arith}
 use lib.ListN.{length, length-append, length-take, length-replicate}
-use Rattle.grammar.specs.Handle.{Handle, link, head}
-use Rattle.grammar.specs.Label.{Node, Label}
+use Rattle.grammar.specs.Handle.{Handle, link}
+use Rattle.grammar.specs.Label.{Label}
 use Rattle.grammar.specs.Phrase.{Tree, none, more, deeper, made}
 use Rattle.grammar.specs.Room.{node-width, link-width}
-use Rattle.grammar.specs.Rows.{Rows, links-of, numbers, write, fill, put, make, walk, then}
-use Rattle.grammar.specs.Rule.{Field, number, child, named, list, Row, writes, fields, rule}
+use Rattle.grammar.specs.Rows.{Rows, padded, links-of, numbers, write, fill, put, make, walk, then}
+use Rattle.grammar.specs.Rule.{Field, number, child, named, list, Row, writes, fields}
 use Rattle.grammar.specs.Space.{Space, Enough}
 
 -- link rows that fields write
@@ -32,6 +32,10 @@ unfolding links-of
 links-length [] = refl
 links-length (h ∷ hs) = simp (length-append, link-length, links-length hs) (omega arith)
 
+-- a row has ten numbers
+pub padded-length : (xs : List ℕ) → length (padded xs) ≡ node-width
+padded-length xs = simp (length-append, length-take, length-replicate) (omega arith)
+
 -- rows from w to v: one node row, and l link rows
 pub record Filled (l : ℕ) (w v : Rows) : Type 0 where
   pub nodes : length (v .nodes) ≡ length (w .nodes) + node-width
@@ -39,7 +43,7 @@ pub record Filled (l : ℕ) (w v : Rows) : Type 0 where
 
 pub filled : (fs : List Field) (xs : List ℕ) (w : Rows) → Filled (lists fs) w (fill fs xs w)
 unfolding fill write lists
-filled [] xs w = record { nodes = simp (length-append, length-take, length-replicate) (omega arith); links = omega arith }
+filled [] xs w = record { nodes = omega (arith, length-append (w .nodes) (padded xs), padded-length xs); links = omega arith }
 filled (number n ∷ fs) xs w = filled fs _ w
 filled (child g ∷ fs) xs w = filled fs _ w
 filled (named g ∷ fs) xs w = filled fs _ w
@@ -65,11 +69,6 @@ put-grows : (k : ℕ) (r : Row) (w : Rows) → Grows w (put k r w .rows)
 put-grows k r w = let f = put-filled k r w in omega arith
 
 module _ (ts : List ℕ) (symbol : ℕ → ℕ) where
-  -- a node that has a row writes just that and its links
-  pub row-filled : (n : Node) (a b : ℕ) (w : Rows) (xs ys : List Handle) → Filled (lists (fields (rule ts symbol n a b xs ys (head xs) (head ys)))) w (make ts symbol (Label.Row n) a b w xs ys .rows)
-  unfolding make
-  row-filled n a b w xs ys = put-filled _ _ w
-
   -- what a node writes after its parts, and what a tree does
   pub node-grows : (f : Label) (a b : ℕ) (t : Tree Label) (w : Rows) → Grows (then ts symbol t w) (then ts symbol (made f a b t) w)
   unfolding walk make

@@ -15,6 +15,7 @@ use Rattle.grammar.specs.Naming.{naming, height, named-by, named-below, 
 use Rattle.grammar.specs.Parent.{parent, own, tenth, parented-below, parented, Parent-of, Parents}
 use Rattle.grammar.specs.Room.{node-width, own-width}
 use Rattle.grammar.specs.Rows.{Rows, lined, padded}
+use Rattle.grammar.proofs.Growth.{padded-length}
 use Rattle.grammar.proofs.Forest.{times-append}
 use Rattle.grammar.proofs.Tests.{both}
 
@@ -201,7 +202,7 @@ module _ (w : Rows) where
     pub last-own : (x xs : List ℕ) → w .nodes ≡ x ++ padded xs → own w (height w - 1) ≡ take own-width (xs ++ replicate own-width 0)
     last-own y xs e =
         let l : length (take own-width (xs ++ replicate own-width 0)) ≡ own-width = simp (length-take, length-append, length-replicate) (omega arith) in
-        let m : length y ≡ node-width * (height w - 1) = omega (arith, x, ap length e, length-append y (padded xs), length-append (take own-width (xs ++ replicate own-width 0)) (0 ∷ [])) in
+        let m : length y ≡ node-width * (height w - 1) = omega (arith, x, ap length e, length-append y (padded xs), padded-length xs) in
         ap (λ zs. take own-width (drop (node-width * (height w - 1)) zs)) e ∙ rw (drop-at y (padded xs) (node-width * (height w - 1)) m) (take-at (take own-width (xs ++ replicate own-width 0)) (0 ∷ []) own-width l)
 
     pub parented-root : One-tree w → (y xs : List ℕ) → w .nodes ≡ y ++ padded xs → parented w .nodes ≡ parented-below w (height w - 1) ++ lined xs absent

@@ -111,6 +111,14 @@ module _ (text : List ℕ) where
         pick true e true f = In-room.there (λ h. leb-true _ _ f)
         pick true e false f = In-room.missing e (leb-false _ _ f)
 
+    -- a word that has its symbol has its row
+    pub has-row : (room i : ℕ) → (symbol-in text ts room i ≡ absent → ⊥) → is-name ts i ≡ true → length (symbol-rows text ts (suc i)) ≤ room
+    has-row room i = by (in-room room i)
+      where
+        by : {x : ℕ} → In-room room i x → (x ≡ absent → ⊥) → is-name ts i ≡ true → length (symbol-rows text ts (suc i)) ≤ room
+        by (In-room.there h) n e = h e
+        by (In-room.missing e k) n f = absurd (n refl)
+
     -- what has no symbol in a larger room had none
     pub symbol-in-kept : (room larger i : ℕ) → room ≤ larger → symbol-in text ts larger i ≡ absent → symbol-in text ts room i ≡ absent
     symbol-in-kept room larger i l = kept (in-room room i) (in-room larger i)
@@ -120,7 +128,7 @@ module _ (text : List ℕ) where
         kept (In-room.there h) (In-room.missing n k) e = absurd (omega (arith, h n))
         kept (In-room.missing n k) y e = refl
 
-    symbol-few : Whole ts → (i : ℕ) → symbol text ts i ≤ 4096
+    pub symbol-few : Whole ts → (i : ℕ) → symbol text ts i ≤ 4096
     symbol-few w i = pick (is-name ts i) refl
       where
         pick : (b : Bool) → is-name ts i ≡ b → symbol text ts i ≤ 4096

@@ -19,7 +19,7 @@ use Rattle.grammar.specs.Symbol.{is-name, symbol-rows, symbol-in}
 use Rattle.grammar.specs.Token.{kind, count}
 use Rattle.grammar.proofs.Machine.{asked}
 use Rattle.grammar.proofs.Outcomes.{ends-at-eof}
-use Rattle.grammar.proofs.Symbols.{In-room, in-room, rows-same}
+use Rattle.grammar.proofs.Symbols.{has-row, rows-same}
 use Rattle.grammar.proofs.Tables.{each, in-tables}
 use Rattle.grammar.proofs.Tests.{both, as-true}
 
@@ -168,14 +168,10 @@ module _ (text ts : List ℕ) (room : ℕ) where
       pick true e k = h n (omega arith) e
       pick false e k = rw (rows-same text ts n e) k
 
-  has-row : (i : ℕ) {x : ℕ} → In-room text ts room i x → (x ≡ absent → ⊥) → is-name ts i ≡ true → length (symbol-rows text ts (suc i)) ≤ room
-  has-row i (In-room.there h) n e = h e
-  has-row i (In-room.missing e k) n f = absurd (n refl)
-
   -- so a script whose nodes have their symbols has room for all rows of the list
   pub words-fit : {t : Tree Label} → Script (kind ts) (count ts - 1) t → Named (symbol-in text ts room) t → length (symbol-rows text ts (count ts)) ≤ room
   unfolding spoken has-word
   words-fit x w = rows-fit (count ts) (λ i h e. elim (decLt i (count ts - 1)) [
-    | yes k ↦ has-row i (in-room text ts room i) (told x tt w .there i (omega arith) k e) e
+    | yes k ↦ has-row text ts room i (told x tt w .there i (omega arith) k e) e
     | no k ↦ absurd (let z : i ≡ count ts - 1 = omega arith in let y : names Eof ≡ true = rw (z, ends-at-eof x) at e in let o : _≡_ {A = ℕ} 0 1 = cc in omega arith)
   ])

@@ -5,9 +5,10 @@ use mathlib.Core.Bool.{Bool, true, false}
 use mathlib.Core.List.{List}
 use mathlib.Core.Path.{_≡_, refl}
 use lib.ListN.{length}
+use Rattle.grammar.specs.Door.{Whole}
 use Rattle.grammar.specs.Handle.{absent}
-use Rattle.grammar.specs.Symbol.{is-name, symbol-rows, symbol, symbol-in}
-use Rattle.grammar.proofs.Symbols.{In-room, in-room, rows-same, rows-few, rows-grow, name-has-row, wordless}
+use Rattle.grammar.specs.Symbol.{is-name, symbol-rows, symbol-in}
+use Rattle.grammar.proofs.Symbols.{In-room, in-room, has-row, symbol-few, rows-same, rows-grow, wordless}
 use Rattle.names.specs.Resolved.{rowless}
 
 module _ (text ts : List ℕ) (i : ℕ) where
@@ -34,23 +35,15 @@ module _ (text ts : List ℕ) (i : ℕ) where
 
   -- a token that has its symbol fits, and one that has none does not
   pub row-fits : (room : ℕ) → length (symbol-rows text ts i) ≤ room → (symbol-in text ts room i ≡ absent → ⊥) → length (symbol-rows text ts (suc i)) ≤ room
-  row-fits room l n = pick (is-name ts i) refl (in-room text ts room i) n
+  row-fits room l n = pick (is-name ts i) refl
     where
-      pick : (b : Bool) → is-name ts i ≡ b → {x : ℕ} → In-room text ts room i x → (x ≡ absent → ⊥) → length (symbol-rows text ts (suc i)) ≤ room
-      pick true e (In-room.there k) n = k e
-      pick true e (In-room.missing f k) n = absurd (n refl)
-      pick false e r n = rw (rows-same text ts i e) l
+      pick : (b : Bool) → is-name ts i ≡ b → length (symbol-rows text ts (suc i)) ≤ room
+      pick true e = has-row text ts room i n e
+      pick false e = rw (rows-same text ts i e) l
 
-  symbol-low : i < 4096 → symbol text ts i < absent
-  symbol-low h = pick (is-name ts i) refl
-    where
-      pick : (b : Bool) → is-name ts i ≡ b → symbol text ts i < absent
-      pick true e = omega (arith, name-has-row text ts i e, rows-few text ts (suc i))
-      pick false e = omega (arith, wordless text ts i e)
-
-  pub row-lacks : (room : ℕ) → i < 4096 → symbol-in text ts room i ≡ absent → room < length (symbol-rows text ts (suc i))
+  pub row-lacks : (room : ℕ) → Whole ts → symbol-in text ts room i ≡ absent → room < length (symbol-rows text ts (suc i))
   row-lacks room h = either (in-room text ts room i)
     where
       either : {x : ℕ} → In-room text ts room i x → x ≡ absent → room < length (symbol-rows text ts (suc i))
-      either (In-room.there k) e = absurd (omega (arith, symbol-low h))
+      either (In-room.there k) e = absurd (omega (arith, symbol-few text ts h i))
       either (In-room.missing f k) e = k

@@ -58,7 +58,7 @@ module _ {text ts scratch after : List ℕ} (o : Open text ts scratch) (w : Writ
       (h : n < count ts) (p : Passed text ts n symbols after symbols₁ scratch₁ known) (z : Named text ts (count ts) n symbols₁ symbols₂ scratch₁ scratch₂ r) (a : r .symbol ≡ absent)
       (l : Left-out ts n (count ts) scratch₂ scratch₃) where
     lack : length symbols < length (symbol-rows text ts (suc n))
-    lack = rw (p .symbol-size) at (row-lacks text ts n (length symbols₁) (omega (arith, o .whole .most)) (sym (z .number) ∙ a))
+    lack = rw (p .symbol-size) at (row-lacks text ts n (length symbols₁) (o .whole) (sym (z .number) ∙ a))
 
     left-out : (i : ℕ) → i < count ts → number-at ts scratch₃ i ≡ symbol-in text ts (length symbols) i
     left-out i k = elim (decLt i n) [

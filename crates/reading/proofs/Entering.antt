@@ -4,16 +4,17 @@ use native.Mathlib.Omega.{arith}
 use mathlib.Core.Bool.{false}
 use mathlib.Core.List.{List, [], _∷_, _++_}
 use mathlib.Core.Path.{_≡_, refl, sym, ap, _∙_}
-use lib.ListN.{length, take, replicate, length-take, length-append}
+use lib.ListN.{length, take, length-take, length-append}
 use lib.Seq.{length-take-le}
 use Rattle.ast.specs.Inserted.{Inserted, Attempt, Tried}
 use Rattle.ast.specs.Written.{Written}
 use Rattle.ast.specs.declared.Node.{Node}
 use Rattle.grammar.specs.Handle.{Handle, absent}
 use Rattle.grammar.specs.Label.{Label}
-use Rattle.grammar.specs.Room.{node-width, own-width}
+use Rattle.grammar.specs.Room.{node-width}
 use Rattle.grammar.specs.Rows.{Walked, padded, make, keep}
-use Rattle.grammar.specs.Space.{Space, has-word, Worded, Lacks}
+use Rattle.grammar.specs.Space.{has-word, Worded, Lacks}
+use Rattle.grammar.proofs.Growth.{padded-length}
 use Rattle.names.specs.Resolved.{names-of}
 use Rattle.reading.specs.Answers.{node-of}
 use Rattle.reading.specs.Parts.{grown, no-room, Makes, Makes-list}
@@ -30,7 +31,7 @@ pub link-number : (n : ℕ) (ls : List ℕ) → 3 * n ≤ length ls → length (
 link-number n ls h = let e = length-take-le (3 * n) ls h in omega arith
 
 -- one node row more, with so many links
-abbrev pub grown-by : Cursor → ℕ → Cursor
+abbrev grown-by : Cursor → ℕ → Cursor
 grown-by c n = record { at = c .at; nodes = c .nodes + 1; links = c .links + n; held = c .held }
 
 -- what a node writes: these numbers as its row, and these links
@@ -43,7 +44,7 @@ entered-alone c ns ls k st en fields =
     keep (record { nodes = take (node-width * c .nodes) ns ++ padded (k ∷ st ∷ en ∷ fields); links = take (3 * c .links) ls }) (Handle.node (length (take (node-width * c .nodes) ns) / node-width) st en ∷ [])
 
 module _ {ts : List ℕ} {f : Label} {a : ℕ} {xs zs : List Handle} {ns ns′ ls ss : List ℕ} {c : Cursor} {k st en : ℕ} {fields : List ℕ} {n : Node} where
-  pub row-made : Inserted (c .nodes) k st en fields ns ns′ n → node-width * (c .nodes + 1) ≤ length ns → Worded (names-of ts ss) f a →
+  row-made : Inserted (c .nodes) k st en fields ns ns′ n → node-width * (c .nodes + 1) ≤ length ns → Worded (names-of ts ss) f a →
       make ts (names-of ts ss) f a (c .at) (written (state ns ls ss c)) xs zs ≡ entered-alone c ns ls k st en fields →
       Made ts f a (state ns ls ss c) xs zs (node-of n ∷ []) (state ns′ ls ss (grown c))
   row-made i h v e =
@@ -71,38 +72,16 @@ module _ {ts : List ℕ} {f : Label} {a : ℕ} {xs zs : List Handle} {ns ns′ l
         word = λ h z. plain v h;
       }
 
--- a row makes ten numbers more
-pub padded-length : (xs : List ℕ) → length (padded xs) ≡ node-width
-padded-length xs = length-append (take own-width (xs ++ replicate own-width 0)) (0 ∷ []) ∙ ap (λ n. n + 1) (length-take-le own-width (xs ++ replicate own-width 0) (omega (arith, length-append xs (replicate own-width 0))))
+-- the row does not fit, or the links that come before it do not: this is met at the token after the node. `links` are the link rows then
+module _ {ts : List ℕ} {f : Label} {a : ℕ} {xs zs hs : List Handle} {ns ls ss : List ℕ} {c : Cursor} (numbers links : List ℕ) (w : Standing (state ns ls ss c)) (v : Worded (names-of ts ss) f a)
+    (e : make ts (names-of ts ss) f a (c .at) (written (state ns ls ss c)) xs zs ≡ keep (record { nodes = take (node-width * c .nodes) ns ++ padded numbers; links = links }) hs) where
+  pub row-unmade : length links ≤ length ls → length ns < node-width * (c .nodes + 1) → Unmade ts f a (state ns ls ss c) xs zs (c .at)
+  row-unmade h i =
+      let n = length-append (take (node-width * c .nodes) ns) (padded numbers) in
+      record { lacks = rw e (Lacks.row v h (omega (arith, n, padded-length numbers, length-take-le (node-width * c .nodes) ns (w .node-rows)))) }
 
-lacks-row : {σ : ℕ → ℕ} {z : Space} {f : Label} {a b : ℕ} {w v : Walked} → w ≡ v → Worded σ f a → length (v .rows .links) ≤ z .links → z .nodes < length (v .rows .nodes) → Lacks σ z f a b (w .rows) b
-lacks-row e n h i = rw e (Lacks.row n h i)
-
-lacks-link : {σ : ℕ → ℕ} {z : Space} {f : Label} {a b : ℕ} {w v : Walked} → w ≡ v → Worded σ f a → z .links < length (v .rows .links) → Lacks σ z f a b (w .rows) b
-lacks-link e n h = rw e (Lacks.link n h)
-
--- the row does not fit, or the links that come before it do not: this is met at the token after the node
-module _ {ts : List ℕ} {f : Label} {a : ℕ} {xs zs : List Handle} {ns ls ss : List ℕ} {c : Cursor} (k st en : ℕ) (fields : List ℕ) (w : Standing (state ns ls ss c)) where
-  row-full : length ns < node-width * (c .nodes + 1) → Worded (names-of ts ss) f a → make ts (names-of ts ss) f a (c .at) (written (state ns ls ss c)) xs zs ≡ entered-alone c ns ls k st en fields →
-      Unmade ts f a (state ns ls ss c) xs zs (c .at)
-  row-full h v e =
-      let n = length-append (take (node-width * c .nodes) ns) (padded (k ∷ st ∷ en ∷ fields)) in
-      record { lacks = lacks-row e v (omega (arith, length-take (3 * c .links) ls)) (omega (arith, n, padded-length (k ∷ st ∷ en ∷ fields), length-take-le (node-width * c .nodes) ns (w .node-rows))) }
-
-  module _ (links : List ℕ) (v : has-word f ≡ false) (e : make ts (names-of ts ss) f a (c .at) (written (state ns ls ss c)) xs zs ≡ entered c ns ls k st en fields links) where
-    pub listed-row-full : length ns < node-width * (c .nodes + 1) → 3 * c .links + length links ≤ length ls → Unmade ts f a (state ns ls ss c) xs zs (c .at)
-    listed-row-full h i =
-        let n = length-append (take (node-width * c .nodes) ns) (padded (k ∷ st ∷ en ∷ fields)) in
-        let l = length-append (take (3 * c .links) ls) links in
-        record {
-          lacks = lacks-row e (λ h z. plain v h) (omega (arith, l, length-take-le (3 * c .links) ls (w .link-rows)))
-              (omega (arith, n, padded-length (k ∷ st ∷ en ∷ fields), length-take-le (node-width * c .nodes) ns (w .node-rows)));
-        }
-
-    pub links-full : length ls < 3 * c .links + length links → Unmade ts f a (state ns ls ss c) xs zs (c .at)
-    links-full h =
-        let l = length-append (take (3 * c .links) ls) links in
-        record { lacks = lacks-link e (λ h z. plain v h) (omega (arith, l, length-take-le (3 * c .links) ls (w .link-rows))) }
+  pub links-unmade : length ls < length links → Unmade ts f a (state ns ls ss c) xs zs (c .at)
+  links-unmade h = record { lacks = rw e (Lacks.link v h) }
 
 -- what a builder, and `made` after it, come to
 pub data Tries (ts : List ℕ) (f : Label) (a : ℕ) (s : State) (xs ys : List Handle) (ns ls ss : List ℕ) : Read → Type 0 where
@@ -119,7 +98,7 @@ row-tried {ts} {f} {a} {xs} {zs} {ns} {ns′} {ls} {ss} {c} {k} {st} {en} {field
     pick (Makes.made m) (Attempt.there h i d) = Tries.made (row-made {fields = fields} (record { row = i; handle = d }) h v e)
     pick (Makes.full m) (Attempt.there h i d) = absurd (omega (arith, ap (λ n. n .id) d, m, w .rows, w .at, l .whole .most))
     pick (Makes.made m) (Attempt.full h i d) = absurd (m (ap (λ n. n .id) d))
-    pick (Makes.full m) (Attempt.full h i d) = rw i (Tries.lacking (row-full k st en fields (w .stands) h v e))
+    pick (Makes.full m) (Attempt.full h i d) = rw i (Tries.lacking (row-unmade (k ∷ st ∷ en ∷ fields) (take (3 * c .links) ls) (w .stands) v e (omega (arith, length-take (3 * c .links) ls)) h))
 
 -- a row with so many links, which were written if they have room
 pub list-tried : {ts : List ℕ} {f : Label} {a : ℕ} {xs zs : List Handle} {ns ns′ ls ls′ ss links : List ℕ} {k st en : ℕ} {fields : List ℕ} {n : Node} {r : Read} (c : Cursor) (m : ℕ) → Standing (state ns ls ss c) →
@@ -129,13 +108,16 @@ pub list-tried : {ts : List ℕ} {f : Label} {a : ℕ} {xs zs : List Handle} {ns
     Tries ts f a (state ns ls ss (record { at = c .at; nodes = c .nodes; links = c .links; held = h })) xs zs ns′ ls′ ss r
 list-tried {ts} {f} {a} {xs} {zs} {ns} {ns′} {ls} {ls′} {ss} {links} {k} {st} {en} {fields} {n} c m w b v e l g z {h} q t = pick q (t .says)
   where
+    long : length (take (3 * c .links) ls ++ links) ≡ 3 * (c .links + m)
+    long = omega (arith, l, length-append (take (3 * c .links) ls) links, length-take-le (3 * c .links) ls (w .link-rows))
+
     pick : {r : Read} → Makes-list (length ls′) n (record { at = c .at; nodes = c .nodes; links = c .links + m; held = h }) r → Attempt (c .nodes) st en (padded (k ∷ st ∷ en ∷ fields)) ns ns′ n →
         Tries ts f a (state ns ls ss (record { at = c .at; nodes = c .nodes; links = c .links; held = h })) xs zs ns′ ls′ ss r
-    pick (Makes-list.full q) i = Tries.lacking (links-full k st en fields w links v e (omega (arith, l, z)))
+    pick (Makes-list.full q) i = Tries.lacking (links-unmade (k ∷ st ∷ en ∷ fields) (take (3 * c .links) ls ++ links) w (λ h z. plain v h) e (omega (arith, long, z)))
     pick (Makes-list.listed q (Makes.made o)) (Attempt.there y i d) = Tries.made (list-made {fields = fields} m (record { row = i; handle = d }) y (omega (arith, z)) v (g (omega (arith, z))) e)
     pick (Makes-list.listed q (Makes.full o)) (Attempt.there y i d) = absurd (omega (arith, ap (λ n. n .id) d, o))
     pick (Makes-list.listed q (Makes.made o)) (Attempt.full y i d) = absurd (o (ap (λ n. n .id) d))
-    pick (Makes-list.listed q (Makes.full o)) (Attempt.full y i d) = rw i (Tries.lacking (listed-row-full k st en fields w links v e y (omega (arith, l, z))))
+    pick (Makes-list.listed q (Makes.full o)) (Attempt.full y i d) = rw i (Tries.lacking (row-unmade (k ∷ st ∷ en ∷ fields) (take (3 * c .links) ls ++ links) w (λ h z. plain v h) e (omega (arith, long, z)) y))
 
 -- what is made after a part that wrote nothing, from before that part
 module _ {ts : List ℕ} {h : Label} {b : ℕ} {s s₁ : State} {vs us hs : List Handle} (m : Made ts h b s vs us hs s₁) (w : written s ≡ written s₁) where

@@ -117,16 +117,10 @@ kept-on k r = record { size = k .size; count = r .holds ∙ k .count; rows = r .
 pub gathered-size : {base : ℕ} {ls ls′ ss : List ℕ} {c d : Cursor} → Gathered base c ss ls ls′ d → length ls′ ≡ length ls
 gathered-size {ls = ls} {d = d} g = elim (decLe (3 * d .links) (length ls)) [ yes h ↦ g .links h .size | no n ↦ ap length (g .kept (omega (arith, n))) ]
 
-pub gathered-at : {base : ℕ} {ls ls′ ss : List ℕ} {c d : Cursor} → Gathered base c ss ls ls′ d → d .at ≡ c .at
-gathered-at g = rw (g .cursor)
-
 module _ {ts ns ls ss : List ℕ} {c : Cursor} where
-  -- what gather asks, and what the row after it asks
+  -- what gather asks, and what the row after it does
   pub gather-asks : {base : ℕ} → Lent ts → Within ts (state ns ls ss c) → base ≤ c .held → (base ≤ c .held) × (3 * c .held ≤ length ss) × (c .links + c .held < absent)
   gather-asks l w h = (h, omega (arith, w .links, w .at, w .roomy .scratch), omega (arith, w .links, w .at, l .whole .most))
-
-  pub gathered-free : {base : ℕ} {ls′ : List ℕ} {d : Cursor} → Lent ts → Within ts (state ns ls ss c) → Gathered base c ss ls ls′ d → d .nodes < absent
-  gathered-free l w g = rw (g .cursor) (free l w)
 
   pub numbers-fit : Lent ts → Within ts (state ns ls ss c) → (c .links < absent) × (c .held < absent)
   numbers-fit l w = (omega (arith, w .links, w .at, l .whole .most), hold-number w l)

@@ -10,7 +10,7 @@ use Rattle.ast.specs.Inserted.{Tried}
 use Rattle.ast.specs.declared.Node.{Node}
 use Rattle.grammar.specs.Handle.{Handle, absent, link, head, from, upto}
 use Rattle.grammar.specs.Kaori.{Form, Table, leaf, name, calls, rules, kaori}
-use Rattle.grammar.specs.Kind.{Dot, True, False, Semicolon, StringLiteral, Identifier, Eof}
+use Rattle.grammar.specs.Kind.{Dot, True, False, Semicolon, StringLiteral, Identifier}
 use Rattle.grammar.specs.Label.{Label, Node as Form-of, number-of}
 use Rattle.grammar.specs.Phrase.{empty, token, Tree, made, none, Aim, whole, begun, Reads}
 use Rattle.grammar.specs.Refusal.{Refused, Passes, Refuses}
@@ -41,10 +41,6 @@ leaf-tried : {ts ns ls ss ns′ ls′ ss′ : List ℕ} {limit o x : ℕ} {f : F
 unfolding paid spare
 leaf-tried r e h m = built r (record { pays = tt }) h (taken e (nothing (r .deep))) m
 
--- where a token was just taken
-past-within : {ts ns ls ss : List ℕ} {limit o x : ℕ} {c : Cursor} → Ready ts limit o (state ns ls ss c) → kind ts (c .at) ≡ x → (x ≡ Eof → ⊥) → Within ts (state ns ls ss (next c))
-past-within r k n = ready-next r k n .within
-
 -- `break`, `continue`, `true`, `false`, `nil` and numbers
 single-row : (ts ns ls ss : List ℕ) (a : ℕ) (c : Cursor) {x : ℕ} → Single x → kind ts a ≡ x →
     make ts (names-of ts ss) (Label.Row (single-node x)) a (c .at) (written (state ns ls ss c)) [] [] ≡ entered-alone c ns ls (number-of (single-node x)) (start ts a) (end ts a)
@@ -55,7 +51,7 @@ single-row ts ns ls ss a c s k =
     (⊎-elim (λ e. rw e) (⊎-elim (λ e. let z : kind ts a ≡ True = k ∙ e in rw (e, z)) (⊎-elim (λ e. let z : kind ts a ≡ False = k ∙ e in rw (e, z)) (⊎-elim (λ e. rw e) (λ e. rw e)))))
     (s .known)
 
-pub single-below : {x : ℕ} → Single x → x < Semicolon
+single-below : {x : ℕ} → Single x → x < Semicolon
 single-below s = ⊎-elim (λ e. omega arith) (⊎-elim (λ e. omega arith) (⊎-elim (λ e. omega arith) (⊎-elim (λ e. omega arith) (⊎-elim (λ e. omega arith) (λ e. omega arith))))) (s .known)
 
 single-plain : {x : ℕ} → Single x → has-word (Label.Row (single-node x)) ≡ false
@@ -69,7 +65,7 @@ single-read {ts} {ns} {ls} {ss} {ns′} {x = x} {c = c} {place = place} {n = n} 
     let b = single-below s in
     let j : Tried (c .nodes) (number-of (single-node x)) (start ts (c .at)) (end ts (c .at)) (single-fields x) ns ns′ n = rw (t .after, t .node-is) at i in
     let o : Makes n (next c) q = rw (t .after) at m in
-    let w = past-within r (t .kind-is) (λ z. omega arith) in
+    let w = ready-next r (t .kind-is) (λ z. omega arith) .within in
     leaf-tried r (t .kind-is) (w .at) (row-tried w (r .lent) (λ h z. plain (single-plain s) h) (single-row ts ns ls ss (c .at) (next c) s (t .kind-is)) o j)
 
 -- where a token was just taken a row more has a number
@@ -85,7 +81,7 @@ string-read {ts} {ns} {ls} {ss} {ns′} {c = c} {n = n} {q = q} m r t y a i =
     let k = t .kind-is in
     let j : Tried (c .nodes) (number-of Form-of.String) (start ts (c .at)) (end ts (c .at)) (names-of ts ss (c .at) ∷ []) ns ns′ n = rw (t .after, t .node-is, y) at i in
     let o : Makes n (next c) q = rw (t .after) at m in
-    let w = past-within r k (λ z. omega arith) in
+    let w = ready-next r k (λ z. omega arith) .within in
     leaf-tried r k (w .at) (row-tried w (r .lent) (λ h z. a (y ∙ z)) refl o j)
 
 -- a name writes nothing

@@ -34,6 +34,7 @@ use Rattle.grammar.specs.Symbol.{symbol-rows, symbol, symbol-in}
 use Rattle.grammar.specs.Token.{kind, count}
 use Rattle.grammar.proofs.Answers.{admitted-lent}
 use Rattle.grammar.proofs.Demands.{Stopped, refused-place}
+use Rattle.grammar.proofs.Growth.{padded-length}
 use Rattle.grammar.proofs.Lengths.{enough-written}
 use Rattle.grammar.proofs.Outcomes.{ends-at-eof}
 use Rattle.grammar.proofs.Parents.{parented-length}
@@ -50,7 +51,7 @@ use Rattle.reading.specs.State.{State, state, written as written-so-far, Opened
 use Rattle.reading.specs.declared.Cursor.{Cursor}
 use Rattle.reading.specs.declared.Read.{Read}
 use Rattle.reading.specs.declared.Refusal.{Refusal}
-use Rattle.reading.proofs.Entering.{padded-length, entered, links-full, listed-row-full}
+use Rattle.reading.proofs.Entering.{entered, row-unmade, links-unmade}
 use Rattle.reading.proofs.Gathering.{first-link}
 use Rattle.reading.proofs.Laws.{plain, full}
 use Rattle.reading.proofs.Refusals.{in-node}
@@ -271,6 +272,16 @@ chain-told e a = rw e (record { says = in-node ((rw e at a) .says) })
 
 -- the root's links or its row have no room: the script is refused at the Eof
 module _ {ts : List ℕ} {limit : ℕ} {s : State} {ns ls ss : List ℕ} {c : Cursor} (l : Listed ts limit (whole (chain empty script-items)) 0 s (state ns ls ss c)) (z : s .cursor .held ≡ 0) where
+  -- the root's numbers, and the link rows with its own
+  abbrev root-numbers : List ℕ
+  root-numbers = 20 ∷ 0 ∷ 0 ∷ c .links ∷ length (l .items) ∷ absent ∷ []
+
+  abbrev root-links : List ℕ
+  root-links = take (3 * c .links) ls ++ links-of (l .items)
+
+  long : length root-links ≡ 3 * (c .links + c .held)
+  long = omega (arith, length-append (take (3 * c .links) ls) (links-of (l .items)), length-take-le (3 * c .links) ls (l .within .stands .link-rows), l .count, z, links-length (l .items))
+
   root-made : make ts (names-of ts ss) Label.Script (s .cursor .at) (c .at) (written-so-far (state ns ls ss c)) (l .items) [] ≡
       entered c ns ls 20 0 0 (c .links ∷ length (l .items) ∷ absent ∷ []) (links-of (l .items))
   unfolding make put fill field-numbers write
@@ -278,12 +289,11 @@ module _ {ts : List ℕ} {limit : ℕ} {s : State} {ns ls ss : List ℕ} {c : Cu
 
   pub no-links : length ls < 3 * (c .links + c .held) → Refusing ts limit script 0 s (refused 4 (c .at) 255)
   unfolding has-word
-  no-links h = full (l .reading) (links-full 20 0 0 (c .links ∷ length (l .items) ∷ absent ∷ []) (l .within .stands) (links-of (l .items)) refl root-made (omega (arith, h, l .count, z, links-length (l .items))))
+  no-links h = full (l .reading) (links-unmade root-numbers root-links (l .within .stands) (λ x y. plain refl x) root-made (omega (arith, h, long)))
 
   pub no-row : 3 * (c .links + c .held) ≤ length ls → length ns < node-width * (c .nodes + 1) → Refusing ts limit script 0 s (refused 4 (c .at) 255)
   unfolding has-word
-  no-row h i =
-      full (l .reading) (listed-row-full 20 0 0 (c .links ∷ length (l .items) ∷ absent ∷ []) (l .within .stands) (links-of (l .items)) refl root-made i (omega (arith, h, l .count, z, links-length (l .items))))
+  no-row h i = full (l .reading) (row-unmade root-numbers root-links (l .within .stands) (λ x y. plain refl x) root-made (omega (arith, h, long)) i)
 
 -- what the statements' answer says, by its case
 module _ {ts : List ℕ} {limit : ℕ} {s : State} {ns ls ss : List ℕ} {r : Read} (a : Scripted ts limit s ns ls ss r) where

@@ -22,7 +22,7 @@ use Rattle.reading.specs.State.{state, Standing, Rooms}
 use Rattle.reading.specs.declared.Cursor.{Cursor}
 use Rattle.reading.specs.declared.Read.{Read}
 use Rattle.reading.proofs.Entering.{link-number, Tries, list-tried}
-use Rattle.reading.proofs.Gathering.{gather-asks, gathered-free, gathered-numbers, gathered-size}
+use Rattle.reading.proofs.Gathering.{gather-asks, gathered-numbers, gathered-size}
 use Rattle.reading.proofs.Laws.{rooms-on, taken, ready-next, ready-on}
 use Rattle.reading.proofs.Listings.{Held, listed-rooms, listed-from, held-since, listed-both, rows-both}
 use Rattle.reading.proofs.Refusals as Refuses
@@ -140,7 +140,7 @@ end-at-requires c κs = rw (c .before .before .gather .ensures .cursor) (words (
 import-requires : tie.Need-import-requires
 import-requires c κs =
     let d = c .before .before .before .before .before .before .before .before .before .before in
-    gathered-free (to-start (to-lead (to-steps d)) .pre .lent) (words d .within) (c .before .before .before .before .gather .ensures)
+    gathered-numbers (to-start (to-lead (to-steps d)) .pre .lent) (words d .within) (c .before .before .before .before .gather .ensures) .0
 
 returns-4 : tie.Need-returns-4
 unfolding paid spare

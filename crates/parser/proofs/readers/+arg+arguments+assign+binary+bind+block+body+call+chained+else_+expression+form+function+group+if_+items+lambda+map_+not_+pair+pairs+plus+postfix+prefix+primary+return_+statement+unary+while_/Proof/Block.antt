@@ -8,7 +8,7 @@ use Rattle.reading.proofs.Refusals as Refuses
 use Rattle.reading.proofs.Replies.{token-taken, filled, refuse, lacks, passed-fill, after, built, nested-answer}
 use Rattle.reading.proofs.Taking.{Taken-by, led, ready-led, opened-led, led-refused, starts, past-at}
 use Rattle.reading.proofs.Gathering.{Fill-told, Kept-fill, Ready-at, Within-at, token-within, token-closes, token-end, token-held, fill-kept, fill-reading}
-use Rattle.reading.proofs.Gathering.{kept-as, kept-under, gather-asks, gathered-free, gathered-numbers, numbers-fit, block-tried}
+use Rattle.reading.proofs.Gathering.{kept-as, kept-under, gather-asks, gathered-numbers, numbers-fit, block-tried}
 use Rattle.parser.proofs.readers.+arg+arguments+assign+binary+bind+block+body+call+chained+else_+expression+form+function+group+if_+items+lambda+map_+not_+pair+pairs+plus+postfix+prefix+primary+return_+statement+unary+while_ as cycle
 use Rattle.parser.proofs.readers as readers
 use cycle.Lts-block as lts
@@ -127,8 +127,8 @@ module _ (t : ℕ) where
       (λ c κs. gather-asks (asked (to-lead (to-statements (c .before .before .before))) .lent) (within (c .before .before .before)) (kept-under (kept (c .before .before .before))))
       (λ c. let d = c .before .before .before .before .before .before .before in omega (arith, numbers-fit (asked (to-lead (to-statements d)) .lent) (within d) .0))
       (λ c. let d = c .before .before .before .before .before .before .before in omega (arith, numbers-fit (asked (to-lead (to-statements d)) .lent) (within d) .1))
-      (λ c κs. let d = c .before .before .before .before .before .before .before in gathered-free (asked (to-lead (to-statements d)) .lent) (within d)
-      (c .before .before .before .gather .ensures))
+      (λ c κs. let d = c .before .before .before .before .before .before .before in gathered-numbers (asked (to-lead (to-statements d)) .lent) (within d)
+      (c .before .before .before .gather .ensures) .0)
       (λ c κs. let d = c .before .before .before .before .before .before .before .before .before .before .before in gathered-numbers (asked (to-lead (to-statements d)) .lent) (within d)
       (c .before .before .before .before .before .before .before .gather .ensures))
       (λ c. omega (arith, statements (to-statements (c .before .before .before .before .before .before .before .before .before .before .before .before)) .reading .rooms))
