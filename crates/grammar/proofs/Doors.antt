@@ -1,4 +1,4 @@
--- A door that proves its answer: it finds the first code that finds something wrong, and the place where it does. Run on a call, it decides the call.
+-- A door that proves its answer: it finds the first check that finds something wrong, its code, and the place where it does. Run on a call, it decides the call.
 use Prim.Native.Nat.{ℕ, zero, suc, _+_, _*_, _/_, _≤_, _<_}
 use mathlib.Core.Bool.{Bool, true, false}
 use mathlib.Core.List.{List}
@@ -7,14 +7,16 @@ use native.Mathlib.Decide.{ℕ-discrete, decLe, decLt}
 use native.Mathlib.Omega.{arith}
 use lib.Dec.{T}
 use lib.ListN.{length, getD}
+use Rattle.grammar.specs.Builtin.{Builtins, built, Right-names}
 use Rattle.grammar.specs.Call.{Call}
 use Rattle.grammar.specs.Derivative.{matches}
-use Rattle.grammar.specs.Door.{Whole, Roomy, Ascii, Sound, Closed, Admitted, First-without, Wrong, Turned-away}
+use Rattle.grammar.specs.Door.{Whole, Roomy, Right-symbols, Ascii, Sound, Closed, Admitted, First-without, Wrong, Turned-away}
 use Rattle.grammar.specs.Kind.{And, Nil, Identifier, Eof}
 use Rattle.grammar.specs.Lexeme.{spelling, pattern, Fits}
 use Rattle.grammar.specs.Pattern.{Pattern, Matches}
-use Rattle.grammar.specs.Room.{scratch-width}
+use Rattle.grammar.specs.Room.{symbol-width, scratch-width}
 use Rattle.grammar.specs.Symbol.{same}
+use Rattle.grammar.specs.Table.{Part, start-of, end-of, word}
 use Rattle.grammar.specs.Token.{count, kind, start, end, lexeme}
 use Rattle.grammar.proofs.Patterns.{matches-sound, matches-whole}
 use Rattle.grammar.proofs.Tests.{same-means, same-self}
@@ -101,6 +103,34 @@ closes ts i =
     carried (λ p. record { only = p .0; last = p .1 }) (λ s. (s .only, s .last))
     (also (implies (ℕ-discrete (kind ts i) Eof) (ℕ-discrete (i + 1) (count ts))) (implies (ℕ-discrete (i + 1) (count ts)) (ℕ-discrete (kind ts i) Eof)))
 
+-- what is asked of built-in names, row by row
+module _ (names : Builtins) where
+  abbrev pub name-of : ℕ → List ℕ
+  name-of i = word (names .text) (names .rows) i
+
+  abbrev pub Stands : ℕ → Type 0
+  Stands i = Part (names .text) (start-of (names .rows) i) (end-of (names .rows) i)
+
+  -- no earlier row has the same bytes
+  abbrev pub New : ℕ → Type 0
+  New j = (i : ℕ) → i < j → name-of i ≡ name-of j → ⊥
+
+  unfoldable pub in-parts : Search Stands (built names)
+  in-parts = look-through Stands (λ i. carried (λ p. record { ordered = p .0; inside = p .1 }) (λ p. (p .ordered, p .inside)) (also (decLe (start-of (names .rows) i) (end-of (names .rows) i)) (decLe (end-of (names .rows) i) (length (names .text))))) (built names)
+
+  unfoldable pub in-names : Search New (built names)
+  in-names = look-through New (λ j. each (look-through (λ i. name-of i ≡ name-of j → ⊥) (λ i. denied (text-is (name-of i) (name-of j))) j)) (built names)
+
+  unfoldable pub in-identifiers : Search (λ i. Fits Identifier (name-of i)) (built names)
+  in-identifiers = look-through (λ i. Fits Identifier (name-of i)) (λ i. fitting Identifier (name-of i)) (built names)
+
+  unfoldable pub right-names : Dec (Right-names names)
+  right-names =
+      carried
+      (λ p. record { short = p .0; few = p .1 .0; table = record { parts = λ i r. p .1 .1 .0 i (omega arith); different = λ i j l r. p .1 .1 .1 .0 j (omega arith) i l }; identifiers = λ i r. p .1 .1 .1 .1 i (omega arith) })
+      (λ n. (n .short, (n .few, (λ i l. n .table .parts i (omega arith), (λ j l i h. n .table .different i j h (omega arith), λ i l. n .identifiers i (omega arith))))))
+      (also (decLe (length (names .text)) 65536) (also (decLe (built names) 64) (also (each in-parts) (also (each in-names) (each in-identifiers)))))
+
 module _ (c : Call) where
   unfoldable pub in-bytes : Search (Low (c .text)) (length (c .text))
   in-bytes = look-through (Low (c .text)) (λ i. decLe (getD (c .text) i 0) 127) (length (c .text))
@@ -111,64 +141,72 @@ module _ (c : Call) where
   unfoldable pub in-ends : Search (Closed (c .tokens)) (count (c .tokens))
   in-ends = look-through (Closed (c .tokens)) (closes (c .tokens)) (count (c .tokens))
 
-  -- what each code asks
-  abbrev pub Asked : (code : ℕ) → Type 0
+  -- what each check asks
+  abbrev pub Asked : (turn : ℕ) → Type 0
   Asked zero = Unit {0}
   Asked (suc zero) = Whole (c .tokens)
   Asked (suc (suc zero)) = length (c .text) ≤ 65536
   Asked (suc (suc (suc zero))) = (1 ≤ c .limit) × (c .limit ≤ 64)
   Asked (suc (suc (suc (suc zero)))) = Roomy c
-  Asked (suc (suc (suc (suc (suc zero))))) = Ascii (c .text)
-  Asked (suc (suc (suc (suc (suc (suc zero)))))) = (i : ℕ) → i < count (c .tokens) → Sound (c .text) (c .tokens) i
-  Asked (suc (suc (suc (suc (suc (suc (suc zero))))))) = (i : ℕ) → i < count (c .tokens) → Closed (c .tokens) i
-  Asked (suc (suc (suc (suc (suc (suc (suc (suc k)))))))) = Unit {0}
+  Asked (suc (suc (suc (suc (suc zero))))) = Right-names (c .names)
+  Asked (suc (suc (suc (suc (suc (suc zero)))))) = Right-symbols (c .names) (length (c .rooms .symbols))
+  Asked (suc (suc (suc (suc (suc (suc (suc zero))))))) = Ascii (c .text)
+  Asked (suc (suc (suc (suc (suc (suc (suc (suc zero)))))))) = (i : ℕ) → i < count (c .tokens) → Sound (c .text) (c .tokens) i
+  Asked (suc (suc (suc (suc (suc (suc (suc (suc (suc zero))))))))) = (i : ℕ) → i < count (c .tokens) → Closed (c .tokens) i
+  Asked (suc (suc (suc (suc (suc (suc (suc (suc (suc (suc k)))))))))) = Unit {0}
 
-  unfoldable pub ask : (code : ℕ) → Dec (Asked code)
+  unfoldable pub ask : (turn : ℕ) → Dec (Asked turn)
   ask zero = yes tt
   ask (suc zero) = carried (λ p. record { rows = p .0; some = p .1 .0; most = p .1 .1 }) (λ w. (w .rows, (w .some, w .most))) (also (ℕ-discrete (length (c .tokens)) (3 * count (c .tokens))) (also (decLe 1 (count (c .tokens))) (decLe (count (c .tokens)) 4096)))
   ask (suc (suc zero)) = decLe (length (c .text)) 65536
   ask (suc (suc (suc zero))) = also (decLe 1 (c .limit)) (decLe (c .limit) 64)
   ask (suc (suc (suc (suc zero)))) = decLe (count (c .tokens)) (length (c .rooms .scratch) / scratch-width)
-  ask (suc (suc (suc (suc (suc zero))))) = each in-bytes
-  ask (suc (suc (suc (suc (suc (suc zero)))))) = each in-tokens
-  ask (suc (suc (suc (suc (suc (suc (suc zero))))))) = each in-ends
-  ask (suc (suc (suc (suc (suc (suc (suc (suc k)))))))) = yes tt
+  ask (suc (suc (suc (suc (suc zero))))) = right-names (c .names)
+  ask (suc (suc (suc (suc (suc (suc zero)))))) = decLe (symbol-width * built (c .names)) (length (c .rooms .symbols))
+  ask (suc (suc (suc (suc (suc (suc (suc zero))))))) = each in-bytes
+  ask (suc (suc (suc (suc (suc (suc (suc (suc zero)))))))) = each in-tokens
+  ask (suc (suc (suc (suc (suc (suc (suc (suc (suc zero))))))))) = each in-ends
+  ask (suc (suc (suc (suc (suc (suc (suc (suc (suc (suc k)))))))))) = yes tt
 
-  -- something is wrong exactly where a code asks for what there is not
-  pub not-had : {k at from upto : ℕ} → Wrong c k at from upto → Asked k → ⊥
+  -- something is wrong exactly where a check asks for what there is not
+  pub not-had : {n k at from upto : ℕ} → Wrong c n k at from upto → Asked n → ⊥
   not-had (Wrong.list x) a = x a
   not-had (Wrong.text x) a = omega arith
   not-had (Wrong.no-depth x) a = let l = a .0 in omega arith
   not-had (Wrong.deep x) a = let l = a .1 in omega arith
   not-had (Wrong.room x) a = x a
+  not-had (Wrong.names x) a = x a
+  not-had (Wrong.names-room x) a = omega arith
   not-had (Wrong.byte {i = i} x) a = x .lacks (a i (x .place))
   not-had (Wrong.token {i = i} x) a = x .lacks (a i (x .place))
   not-had (Wrong.eof {i = i} x) a = x .lacks (a i (x .place))
 
   abbrev pub Finding : ℕ → Type 0
-  Finding k = (at from upto : ℕ) × Wrong c k at from upto
+  Finding n = (code at from upto : ℕ) × Wrong c n code at from upto
 
-  unfoldable pub find : (code : ℕ) → (Asked code → ⊥) → Finding code
+  unfoldable pub find : (turn : ℕ) → (Asked turn → ⊥) → Finding turn
   find zero z = absurd (z tt)
-  find (suc zero) z = (0, 0, 0, Wrong.list z)
-  find (suc (suc zero)) z = (0, 0, 0, let l : 65536 < length (c .text) = omega arith in Wrong.text l)
-  find (suc (suc (suc zero))) z = (0, 0, 0, elim (ℕ-discrete (c .limit) 0) [ yes e ↦ Wrong.no-depth e | no n ↦ elim (decLt 64 (c .limit)) [ yes l ↦ Wrong.deep l | no m ↦ absurd (z (omega arith, omega arith)) ] ])
-  find (suc (suc (suc (suc zero)))) z = (0, 0, 0, Wrong.room z)
-  find (suc (suc (suc (suc (suc zero))))) z = elim in-bytes [ all f ↦ absurd (z f) | lacking {i = i} x ↦ (0, i, i + 1, Wrong.byte x) ]
-  find (suc (suc (suc (suc (suc (suc zero)))))) z = elim in-tokens [ all f ↦ absurd (z f) | lacking {i = i} x ↦ (i, start (c .tokens) i, end (c .tokens) i, Wrong.token x) ]
-  find (suc (suc (suc (suc (suc (suc (suc zero))))))) z = elim in-ends [ all f ↦ absurd (z f) | lacking {i = i} x ↦ (i, start (c .tokens) i, end (c .tokens) i, Wrong.eof x) ]
-  find (suc (suc (suc (suc (suc (suc (suc (suc k)))))))) z = absurd (z tt)
+  find (suc zero) z = (1, 0, 0, 0, Wrong.list z)
+  find (suc (suc zero)) z = (2, 0, 0, 0, let l : 65536 < length (c .text) = omega arith in Wrong.text l)
+  find (suc (suc (suc zero))) z = (3, 0, 0, 0, elim (ℕ-discrete (c .limit) 0) [ yes e ↦ Wrong.no-depth e | no n ↦ elim (decLt 64 (c .limit)) [ yes l ↦ Wrong.deep l | no m ↦ absurd (z (omega arith, omega arith)) ] ])
+  find (suc (suc (suc (suc zero)))) z = (4, 0, 0, 0, Wrong.room z)
+  find (suc (suc (suc (suc (suc zero))))) z = (18, 0, 0, 0, Wrong.names z)
+  find (suc (suc (suc (suc (suc (suc zero)))))) z = (4, 0, 0, 0, let l : length (c .rooms .symbols) < symbol-width * built (c .names) = omega arith in Wrong.names-room l)
+  find (suc (suc (suc (suc (suc (suc (suc zero))))))) z = elim in-bytes [ all f ↦ absurd (z f) | lacking {i = i} x ↦ (5, 0, i, i + 1, Wrong.byte x) ]
+  find (suc (suc (suc (suc (suc (suc (suc (suc zero)))))))) z = elim in-tokens [ all f ↦ absurd (z f) | lacking {i = i} x ↦ (6, i, start (c .tokens) i, end (c .tokens) i, Wrong.token x) ]
+  find (suc (suc (suc (suc (suc (suc (suc (suc (suc zero))))))))) z = elim in-ends [ all f ↦ absurd (z f) | lacking {i = i} x ↦ (7, i, start (c .tokens) i, end (c .tokens) i, Wrong.eof x) ]
+  find (suc (suc (suc (suc (suc (suc (suc (suc (suc (suc k)))))))))) z = absurd (z tt)
 
   -- what the door says of a call
   pub data Verdict : Type 0 where
     inside : Admitted c → Verdict
     turned : (code at from upto : ℕ) → Turned-away c code at from upto → Verdict
 
-  pub away : {code at from upto : ℕ} → First-without Asked 8 code → Wrong c code at from upto → Turned-away c code at from upto
-  away {code} x w = record { wrong = w; first = λ {k} v. elim (decLt k code) [ yes h ↦ absurd (not-had v (x .before k h)) | no h ↦ omega arith ] }
+  pub away : {turn code at from upto : ℕ} → First-without Asked 10 turn → Wrong c turn code at from upto → Turned-away c code at from upto
+  away {turn} x w = record { turn = turn; wrong = w; first = λ {t} v. elim (decLt t turn) [ yes h ↦ absurd (not-had v (x .before t h)) | no h ↦ omega arith ] }
 
   unfoldable pub verdict : Verdict
-  verdict = elim (look-through Asked ask 8) [
-    | all f ↦ inside (record { whole = f 1 (omega arith); short = f 2 (omega arith); some-depth = f 3 (omega arith) .0; least-depth = f 3 (omega arith) .1; roomy = f 4 (omega arith); ascii = f 5 (omega arith); sound = f 6 (omega arith); closed = f 7 (omega arith) })
-    | lacking {i = i} x ↦ let f = find i (x .lacks) in turned i (f .0) (f .1) (f .2) (away x (f .3))
+  verdict = elim (look-through Asked ask 10) [
+    | all f ↦ inside (record { whole = f 1 (omega arith); short = f 2 (omega arith); some-depth = f 3 (omega arith) .0; least-depth = f 3 (omega arith) .1; roomy = f 4 (omega arith); named = f 5 (omega arith); names-fit = f 6 (omega arith); ascii = f 7 (omega arith); sound = f 8 (omega arith); closed = f 9 (omega arith) })
+    | lacking {i = i} x ↦ let f = find i (x .lacks) in turned (f .0) (f .1) (f .2) (f .3) (away x (f .4))
   ]

@@ -7,8 +7,9 @@ use native.Mathlib.Omega.{arith}
 use lib.Dec.{T, leb, leb→le}
 use lib.ListN.{length}
 use Rattle.grammar.specs.Answer.{Answer}
+use Rattle.grammar.specs.Builtin.{Builtins, built}
 use Rattle.grammar.specs.Call.{Call}
-use Rattle.grammar.specs.Door.{Whole, Admitted}
+use Rattle.grammar.specs.Door.{Whole, Right-symbols, Admitted}
 use Rattle.grammar.specs.Handle.{absent}
 use Rattle.grammar.specs.Kaori.{Table, Form, kaori, script, Script}
 use Rattle.grammar.specs.Kind.{Eof}
@@ -89,8 +90,8 @@ pub record Larger (s z : Space) (room larger : ℕ) : Type 0 where
   pub links : s .links ≤ z .links
   pub symbols : room ≤ larger
 
-keeps : (text ts : List ℕ) {s z : Space} {room larger : ℕ} → Larger s z room larger → Keeps s z (symbol-in text ts room) (symbol-in text ts larger)
-keeps text ts {room = room} {larger = larger} g = record { nodes = g .nodes; links = g .links; words = λ i. symbol-in-kept text ts room larger i (g .symbols) }
+keeps : (names : Builtins) (text ts : List ℕ) {s z : Space} {room larger : ℕ} → Larger s z room larger → Keeps s z (symbol-in names text ts room) (symbol-in names text ts larger)
+keeps names text ts {room = room} {larger = larger} g = record { nodes = g .nodes; links = g .links; words = λ i. symbol-in-kept names text ts room larger i (g .symbols) }
 
 -- the code of an outcome, 0 for a success
 abbrev pub code : Outcome → ℕ
@@ -98,62 +99,64 @@ code (accepted w ss) = 0
 code (refusal q) = code-of q
 
 -- what comes of a list in larger rooms is what came of it before, the same rows or the same refusal, unless that was a 4
-pub outcome-kept : {text ts : List ℕ} {limit : ℕ} {s z : Space} {room larger : ℕ} {r : Outcome} → Larger s z room larger → Comes text ts limit s room r → (code r ≡ 4 → ⊥) → Comes text ts limit z larger r
+pub outcome-kept : {names : Builtins} {text ts : List ℕ} {limit : ℕ} {s z : Space} {room larger : ℕ} {r : Outcome} → Larger s z room larger → Comes names text ts limit s room r → (code r ≡ 4 → ⊥) → Comes names text ts limit z larger r
 outcome-kept g (Comes.read x h i j) n = Comes.read x h (omega (arith, i, g)) (omega (arith, j, g))
-outcome-kept {text} {ts} g (Comes.stop x) n = Comes.stop (refusal-kept (omega arith) (keeps text ts g) alike-self x (λ e. omega arith) (λ e. absurd (n e)))
+outcome-kept {names} {text} {ts} g (Comes.stop x) n = Comes.stop (refusal-kept (omega arith) (keeps names text ts g) alike-self x (λ e. omega arith) (λ e. absurd (n e)))
 
-pub success-kept : {text ts : List ℕ} {limit : ℕ} {s z : Space} {room larger : ℕ} {w : Rows} {ss : List ℕ} → Larger s z room larger → Comes text ts limit s room (accepted w ss) → Comes text ts limit z larger (accepted w ss)
+pub success-kept : {names : Builtins} {text ts : List ℕ} {limit : ℕ} {s z : Space} {room larger : ℕ} {w : Rows} {ss : List ℕ} → Larger s z room larger → Comes names text ts limit s room (accepted w ss) → Comes names text ts limit z larger (accepted w ss)
 success-kept g x = outcome-kept g x (λ e. omega arith)
 
--- a list succeeds with just what a reading writes that the limit and the rooms let pass: all symbol rows fit where each node of a script has its symbol
-pub passing-comes : (text ts : List ℕ) {limit : ℕ} {space : Space} (room : ℕ) {t : Tree Label} → Passes ts (symbol-in text ts room) limit space kaori (kind ts) (whole script) 0 0 blank (count ts - 1) t → Comes text ts limit space room (accepted (written ts (symbol text ts) t) (symbol-rows text ts (count ts)))
-passing-comes text ts room {t} x = Comes.read (x .reads) (omega (arith, x .deep)) (enough-written ts (symbol-in text ts room) (symbol text ts) t (x .fits)) (words-fit text ts room (x .reads) (x .named))
+-- a list succeeds with just what a reading writes that the limit and the rooms let pass: all symbol rows fit where the built-in ones do and each node of a script
+-- has its symbol
+pub passing-comes : (names : Builtins) (text ts : List ℕ) {limit : ℕ} {space : Space} (room : ℕ) → Right-symbols names room → {t : Tree Label} → Passes ts (symbol-in names text ts room) limit space kaori (kind ts) (whole script) 0 0 blank (count ts - 1) t → Comes names text ts limit space room (accepted (written ts (symbol names text ts) t) (symbol-rows names text ts (count ts)))
+passing-comes names text ts room r {t} x = Comes.read (x .reads) (omega (arith, x .deep)) (enough-written ts (symbol-in names text ts room) (symbol names text ts) t (x .fits)) (words-fit names text ts room r (x .reads) (x .named))
 
 -- succeeding with these rows: a reading within the limit, and its rows fit all three rooms
-pub record Succeeds (text ts : List ℕ) (limit : ℕ) (space : Space) (room : ℕ) (w : Rows) (ss : List ℕ) : Type 0 where
+pub record Succeeds (names : Builtins) (text ts : List ℕ) (limit : ℕ) (space : Space) (room : ℕ) (w : Rows) (ss : List ℕ) : Type 0 where
   pub tree : Tree Label
   pub reading : Script (kind ts) (count ts - 1) tree
   pub deep : depth tree ≤ limit
   pub fits : Enough space w
   pub symbols-fit : length ss ≤ room
-  pub rows-are : w ≡ written ts (symbol text ts) tree
-  pub symbols-are : ss ≡ symbol-rows text ts (count ts)
+  pub rows-are : w ≡ written ts (symbol names text ts) tree
+  pub symbols-are : ss ≡ symbol-rows names text ts (count ts)
 
-pub succeeds : {text ts : List ℕ} {limit : ℕ} {space : Space} {room : ℕ} {w : Rows} {ss : List ℕ} → Comes text ts limit space room (accepted w ss) → Succeeds text ts limit space room w ss
+pub succeeds : {names : Builtins} {text ts : List ℕ} {limit : ℕ} {space : Space} {room : ℕ} {w : Rows} {ss : List ℕ} → Comes names text ts limit space room (accepted w ss) → Succeeds names text ts limit space room w ss
 succeeds (Comes.read {t = t} x h i j) = record { tree = t; reading = x; deep = h; fits = i; symbols-fit = j; rows-are = refl; symbols-are = refl }
 
-pub success-comes : {text ts : List ℕ} {limit : ℕ} {space : Space} {room : ℕ} {w : Rows} {ss : List ℕ} → Succeeds text ts limit space room w ss → Comes text ts limit space room (accepted w ss)
+pub success-comes : {names : Builtins} {text ts : List ℕ} {limit : ℕ} {space : Space} {room : ℕ} {w : Rows} {ss : List ℕ} → Succeeds names text ts limit space room w ss → Comes names text ts limit space room (accepted w ss)
 success-comes x = rw (x .rows-are, x .symbols-are) (Comes.read (x .reading) (x .deep) (rw (x .rows-are) at (x .fits)) (rw (x .symbols-are) at (x .symbols-fit)))
 
-module _ (text ts : List ℕ) {limit : ℕ} {space : Space} (room : ℕ) {n : ℕ} {t : Tree Label} {q : Refused} where
+module _ (names : Builtins) (text ts : List ℕ) {limit : ℕ} {space : Space} (room : ℕ) {n : ℕ} {t : Tree Label} {q : Refused} where
   -- where a script is refused by 4, the rows of no reading fit, however deep it is
-  pub short-truly : Whole ts → Stops text ts limit space room q → code-of q ≡ 4 → Script (kind ts) n t → Enough space (written ts (symbol text ts) t) → length (symbol-rows text ts (count ts)) ≤ room → ⊥
-  short-truly l x e r i j = script-not-refused text ts room l r (omega arith) i j (refusal-kept {l = limit + depth t} (omega arith) keeps-self alike-self x (λ f. omega arith) (λ f. keeps-self))
+  pub short-truly : Whole ts → built names ≤ 64 → Stops names text ts limit space room q → code-of q ≡ 4 → Script (kind ts) n t → Enough space (written ts (symbol names text ts) t) → length (symbol-rows names text ts (count ts)) ≤ room → ⊥
+  short-truly l few x e r i j = script-not-refused names text ts room l few r (omega arith) i j (refusal-kept {l = limit + depth t} (omega arith) keeps-self alike-self x (λ f. omega arith) (λ f. keeps-self))
 
   -- and where it is refused by another code, no reading is within the limit, whatever its rows
-  pub refused-truly : Stops text ts limit space room q → (code-of q ≡ 4 → ⊥) → Script (kind ts) n t → depth t ≤ limit → ⊥
+  pub refused-truly : Stops names text ts limit space room q → (code-of q ≡ 4 → ⊥) → Script (kind ts) n t → depth t ≤ limit → ⊥
   refused-truly x e r h =
       let τ : ℕ → ℕ = λ i. 0 in
       let w = then ts τ t blank in
       let z : Space = record { nodes = space .nodes + length (w .nodes); links = space .links + length (w .links) } in
-      let g : Keeps space z (symbol-in text ts room) τ = record { nodes = omega arith; links = omega arith; words = λ i f. omega arith } in
+      let g : Keeps space z (symbol-in names text ts room) τ = record { nodes = omega arith; links = omega arith; words = λ i f. omega arith } in
       read-not-refused {ts = ts} {symbol = τ} {limit = limit} {space = z} {o = 0} {w = blank} (record { reads = r; deep = omega arith; named = named-all (λ i f. omega arith) t; fits = omega arith }) (refusal-kept (omega arith) g alike-self x (λ f. omega arith) (λ f. absurd (e f)))
 
--- reading does not depend on the text: with another one, and room for the rows of both, the same refusal comes, or the rows of the same tree
-pub same-refusal : {text other ts : List ℕ} {limit : ℕ} {space : Space} {room : ℕ} {q : Refused} → Whole ts → length (symbol-rows text ts (count ts)) ≤ room → length (symbol-rows other ts (count ts)) ≤ room → Comes text ts limit space room (refusal q) → Comes other ts limit space room (refusal q)
-same-refusal {text} {other} {ts} {space = space} {room = room} l h i (Comes.stop x) = Comes.stop (refusal-kept (omega arith) (there text other i) alike-self x (λ e. omega arith) (λ e. there other text h))
+-- reading does not depend on the text nor on built-in names: with others, and room for the rows of both, the same refusal comes, or the rows of the same tree
+pub same-refusal : {names others : Builtins} {text other ts : List ℕ} {limit : ℕ} {space : Space} {room room′ : ℕ} {q : Refused} → Whole ts → built names ≤ 64 → built others ≤ 64 → length (symbol-rows names text ts (count ts)) ≤ room → length (symbol-rows others other ts (count ts)) ≤ room′ → Comes names text ts limit space room (refusal q) → Comes others other ts limit space room′ (refusal q)
+same-refusal {names} {others} {text} {other} {ts} {space = space} {room = room} {room′ = room′} l few fewer h i (Comes.stop x) =
+    Comes.stop (refusal-kept (omega arith) (there (symbol-in names text ts room) others other fewer i) alike-self x (λ e. omega arith) (λ e. there (symbol-in others other ts room′) names text few h))
   where
-    there : (t u : List ℕ) → length (symbol-rows u ts (count ts)) ≤ room → Keeps space space (symbol-in t ts room) (symbol-in u ts room)
-    there t u k = record { nodes = omega arith; links = omega arith; words = λ j e. absurd (symbol-there u ts l k j e) }
+    there : (σ : ℕ → ℕ) (ns : Builtins) (u : List ℕ) → built ns ≤ 64 → {n : ℕ} → length (symbol-rows ns u ts (count ts)) ≤ n → Keeps space space σ (symbol-in ns u ts n)
+    there σ ns u f k = record { nodes = omega arith; links = omega arith; words = λ j e. absurd (symbol-there ns u ts l f k j e) }
 
-pub record Same-tree (text other ts : List ℕ) (limit : ℕ) (space : Space) (room : ℕ) (w : Rows) (ss : List ℕ) : Type 0 where
+pub record Same-tree (names others : Builtins) (text other ts : List ℕ) (limit : ℕ) (space : Space) (room : ℕ) (w : Rows) (ss : List ℕ) : Type 0 where
   pub tree : Tree Label
-  pub rows : w ≡ written ts (symbol text ts) tree
-  pub symbols : ss ≡ symbol-rows text ts (count ts)
-  pub comes : Comes other ts limit space room (accepted (written ts (symbol other ts) tree) (symbol-rows other ts (count ts)))
+  pub rows : w ≡ written ts (symbol names text ts) tree
+  pub symbols : ss ≡ symbol-rows names text ts (count ts)
+  pub comes : Comes others other ts limit space room (accepted (written ts (symbol others other ts) tree) (symbol-rows others other ts (count ts)))
 
-pub same-tree : {text other ts : List ℕ} {limit : ℕ} {space : Space} {room : ℕ} {w : Rows} {ss : List ℕ} → length (symbol-rows other ts (count ts)) ≤ room → Comes text ts limit space room (accepted w ss) → Same-tree text other ts limit space room w ss
-same-tree {text} {other} {ts} k (Comes.read {t = t} x h i j) = record { tree = t; rows = refl; symbols = refl; comes = Comes.read x h (enough-written ts (symbol text ts) (symbol other ts) t (enough-then ts (symbol text ts) (symbol text ts) t i)) k }
+pub same-tree : {names others : Builtins} {text other ts : List ℕ} {limit : ℕ} {space : Space} {room room′ : ℕ} {w : Rows} {ss : List ℕ} → length (symbol-rows others other ts (count ts)) ≤ room′ → Comes names text ts limit space room (accepted w ss) → Same-tree names others text other ts limit space room′ w ss
+same-tree {names} {others} {text} {other} {ts} k (Comes.read {t = t} x h i j) = record { tree = t; rows = refl; symbols = refl; comes = Comes.read x h (enough-written ts (symbol names text ts) (symbol others other ts) t (enough-then ts (symbol names text ts) (symbol names text ts) t i)) k }
 
 -- rows that the tokens before a pay for
 record Paid (a : ℕ) (w : Rows) : Type 0 where
@@ -210,49 +213,49 @@ module _ (ts : List ℕ) (σ : ℕ → ℕ) (space : Space) (kind : ℕ → ℕ)
       let f = script-room ts σ r in
       spacious room (omega arith) l
 
--- the rooms have a row for each of n tokens
-pub record Ample (n : ℕ) (space : Space) (room : ℕ) : Type 0 where
+-- the rooms have a row for each of n tokens, and the symbol room one for each built-in name, too
+pub record Ample (names : Builtins) (n : ℕ) (space : Space) (room : ℕ) : Type 0 where
   pub nodes : node-width * n ≤ space .nodes
   pub links : link-width * n ≤ space .links
-  pub symbols : symbol-width * n ≤ room
+  pub symbols : symbol-width * (built names + n) ≤ room
 
-module _ (text ts : List ℕ) {space : Space} {room : ℕ} (l : Whole ts) (h : Ample (count ts) space room) where
-  symbols-enough : length (symbol-rows text ts (count ts)) ≤ room
-  symbols-enough = omega (arith, rows-few text ts (count ts), h .symbols)
+module _ (names : Builtins) (text ts : List ℕ) {space : Space} {room : ℕ} (l : Whole ts) (h : Ample names (count ts) space room) where
+  symbols-enough : length (symbol-rows names text ts (count ts)) ≤ room
+  symbols-enough = omega (arith, rows-few names text ts (count ts), h .symbols)
 
   -- a script is never refused by 4 where each room has a row for each token: what was promised before rooms could be small
-  pub ample-never-short : {limit : ℕ} {q : Refused} → kind ts (count ts - 1) ≡ Eof → Stops text ts limit space room q → code-of q ≡ 4 → ⊥
-  ample-never-short last x =
+  pub ample-never-short : built names ≤ 64 → {limit : ℕ} {q : Refused} → kind ts (count ts - 1) ≡ Eof → Stops names text ts limit space room q → code-of q ≡ 4 → ⊥
+  ample-never-short few last x =
       let some = l .some in
       let e : count ts - 1 + 1 ≡ count ts = omega arith in
-      script-never ts (symbol-in text ts room) space (kind ts) (count ts - 1) last (rw e (record { nodes = h .nodes; links = h .links; words = symbol-there text ts l symbols-enough })) x
+      script-never ts (symbol-in names text ts room) space (kind ts) (count ts - 1) last (rw e (record { nodes = h .nodes; links = h .links; words = symbol-there names text ts l few symbols-enough })) x
 
   -- and has room for the rows
-  pub ample-enough : {t : Tree Label} → Script (kind ts) (count ts - 1) t → Enough space (written ts (symbol text ts) t) × (length (symbol-rows text ts (count ts)) ≤ room)
+  pub ample-enough : {t : Tree Label} → Script (kind ts) (count ts - 1) t → Enough space (written ts (symbol names text ts) t) × (length (symbol-rows names text ts (count ts)) ≤ room)
   unfolding unparented
   ample-enough {t} x =
-      let f = script-room ts (symbol text ts) x in
-      let a = written-alike ts (symbol text ts) t in
+      let f = script-room ts (symbol names text ts) x in
+      let a = written-alike ts (symbol names text ts) t in
       (omega (arith, l .some, h .nodes, h .links, f, a), symbols-enough)
 
--- of a call whose rooms have a row for each token: what is let in has a code from 8 where it is refused, as before
-pub ample-codes : {c : Call} {a : Answer} {after : Rooms} → Admitted c → Ample (count (c .tokens)) (space-of (c .rooms)) (length (c .rooms .symbols)) → Refused-at c a after → 8 ≤ a .code
+-- of a call whose rooms have a row for each token, and each built-in name: what is let in has a code from 8 where it is refused, as before
+pub ample-codes : {c : Call} {a : Answer} {after : Rooms} → Admitted c → Ample (c .names) (count (c .tokens)) (space-of (c .rooms)) (length (c .rooms .symbols)) → Refused-at c a after → 8 ≤ a .code
 ample-codes {c} {a} d h x =
-    let never : a .code ≡ 4 → ⊥ = ample-never-short (c .text) (c .tokens) (d .whole) h (last-token d) (x .refusal) in
+    let never : a .code ≡ 4 → ⊥ = ample-never-short (c .names) (c .text) (c .tokens) (d .whole) h (d .named .few) (last-token d) (x .refusal) in
     x .codes .others (omega (arith, never, x .codes .least))
 
 -- rows are written whole: numbers fit exactly where the counts of an answer are no more than the rooms' whole rows, and a number left over in a room is of no use
-pub record Counted (text ts : List ℕ) (r : Rooms) (t : Tree Label) : Type 0 where
-  pub nodes : length (written ts (symbol text ts) t .nodes) / node-width ≤ length (r .nodes) / node-width
-  pub links : length (written ts (symbol text ts) t .links) / link-width ≤ length (r .links) / link-width
-  pub symbols : length (symbol-rows text ts (count ts)) / symbol-width ≤ length (r .symbols) / symbol-width
+pub record Counted (names : Builtins) (text ts : List ℕ) (r : Rooms) (t : Tree Label) : Type 0 where
+  pub nodes : length (written ts (symbol names text ts) t .nodes) / node-width ≤ length (r .nodes) / node-width
+  pub links : length (written ts (symbol names text ts) t .links) / link-width ≤ length (r .links) / link-width
+  pub symbols : length (symbol-rows names text ts (count ts)) / symbol-width ≤ length (r .symbols) / symbol-width
 
-module _ (text ts : List ℕ) (r : Rooms) (t : Tree Label) where
-  pub enough-counted : Enough (space-of r) (written ts (symbol text ts) t) → length (symbol-rows text ts (count ts)) ≤ length (r .symbols) → Counted text ts r t
+module _ (names : Builtins) (text ts : List ℕ) (r : Rooms) (t : Tree Label) where
+  pub enough-counted : Enough (space-of r) (written ts (symbol names text ts) t) → length (symbol-rows names text ts (count ts)) ≤ length (r .symbols) → Counted names text ts r t
   enough-counted h i = omega arith
 
-  pub counted-enough : Counted text ts r t → Enough (space-of r) (written ts (symbol text ts) t) × (length (symbol-rows text ts (count ts)) ≤ length (r .symbols))
+  pub counted-enough : Counted names text ts r t → Enough (space-of r) (written ts (symbol names text ts) t) × (length (symbol-rows names text ts (count ts)) ≤ length (r .symbols))
   counted-enough h =
-      let a = written-alike ts (symbol text ts) t in
-      let w = tree-whole ts (symbol text ts) t {w = blank} (record { nodes = refl; links = refl }) in
-      (omega (arith, w .nodes, w .links, a, h .nodes, h .links), omega (arith, rows-whole text ts (count ts), h .symbols))
+      let a = written-alike ts (symbol names text ts) t in
+      let w = tree-whole ts (symbol names text ts) t {w = blank} (record { nodes = refl; links = refl }) in
+      (omega (arith, w .nodes, w .links, a, h .nodes, h .links), omega (arith, rows-whole names text ts (count ts), h .symbols))

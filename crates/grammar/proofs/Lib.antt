@@ -4,6 +4,7 @@ pub mod Tables
 pub mod Patterns
 pub mod Matching
 pub mod Lexemes
+pub mod Quotes
 pub mod Runs
 pub mod Floats
 -- one reading, one refusal, one answer
@@ -14,11 +15,13 @@ pub mod Answers
 -- rows
 pub mod Growth
 pub mod Symbols
+pub mod Seek
 pub mod Worded
 pub mod Room
 pub mod Halves
 pub mod Handles
 pub mod Words
+pub mod Asking
 pub mod Sizes
 pub mod Order
 pub mod Shapes
@@ -31,6 +34,7 @@ pub mod Lengths
 pub mod Calls
 pub mod Demands
 pub mod Larger
+pub mod Builtins
 -- samples
 pub mod Reader
 pub mod Doors

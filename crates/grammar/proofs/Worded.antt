@@ -1,7 +1,7 @@
--- Every word of a script that is read has its symbol: an identifier or a string is nothing but the one token of a node that has a word. So where each node of a
--- script has its symbol, all symbol rows of the list fit, and the other way round (`fits-named`, Symbols.antt).
+-- Every word of a script that is read has its symbol: an identifier or a string is the one token of a node that has a word, and such a node is no other. So where
+-- each node of a script has its symbol, and the built-in rows fit, all symbol rows of the list do, and the other way round (`fits-named`, Symbols.antt).
 use Prim.Native.Nat.{ℕ, zero, suc, _+_, _-_, _≤_, _<_}
-use mathlib.Core.Bool.{Bool, true, false, not, _&&_, _||_}
+use mathlib.Core.Bool.{Bool, true, false, cond, not, _&&_, _||_}
 use mathlib.Core.List.{List}
 use mathlib.Core.Logic.{_⊎_, ⊎-elim}
 use mathlib.Core.Path.{_≡_, refl}
@@ -9,23 +9,25 @@ use native.Mathlib.Decide.{decLt}
 use native.Mathlib.Omega.{arith}
 use lib.Dec.{eqb, T}
 use lib.ListN.{length}
+use Rattle.grammar.specs.Builtin.{Builtins}
+use Rattle.grammar.specs.Door.{Right-symbols}
 use Rattle.grammar.specs.Handle.{absent}
 use Rattle.grammar.specs.Kaori.{Table, Form, above, rules, kaori, Script}
 use Rattle.grammar.specs.Kind.{StringLiteral, Identifier, Eof}
 use Rattle.grammar.specs.Label.{Label}
-use Rattle.grammar.specs.Phrase.{empty, token, part, nested, node, choice, chain, once, refusal, Tree, Aim, whole, Reads}
+use Rattle.grammar.specs.Phrase.{empty, token, part, nested, node, choice, chain, once, refusal, Tree, none, Aim, whole, Reads}
 use Rattle.grammar.specs.Space.{has-word, Worded, Named}
 use Rattle.grammar.specs.Symbol.{is-name, symbol-rows, symbol-in}
 use Rattle.grammar.specs.Token.{kind, count}
 use Rattle.grammar.proofs.Machine.{asked}
 use Rattle.grammar.proofs.Outcomes.{ends-at-eof}
-use Rattle.grammar.proofs.Symbols.{has-row, rows-same}
+use Rattle.grammar.proofs.Symbols.{built-length, has-row, rows-same}
 use Rattle.grammar.proofs.Tables.{each, in-tables}
 use Rattle.grammar.proofs.Tests.{both, as-true}
 
 -- a kind that has a word
-abbrev pub names : ℕ → Bool
-names x = eqb x Identifier || eqb x StringLiteral
+abbrev pub a-name : ℕ → Bool
+a-name x = eqb x Identifier || eqb x StringLiteral
 
 abbrev is-empty : Form → Bool
 is-empty empty = true
@@ -38,10 +40,10 @@ is-empty (chain p n) = false
 is-empty (once p n) = false
 is-empty (refusal e) = false
 
--- one token alone
+-- one token alone, of a kind that has a word
 abbrev alone : Form → Bool
 alone empty = false
-alone (token x p) = is-empty p
+alone (token x p) = a-name x && is-empty p
 alone (part p q) = false
 alone (nested p) = false
 alone (node f p) = false
@@ -50,13 +52,13 @@ alone (chain p n) = false
 alone (once p n) = false
 alone (refusal e) = false
 
--- a token of a kind that has a word is all that a node has which has a word
+-- a node that has a word is such a token, and no other form takes one
 unfoldable pub spoken : Form → Bool
 spoken empty = true
-spoken (token x p) = not (names x) && spoken p
+spoken (token x p) = not (a-name x) && spoken p
 spoken (part p q) = spoken p && spoken q
 spoken (nested p) = spoken p
-spoken (node f p) = has-word f && alone p || spoken p
+spoken (node f p) = cond (has-word f) (alone p) (spoken p)
 spoken (choice n) = true
 spoken (chain p n) = spoken p
 spoken (once p n) = spoken p
@@ -91,58 +93,77 @@ spoken-tables (Table.operators (suc (suc (suc (suc zero))))) = tt
 spoken-tables (Table.operators (suc (suc (suc (suc (suc zero)))))) = tt
 spoken-tables (Table.operators (suc (suc (suc (suc (suc (suc n))))))) = tt
 
-spoken-entry : (n : Table) (x : ℕ) {p : Form} → kaori n x ≡ p → T (spoken p)
+pub spoken-entry : (n : Table) (x : ℕ) {p : Form} → kaori n x ≡ p → T (spoken p)
 spoken-entry n x e = rw e at (in-tables (λ n. spoken) spoken-tables n x)
 
-nothing-taken : {kind : ℕ → ℕ} {p : Form} {a b : ℕ} {t : Tree Label} → Reads kaori kind (whole p) a b t → T (is-empty p) → b ≡ a
-nothing-taken Reads.nothing h = refl
-nothing-taken (Reads.taken e x) h = absurd h
-nothing-taken (Reads.both x y) h = absurd h
-nothing-taken (Reads.opened x) h = absurd h
-nothing-taken (Reads.labelled x) h = absurd h
-nothing-taken (Reads.chosen e x) h = absurd h
-nothing-taken (Reads.ended l e) h = absurd h
-nothing-taken (Reads.alone x e) h = absurd h
-nothing-taken (Reads.joined x e y) h = absurd h
+-- one token that has a word, and no more
+pub record One-word (kind : ℕ → ℕ) (a b : ℕ) (t : Tree Label) : Type 0 where
+  pub ends : b ≡ a + 1
+  pub bare : t ≡ none
+  pub spells : a-name (kind a) ≡ true
 
-one-taken : {kind : ℕ → ℕ} {p : Form} {a b : ℕ} {t : Tree Label} → Reads kaori kind (whole p) a b t → T (alone p) → b ≡ a + 1
-one-taken Reads.nothing h = absurd h
-one-taken (Reads.taken e x) h = nothing-taken x h
-one-taken (Reads.both x y) h = absurd h
-one-taken (Reads.opened x) h = absurd h
-one-taken (Reads.labelled x) h = absurd h
-one-taken (Reads.chosen e x) h = absurd h
-one-taken (Reads.ended l e) h = absurd h
-one-taken (Reads.alone x e) h = absurd h
-one-taken (Reads.joined x e y) h = absurd h
+-- a node is such a token, or has no word
+pub data Speech (kind : ℕ → ℕ) (f : Label) (p : Form) (a b : ℕ) (t : Tree Label) : Type 0 where
+  word : has-word f ≡ true → One-word kind a b t → Speech kind f p a b t
+  wordless : has-word f ≡ false → T (spoken p) → Speech kind f p a b t
+
+module _ {kind : ℕ → ℕ} where
+  nothing-taken : {p : Form} {a b : ℕ} {t : Tree Label} → Reads kaori kind (whole p) a b t → T (is-empty p) → (b ≡ a) × (t ≡ none)
+  nothing-taken Reads.nothing h = (refl, refl)
+  nothing-taken (Reads.taken e x) h = absurd h
+  nothing-taken (Reads.both x y) h = absurd h
+  nothing-taken (Reads.opened x) h = absurd h
+  nothing-taken (Reads.labelled x) h = absurd h
+  nothing-taken (Reads.chosen e x) h = absurd h
+  nothing-taken (Reads.ended l e) h = absurd h
+  nothing-taken (Reads.alone x e) h = absurd h
+  nothing-taken (Reads.joined x e y) h = absurd h
+
+  one-word : {p : Form} {a b : ℕ} {t : Tree Label} → Reads kaori kind (whole p) a b t → T (alone p) → One-word kind a b t
+  one-word Reads.nothing h = absurd h
+  one-word (Reads.taken {x = x} {p = p} e y) h = let (u, v) = both (a-name x) (is-empty p) h in let (i, j) = nothing-taken y v in record { ends = i; bare = j; spells = rw e (as-true (a-name x) u) }
+  one-word (Reads.both x y) h = absurd h
+  one-word (Reads.opened x) h = absurd h
+  one-word (Reads.labelled x) h = absurd h
+  one-word (Reads.chosen e x) h = absurd h
+  one-word (Reads.ended l e) h = absurd h
+  one-word (Reads.alone x e) h = absurd h
+  one-word (Reads.joined x e y) h = absurd h
+
+  pub speech : (f : Label) {p : Form} {a b : ℕ} {t : Tree Label} → Reads kaori kind (whole p) a b t → T (spoken (node f p)) → Speech kind f p a b t
+  unfolding spoken
+  speech f {p} {a} {b} {t} x h = pick (has-word f) refl h
+    where
+      pick : (c : Bool) → has-word f ≡ c → T (cond c (alone p) (spoken p)) → Speech kind f p a b t
+      pick true e k = Speech.word e (one-word x k)
+      pick false e k = Speech.wordless e k
 
 -- the words of the tokens from a up to b have their symbols
 pub record Told (kind symbol : ℕ → ℕ) (a b : ℕ) : Type 0 where
-  pub there : (i : ℕ) → a ≤ i → i < b → names (kind i) ≡ true → symbol i ≡ absent → ⊥
+  pub there : (i : ℕ) → a ≤ i → i < b → a-name (kind i) ≡ true → symbol i ≡ absent → ⊥
 
 module _ {kind symbol : ℕ → ℕ} where
   told-both : {a b c : ℕ} → Told kind symbol a b → Told kind symbol b c → Told kind symbol a c
   told-both {b = b} x y = record { there = λ i l h. elim (decLt i b) [ yes k ↦ x .there i l k | no k ↦ y .there i (omega arith) h ] }
 
-  told-token : {a x : ℕ} → kind a ≡ x → T (not (names x)) → Told kind symbol a (a + 1)
-  told-token {a} {x} e h = record { there = λ i l k n. let z : i ≡ a = omega arith in absurd (let y : names x ≡ true = rw (z, e) at n in rw y at h) }
+  told-token : {a x : ℕ} → kind a ≡ x → T (not (a-name x)) → Told kind symbol a (a + 1)
+  told-token {a} {x} e h = record { there = λ i l k n. let z : i ≡ a = omega arith in absurd (let y : a-name x ≡ true = rw (z, e) at n in rw y at h) }
 
-  told-word : (f : Label) {a b : ℕ} → T (has-word f) → b ≡ a + 1 → Worded symbol f a → Told kind symbol a b
-  told-word f {a} h e w = record { there = λ i l k n. let z : i ≡ a = omega arith in rw z (w (as-true (has-word f) h)) }
+  told-word : {a b : ℕ} → b ≡ a + 1 → (symbol a ≡ absent → ⊥) → Told kind symbol a b
+  told-word {a} e w = record { there = λ i l k n. let z : i ≡ a = omega arith in rw z w }
 
   -- a node's one token, or its parts
   told-node : (f : Label) {p : Form} {a b : ℕ} {t : Tree Label} → Reads kaori kind (whole p) a b t → Worded symbol f a → T (spoken (node f p)) → (T (spoken p) → Told kind symbol a b) → Told kind symbol a b
-  unfolding spoken
-  told-node f {p} {a} {b} x w h g = pick (has-word f && alone p) refl h
+  told-node f {p} {a} {b} {t} x w h g = pick (speech f x h)
     where
-      pick : (c : Bool) → has-word f && alone p ≡ c → T (c || spoken p) → Told kind symbol a b
-      pick true e k = let (u, v) = both (has-word f) (alone p) (rw e tt) in told-word f u (one-taken x v) w
-      pick false e k = g k
+      pick : Speech kind f p a b t → Told kind symbol a b
+      pick (Speech.word e y) = told-word (y .ends) (w e)
+      pick (Speech.wordless e k) = g k
 
   pub told : {m : Aim Table Label} {a b : ℕ} {t : Tree Label} → Reads kaori kind m a b t → T (spoken (asked m)) → Named symbol t → Told kind symbol a b
   unfolding spoken Named
   told Reads.nothing h n = record { there = λ i l k. absurd (omega arith) }
-  told (Reads.taken {x = x} {p = p} e r) h n = let (u, v) = both (not (names x)) (spoken p) h in told-both (told-token e u) (told r v n)
+  told (Reads.taken {x = x} {p = p} e r) h n = let (u, v) = both (not (a-name x)) (spoken p) h in told-both (told-token e u) (told r v n)
   told (Reads.both {p = p} {q = q} x y) h n = let (u, v) = both (spoken p) (spoken q) h in told-both (told x u (n .0)) (told y v (n .1))
   told (Reads.opened x) h n = told x h n
   told (Reads.labelled {f = f} x) h n = told-node f x (n .1) h (λ v. told x v (n .0))
@@ -158,20 +179,20 @@ pub script-told : {kind : ℕ → ℕ} (symbol : ℕ → ℕ) {n : ℕ} {t : Tre
 unfolding spoken has-word
 script-told symbol x w i h k = told x tt w .there i (omega arith) h (⊎-elim (λ e. rw e refl) (λ e. rw e refl) k)
 
-module _ (text ts : List ℕ) (room : ℕ) where
-  rows-fit : (n : ℕ) → ((i : ℕ) → i < n → is-name ts i ≡ true → length (symbol-rows text ts (suc i)) ≤ room) → length (symbol-rows text ts n) ≤ room
+module _ (names : Builtins) (text ts : List ℕ) (room : ℕ) where
+  rows-fit : Right-symbols names room → (n : ℕ) → ((i : ℕ) → i < n → is-name ts i ≡ true → length (symbol-rows names text ts (suc i)) ≤ room) → length (symbol-rows names text ts n) ≤ room
   unfolding symbol-rows
-  rows-fit zero h = omega arith
-  rows-fit (suc n) h = pick (is-name ts n) refl (rows-fit n (λ i k. h i (omega arith)))
+  rows-fit r zero h = omega (arith, built-length names)
+  rows-fit r (suc n) h = pick (is-name ts n) refl (rows-fit r n (λ i k. h i (omega arith)))
     where
-      pick : (b : Bool) → is-name ts n ≡ b → length (symbol-rows text ts n) ≤ room → length (symbol-rows text ts (suc n)) ≤ room
+      pick : (b : Bool) → is-name ts n ≡ b → length (symbol-rows names text ts n) ≤ room → length (symbol-rows names text ts (suc n)) ≤ room
       pick true e k = h n (omega arith) e
-      pick false e k = rw (rows-same text ts n e) k
+      pick false e k = rw (rows-same names text ts n e) k
 
-  -- so a script whose nodes have their symbols has room for all rows of the list
-  pub words-fit : {t : Tree Label} → Script (kind ts) (count ts - 1) t → Named (symbol-in text ts room) t → length (symbol-rows text ts (count ts)) ≤ room
+  -- so a script whose nodes have their symbols has room for all rows of the list, if it has it for the built-in ones
+  pub words-fit : Right-symbols names room → {t : Tree Label} → Script (kind ts) (count ts - 1) t → Named (symbol-in names text ts room) t → length (symbol-rows names text ts (count ts)) ≤ room
   unfolding spoken has-word
-  words-fit x w = rows-fit (count ts) (λ i h e. elim (decLt i (count ts - 1)) [
-    | yes k ↦ has-row text ts room i (told x tt w .there i (omega arith) k e) e
-    | no k ↦ absurd (let z : i ≡ count ts - 1 = omega arith in let y : names Eof ≡ true = rw (z, ends-at-eof x) at e in let o : _≡_ {A = ℕ} 0 1 = cc in omega arith)
+  words-fit r x w = rows-fit r (count ts) (λ i h e. elim (decLt i (count ts - 1)) [
+    | yes k ↦ has-row names text ts room i (told x tt w .there i (omega arith) k e) e
+    | no k ↦ absurd (let z : i ≡ count ts - 1 = omega arith in let y : a-name Eof ≡ true = rw (z, ends-at-eof x) at e in let o : _≡_ {A = ℕ} 0 1 = cc in omega arith)
   ])

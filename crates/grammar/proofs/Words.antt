@@ -7,6 +7,7 @@ use native.Mathlib.Omega.{arith}
 use lib.Dec.{eqb, T, eqb→eq}
 use borrow.Author.Tests.{eq-eqb}
 use lib.ListN.{length, getD}
+use Rattle.grammar.specs.Builtin.{Builtins}
 use Rattle.grammar.specs.Handle.{Handle}
 use Rattle.grammar.specs.Kaori.{Table, Form, above, rules, kaori}
 use Rattle.grammar.specs.Kind.{Identifier}
@@ -103,11 +104,11 @@ stands (Reads.ended l e) h = absurd h
 stands (Reads.alone x e) h = absurd h
 stands (Reads.joined x e y) h = absurd h
 
-module _ (text ts : List ℕ) (n : ℕ) where
+module _ (names : Builtins) (text ts : List ℕ) (n : ℕ) where
   -- a name's symbol is one of the rows of the first n tokens
   abbrev pub Has-row : Handle → Type 0
   Has-row (Handle.node i s e) = Unit {0}
-  Has-row (Handle.name x s e) = 2 * (x + 1) ≤ length (symbol-rows text ts n)
+  Has-row (Handle.name x s e) = 2 * (x + 1) ≤ length (symbol-rows names text ts n)
   Has-row (Handle.entry k v) = Unit {0}
   Has-row (Handle.ended i) = Unit {0}
   Has-row Handle.other = Unit {0}
@@ -131,7 +132,7 @@ module _ (text ts : List ℕ) (n : ℕ) where
   unfolding put
   put-handed k (writes s e fs) w = record { first = (tt, tt); rest = tt }
 
-  make-handed : (f : Label) {p : Form} {a b : ℕ} {t : Tree Label} → T (leads f p) → Reads kaori (kind ts) (whole p) a b t → b ≤ n → (w : Rows) (xs ys : List Handle) → All-have xs → All-have ys → Handed (make ts (symbol text ts) f a b w xs ys)
+  make-handed : (f : Label) {p : Form} {a b : ℕ} {t : Tree Label} → T (leads f p) → Reads kaori (kind ts) (whole p) a b t → b ≤ n → (w : Rows) (xs ys : List Handle) → All-have xs → All-have ys → Handed (make ts (symbol names text ts) f a b w xs ys)
   unfolding make
   make-handed (Label.Row k) l x m w xs ys h i = put-handed _ _ w
   make-handed Label.Script l x m w xs ys h i = put-handed _ _ w
@@ -141,16 +142,16 @@ module _ (text ts : List ℕ) (n : ℕ) where
   make-handed Label.Entry l x m w (y ∷ xs) ys h i = record { first = (tt, tt); rest = tt }
   make-handed Label.Name {a = a} l x m w xs ys h i =
       let (k, j) = stands x l in
-      record { first = (omega (arith, name-has-row text ts a (rw (eq-eqb (kind ts a) Identifier k)), rows-grow text ts (suc a) n (omega arith)), tt); rest = tt }
+      record { first = (omega (arith, name-has-row names text ts a (rw (eq-eqb (kind ts a) Identifier k)), rows-grow names text ts (suc a) n (omega arith)), tt); rest = tt }
 
   -- what a reading of some of the first n tokens hands up
-  pub names-have-rows : {m : Aim Table Label} {a b : ℕ} {t : Tree Label} → Reads kaori (kind ts) m a b t → T (named (asked m)) → b ≤ n → (w : Rows) → Handed (walk ts (symbol text ts) t w)
+  pub names-have-rows : {m : Aim Table Label} {a b : ℕ} {t : Tree Label} → Reads kaori (kind ts) m a b t → T (named (asked m)) → b ≤ n → (w : Rows) → Handed (walk ts (symbol names text ts) t w)
   unfolding walk named
   names-have-rows Reads.nothing h l w = record { first = tt; rest = tt }
   names-have-rows (Reads.taken e x) h l w = names-have-rows x h l w
   names-have-rows (Reads.both {p = p} {q = q} {t = t} x y) h l w =
       let (i, j) = both (named p) (named q) h in
-      record { first = all-handed (names-have-rows x i (omega (arith, takes y)) w); rest = all-handed (names-have-rows y j l (walk ts (symbol text ts) t w .rows)) }
+      record { first = all-handed (names-have-rows x i (omega (arith, takes y)) w); rest = all-handed (names-have-rows y j l (walk ts (symbol names text ts) t w .rows)) }
   names-have-rows (Reads.opened x) h l w = names-have-rows x h l w
   names-have-rows (Reads.labelled {f = f} {p = p} x) h l w =
       let (i, j) = named-node f p h in
@@ -160,9 +161,9 @@ module _ (text ts : List ℕ) (n : ℕ) where
   names-have-rows (Reads.first x) h l w = names-have-rows x h l w
   names-have-rows (Reads.link {n = k} {f = f} {q = q} {t = t} x e y) h l w =
       let (i, j) = named-node f q (named-entry k _ e) in
-      make-handed f i y l _ _ _ (all-handed (names-have-rows x h (omega (arith, takes y)) w)) (all-handed (names-have-rows y j l (walk ts (symbol text ts) t w .rows)))
+      make-handed f i y l _ _ _ (all-handed (names-have-rows x h (omega (arith, takes y)) w)) (all-handed (names-have-rows y j l (walk ts (symbol names text ts) t w .rows)))
   names-have-rows (Reads.ended x e) h l w = names-have-rows x h l w
   names-have-rows (Reads.alone x e) h l w = names-have-rows x h l w
   names-have-rows (Reads.joined {n = k} {f = f} {q = q} {t = t} x e y) h l w =
       let (i, j) = named-node f q (named-entry k _ e) in
-      make-handed f i y l _ _ _ (all-handed (names-have-rows x h (omega (arith, takes y)) w)) (all-handed (names-have-rows y j l (walk ts (symbol text ts) t w .rows)))
+      make-handed f i y l _ _ _ (all-handed (names-have-rows x h (omega (arith, takes y)) w)) (all-handed (names-have-rows y j l (walk ts (symbol names text ts) t w .rows)))

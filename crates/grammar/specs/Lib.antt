@@ -9,6 +9,8 @@ pub mod Phrase
 pub mod Kaori
 pub mod Room
 pub mod Handle
+pub mod Table
+pub mod Builtin
 pub mod Symbol
 pub mod Rule
 pub mod Rows

@@ -4,6 +4,7 @@ use Prim.Native.Nat.{ℕ}
 use mathlib.Core.List.{List, [], _∷_, _++_}
 use lib.ListN.{replicate}
 use Rattle.grammar.specs.Answer.{Answer, Answers}
+use Rattle.grammar.specs.Builtin.{Builtins, none}
 use Rattle.grammar.specs.Call.{Call}
 use Rattle.grammar.specs.Pattern.{bytes}
 use Rattle.grammar.specs.Room.{Rooms}
@@ -21,8 +22,12 @@ rooms ns ls ss xs = record { nodes = ns; links = ls; symbols = ss; scratch = xs 
 abbrev pub numbers : (code nodes links symbols at start end expected : ℕ) → Answer
 numbers code ns ls ss at s e expected = record { code = code; nodes = ns; links = ls; symbols = ss; at = at; start = s; end = e; expected = expected }
 
+-- beside built-in names, and beside none
+abbrev pub beside : (names : Builtins) (text : List ℕ) (limit : ℕ) (tokens : List ℕ) (before : Rooms) (answer : Answer) (after : Rooms) → Reply
+beside names text limit ts before a after = record { call = record { names = names; text = text; tokens = ts; limit = limit; rooms = before }; answer = a; after = after }
+
 abbrev pub reply : (text : List ℕ) (limit : ℕ) (tokens : List ℕ) (before : Rooms) (answer : Answer) (after : Rooms) → Reply
-reply text limit ts before a after = record { call = record { text = text; tokens = ts; limit = limit; rooms = before }; answer = a; after = after }
+reply = beside none
 
 abbrev pub All-answered : List Reply → Type 0
 All-answered [] = Unit {0}
@@ -113,4 +118,43 @@ replies =
     -- 0: gaps are not examined, nor is Eof's lexeme; a byte of 127 may stand in a string
     reply (32 ∷ 97 ∷ 63 ∷ 59 ∷ 34 ∷ 127 ∷ 34 ∷ 59 ∷ 110 ∷ 111 ∷ 116 ∷ []) 64 (43 ∷ 1 ∷ 2 ∷ 41 ∷ 3 ∷ 4 ∷ 42 ∷ 4 ∷ 7 ∷ 41 ∷ 7 ∷ 8 ∷ 44 ∷ 8 ∷ 11 ∷ []) (rooms (replicate 55 7) (replicate 17 8) (replicate 11 9) (replicate 16 6))
     (numbers 0 3 2 2 0 0 0 255) (rooms (row 10 1 2 0 1 2 0 0 0 2 ++ row 11 4 7 1 0 0 0 0 0 2 ++ row 20 0 0 0 2 4294967295 0 0 0 4294967295 ++ replicate 25 0) (0 ∷ 0 ∷ 0 ∷ 1 ∷ 0 ∷ 0 ∷ replicate 11 0) (1 ∷ 2 ∷ 5 ∷ 6 ∷ replicate 7 0) (replicate 16 0)) ∷
+    -- 18: a built-in text that is too long, with no name and a byte over 127; one that is just short enough
+    beside (record { text = replicate 65537 97; rows = [] }) (97 ∷ 200 ∷ []) 64 (43 ∷ 0 ∷ 1 ∷ 41 ∷ 1 ∷ 2 ∷ 44 ∷ 2 ∷ 2 ∷ []) (rooms (replicate 30 7) (replicate 9 8) (replicate 9 9) (replicate 9 6))
+    (numbers 18 0 0 0 0 0 0 255) (rooms (replicate 30 7) (replicate 9 8) (replicate 9 9) (replicate 9 6)) ∷
+    beside (record { text = replicate 65536 97; rows = [] }) (97 ∷ 200 ∷ []) 64 (43 ∷ 0 ∷ 1 ∷ 41 ∷ 1 ∷ 2 ∷ 44 ∷ 2 ∷ 2 ∷ []) (rooms (replicate 30 7) (replicate 9 8) (replicate 9 9) (replicate 9 6))
+    (numbers 5 0 0 0 0 1 2 255) (rooms (replicate 30 7) (replicate 9 8) (replicate 9 9) (replicate 9 6)) ∷
+    -- 18: 65 names, each one byte longer than the one before
+    beside (record { text = replicate 65 97; rows = (0 ∷ 1 ∷ 0 ∷ 2 ∷ 0 ∷ 3 ∷ 0 ∷ 4 ∷ 0 ∷ 5 ∷ 0 ∷ 6 ∷ 0 ∷ 7 ∷ 0 ∷ 8 ∷ 0 ∷ 9 ∷ 0 ∷ 10 ∷ 0 ∷ 11 ∷ 0 ∷ 12 ∷ 0 ∷ 13 ∷ 0 ∷ 14 ∷ 0 ∷ 15 ∷ 0 ∷ 16 ∷ 0 ∷ 17 ∷ 0 ∷ 18 ∷ 0 ∷ 19 ∷ 0 ∷ 20 ∷ 0 ∷ 21 ∷ 0 ∷ 22 ∷ 0 ∷ 23 ∷ 0 ∷ 24 ∷ 0 ∷ 25 ∷ 0 ∷ 26 ∷ 0 ∷ 27 ∷ 0 ∷ 28 ∷ 0 ∷ 29 ∷ 0 ∷ 30 ∷ 0 ∷ 31 ∷ 0 ∷ 32 ∷ 0 ∷ 33 ∷ 0 ∷ 34 ∷ 0 ∷ 35 ∷ 0 ∷ 36 ∷ 0 ∷ 37 ∷ 0 ∷ 38 ∷ 0 ∷ 39 ∷ 0 ∷ 40 ∷ 0 ∷ 41 ∷ 0 ∷ 42 ∷ 0 ∷ 43 ∷ 0 ∷ 44 ∷ 0 ∷ 45 ∷ 0 ∷ 46 ∷ 0 ∷ 47 ∷ 0 ∷ 48 ∷ 0 ∷ 49 ∷ 0 ∷ 50 ∷ 0 ∷ 51 ∷ 0 ∷ 52 ∷ 0 ∷ 53 ∷ 0 ∷ 54 ∷ 0 ∷ 55 ∷ 0 ∷ 56 ∷ 0 ∷ 57 ∷ 0 ∷ 58 ∷ 0 ∷ 59 ∷ 0 ∷ 60 ∷ 0 ∷ 61 ∷ 0 ∷ 62 ∷ 0 ∷ 63 ∷ 0 ∷ 64 ∷ 0 ∷ 65 ∷ []) }) (bytes "a;") 64 (43 ∷ 0 ∷ 1 ∷ 41 ∷ 1 ∷ 2 ∷ 44 ∷ 2 ∷ 2 ∷ []) (rooms (replicate 30 7) (replicate 9 8) (replicate 9 9) (replicate 9 6))
+    (numbers 18 0 0 0 0 0 0 255) (rooms (replicate 30 7) (replicate 9 8) (replicate 9 9) (replicate 9 6)) ∷
+    -- 18: a start over its end; an end past the text; no byte; a byte that is no letter; a keyword; the same name twice, in other places
+    beside (record { text = bytes "ab c"; rows = (0 ∷ 2 ∷ 2 ∷ 1 ∷ []) }) (bytes "a;") 64 (43 ∷ 0 ∷ 1 ∷ 41 ∷ 1 ∷ 2 ∷ 44 ∷ 2 ∷ 2 ∷ []) (rooms (replicate 30 7) (replicate 9 8) (replicate 9 9) (replicate 9 6))
+    (numbers 18 0 0 0 0 0 0 255) (rooms (replicate 30 7) (replicate 9 8) (replicate 9 9) (replicate 9 6)) ∷
+    beside (record { text = bytes "ab c"; rows = (0 ∷ 2 ∷ 3 ∷ 5 ∷ []) }) (bytes "a;") 64 (43 ∷ 0 ∷ 1 ∷ 41 ∷ 1 ∷ 2 ∷ 44 ∷ 2 ∷ 2 ∷ []) (rooms (replicate 30 7) (replicate 9 8) (replicate 9 9) (replicate 9 6))
+    (numbers 18 0 0 0 0 0 0 255) (rooms (replicate 30 7) (replicate 9 8) (replicate 9 9) (replicate 9 6)) ∷
+    beside (record { text = bytes "ab c"; rows = (0 ∷ 2 ∷ 3 ∷ 3 ∷ []) }) (bytes "a;") 64 (43 ∷ 0 ∷ 1 ∷ 41 ∷ 1 ∷ 2 ∷ 44 ∷ 2 ∷ 2 ∷ []) (rooms (replicate 30 7) (replicate 9 8) (replicate 9 9) (replicate 9 6))
+    (numbers 18 0 0 0 0 0 0 255) (rooms (replicate 30 7) (replicate 9 8) (replicate 9 9) (replicate 9 6)) ∷
+    beside (record { text = bytes "ab c"; rows = (0 ∷ 2 ∷ 1 ∷ 4 ∷ []) }) (bytes "a;") 64 (43 ∷ 0 ∷ 1 ∷ 41 ∷ 1 ∷ 2 ∷ 44 ∷ 2 ∷ 2 ∷ []) (rooms (replicate 30 7) (replicate 9 8) (replicate 9 9) (replicate 9 6))
+    (numbers 18 0 0 0 0 0 0 255) (rooms (replicate 30 7) (replicate 9 8) (replicate 9 9) (replicate 9 6)) ∷
+    beside (record { text = bytes "ab 1c"; rows = (0 ∷ 2 ∷ 3 ∷ 5 ∷ []) }) (bytes "a;") 64 (43 ∷ 0 ∷ 1 ∷ 41 ∷ 1 ∷ 2 ∷ 44 ∷ 2 ∷ 2 ∷ []) (rooms (replicate 30 7) (replicate 9 8) (replicate 9 9) (replicate 9 6))
+    (numbers 18 0 0 0 0 0 0 255) (rooms (replicate 30 7) (replicate 9 8) (replicate 9 9) (replicate 9 6)) ∷
+    beside (record { text = bytes "ab not"; rows = (0 ∷ 2 ∷ 3 ∷ 6 ∷ []) }) (bytes "a;") 64 (43 ∷ 0 ∷ 1 ∷ 41 ∷ 1 ∷ 2 ∷ 44 ∷ 2 ∷ 2 ∷ []) (rooms (replicate 30 7) (replicate 9 8) (replicate 9 9) (replicate 9 6))
+    (numbers 18 0 0 0 0 0 0 255) (rooms (replicate 30 7) (replicate 9 8) (replicate 9 9) (replicate 9 6)) ∷
+    beside (record { text = bytes "ab ab"; rows = (0 ∷ 2 ∷ 3 ∷ 5 ∷ []) }) (bytes "a;") 64 (43 ∷ 0 ∷ 1 ∷ 41 ∷ 1 ∷ 2 ∷ 44 ∷ 2 ∷ 2 ∷ []) (rooms (replicate 30 7) (replicate 9 8) (replicate 9 9) (replicate 9 6))
+    (numbers 18 0 0 0 0 0 0 255) (rooms (replicate 30 7) (replicate 9 8) (replicate 9 9) (replicate 9 6)) ∷
+    -- 4 for scratch comes before 18, and 18 before a room that has not the built-in rows
+    beside (record { text = bytes "ab ab"; rows = (0 ∷ 2 ∷ 3 ∷ 5 ∷ []) }) (bytes "a;") 64 (43 ∷ 0 ∷ 1 ∷ 41 ∷ 1 ∷ 2 ∷ 44 ∷ 2 ∷ 2 ∷ []) (rooms (replicate 30 7) (replicate 9 8) (replicate 9 9) (replicate 8 6))
+    (numbers 4 0 0 0 0 0 0 255) (rooms (replicate 30 7) (replicate 9 8) (replicate 9 9) (replicate 8 6)) ∷
+    beside (record { text = bytes "ab ab"; rows = (0 ∷ 2 ∷ 3 ∷ 5 ∷ []) }) (bytes "a;") 64 (43 ∷ 0 ∷ 1 ∷ 41 ∷ 1 ∷ 2 ∷ 44 ∷ 2 ∷ 2 ∷ []) (rooms (replicate 30 7) (replicate 9 8) (replicate 1 9) (replicate 9 6))
+    (numbers 18 0 0 0 0 0 0 255) (rooms (replicate 30 7) (replicate 9 8) (replicate 1 9) (replicate 9 6)) ∷
+    -- 4: the built-in rows do not fit by a number, and a byte is over 127; where they fit, 5
+    beside (record { text = bytes "ab c"; rows = (0 ∷ 2 ∷ 3 ∷ 4 ∷ []) }) (97 ∷ 200 ∷ []) 64 (43 ∷ 0 ∷ 1 ∷ 41 ∷ 1 ∷ 2 ∷ 44 ∷ 2 ∷ 2 ∷ []) (rooms (replicate 30 7) (replicate 9 8) (replicate 3 9) (replicate 9 6))
+    (numbers 4 0 0 0 0 0 0 255) (rooms (replicate 30 7) (replicate 9 8) (replicate 3 9) (replicate 9 6)) ∷
+    beside (record { text = bytes "ab c"; rows = (0 ∷ 2 ∷ 3 ∷ 4 ∷ []) }) (97 ∷ 200 ∷ []) 64 (43 ∷ 0 ∷ 1 ∷ 41 ∷ 1 ∷ 2 ∷ 44 ∷ 2 ∷ 2 ∷ []) (rooms (replicate 30 7) (replicate 9 8) (replicate 4 9) (replicate 9 6))
+    (numbers 5 0 0 0 0 1 2 255) (rooms (replicate 30 7) (replicate 9 8) (replicate 4 9) (replicate 9 6)) ∷
+    -- 4 in reading: they fit, and the script's own name does not
+    beside (record { text = bytes "ab c"; rows = (0 ∷ 2 ∷ 3 ∷ 4 ∷ []) }) (bytes "a;") 64 (43 ∷ 0 ∷ 1 ∷ 41 ∷ 1 ∷ 2 ∷ 44 ∷ 2 ∷ 2 ∷ []) (rooms (replicate 30 7) (replicate 9 8) (replicate 4 9) (replicate 9 6))
+    (numbers 4 0 0 0 0 0 1 255) (rooms (replicate 30 0) (replicate 9 0) (replicate 4 0) (replicate 9 0)) ∷
+    -- 0: the built-in rows come first; a byte over 127 outside the names, and a number left over
+    beside (record { text = 200 ∷ 97 ∷ 98 ∷ []; rows = (1 ∷ 3 ∷ 2 ∷ 3 ∷ 5 ∷ []) }) (bytes "b;") 64 (43 ∷ 0 ∷ 1 ∷ 41 ∷ 1 ∷ 2 ∷ 44 ∷ 2 ∷ 2 ∷ []) (rooms (replicate 30 7) (replicate 9 8) (replicate 9 9) (replicate 9 6))
+    (numbers 0 2 1 2 0 0 0 255) (rooms (row 10 0 1 1 0 1 0 0 0 1 ++ row 20 0 0 0 1 4294967295 0 0 0 4294967295 ++ replicate 10 0) (0 ∷ 0 ∷ 0 ∷ replicate 6 0) (1 ∷ 3 ∷ 2 ∷ 3 ∷ replicate 5 0) (replicate 9 0)) ∷
     []

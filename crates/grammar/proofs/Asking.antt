@@ -1,0 +1,104 @@
+-- Rows ask for the symbols of identifiers and strings, and of no other token: symbols that are the same there give the same rows.
+use Prim.Native.Nat.{ℕ, _≤_, _<_}
+use mathlib.Core.Bool.{true, not}
+use mathlib.Core.List.{List}
+use mathlib.Core.Path.{_≡_, refl, ap}
+use native.Mathlib.Omega.{arith}
+use lib.Dec.{T}
+use Rattle.grammar.specs.Handle.{Handle}
+use Rattle.grammar.specs.Kaori.{Table, Form, kaori, Script}
+use Rattle.grammar.specs.Label.{Node, Label}
+use Rattle.grammar.specs.Parent.{parented, written}
+use Rattle.grammar.specs.Phrase.{node, Tree, Aim, whole, Reads}
+use Rattle.grammar.specs.Rows.{Rows, blank, make, walk, unparented}
+use Rattle.grammar.specs.Rule.{rule}
+use Rattle.grammar.specs.Space.{has-word}
+use Rattle.grammar.proofs.Halves.{takes}
+use Rattle.grammar.proofs.Machine.{asked}
+use Rattle.grammar.proofs.Tests.{both}
+use Rattle.grammar.proofs.Worded.{a-name, spoken, spoken-entry, Speech, speech}
+
+module _ (ts : List ℕ) (σ τ : ℕ → ℕ) where
+  -- a node that has no word asks for no symbol, and one that has asks for its first token's
+  rule-same : (n : Node) (a b : ℕ) (xs ys : List Handle) (x y : Handle) → (has-word (Label.Row n) ≡ true → σ a ≡ τ a) → rule ts σ n a b xs ys x y ≡ rule ts τ n a b xs ys x y
+  unfolding rule has-word
+  rule-same Node.Binary a b xs ys x y h = refl
+  rule-same Node.LogicalAnd a b xs ys x y h = refl
+  rule-same Node.LogicalOr a b xs ys x y h = refl
+  rule-same Node.LogicalNot a b xs ys x y h = refl
+  rule-same Node.Unary a b xs ys x y h = refl
+  rule-same Node.Assign a b xs ys x y h = refl
+  rule-same Node.Variable a b xs ys x y h = refl
+  rule-same Node.Constant a b xs ys x y h = refl
+  rule-same Node.Ref a b xs ys x y h = refl
+  rule-same Node.Identifier a b xs ys x y h = rw (h refl)
+  rule-same Node.String a b xs ys x y h = rw (h refl)
+  rule-same Node.Number a b xs ys x y h = refl
+  rule-same Node.Boolean a b xs ys x y h = refl
+  rule-same Node.Nil a b xs ys x y h = refl
+  rule-same Node.FunctionCall a b xs ys x y h = refl
+  rule-same Node.PropertyAccess a b xs ys x y h = refl
+  rule-same Node.Map a b xs ys x y h = refl
+  rule-same Node.Function a b xs ys x y h = refl
+  rule-same Node.Lambda a b xs ys x y h = refl
+  rule-same Node.Block a b xs ys x y h = refl
+  rule-same Node.If a b xs ys x y h = refl
+  rule-same Node.WhileLoop a b xs ys x y h = refl
+  rule-same Node.Return a b xs ys x y h = refl
+  rule-same Node.Break a b xs ys x y h = refl
+  rule-same Node.Continue a b xs ys x y h = refl
+  rule-same Node.Import a b xs ys x y h = refl
+
+  make-same : (f : Label) (a b : ℕ) (w : Rows) (xs ys : List Handle) → (has-word f ≡ true → σ a ≡ τ a) → make ts σ f a b w xs ys ≡ make ts τ f a b w xs ys
+  unfolding make has-word
+  make-same (Label.Row n) a b w xs ys h = rw (rule-same n a b xs ys _ _ h)
+  make-same Label.Script a b w xs ys h = refl
+  make-same Label.Ended a b w xs ys h = refl
+  make-same Label.Item a b w xs ys h = refl
+  make-same Label.Entry a b w xs ys h = refl
+  make-same Label.Name a b w xs ys h = rw (h refl)
+
+  -- from tree to tree
+  more-same : (t u : Tree Label) → ((w : Rows) → walk ts σ t w ≡ walk ts τ t w) → ((w : Rows) → walk ts σ u w ≡ walk ts τ u w) → (w : Rows) → walk ts σ (Tree.more t u) w ≡ walk ts τ (Tree.more t u) w
+  unfolding walk
+  more-same t u h k w = rw (h w, k (walk ts τ t w .rows))
+
+  made-same : (f : Label) (a b : ℕ) (t : Tree Label) → (has-word f ≡ true → σ a ≡ τ a) → ((w : Rows) → walk ts σ t w ≡ walk ts τ t w) → (w : Rows) → walk ts σ (Tree.made f a b t) w ≡ walk ts τ (Tree.made f a b t) w
+  unfolding walk
+  made-same f a b t h k w = let r = walk ts τ t w in rw (k w) (make-same f a b (r .rows) (r .first) (r .rest) h)
+
+  bare-same : {t : Tree Label} → t ≡ Tree.none → (w : Rows) → walk ts σ t w ≡ walk ts τ t w
+  unfolding walk
+  bare-same e w = rw e
+
+  module _ {kind : ℕ → ℕ} {n : ℕ} (same : (i : ℕ) → i < n → a-name (kind i) ≡ true → σ i ≡ τ i) where
+    -- what a node has, and what it asks for itself
+    node-same : (f : Label) {p : Form} {a b : ℕ} {t : Tree Label} → Reads kaori kind (whole p) a b t → T (spoken (node f p)) → b ≤ n → (T (spoken p) → (w : Rows) → walk ts σ t w ≡ walk ts τ t w) → (has-word f ≡ true → σ a ≡ τ a) × ((w : Rows) → walk ts σ t w ≡ walk ts τ t w)
+    node-same f {p} {a} {b} {t} x h l g = pick (speech f x h)
+      where
+        pick : Speech kind f p a b t → (has-word f ≡ true → σ a ≡ τ a) × ((w : Rows) → walk ts σ t w ≡ walk ts τ t w)
+        pick (Speech.word e y) = (λ _. same a (omega (arith, y .ends)) (y .spells), bare-same (y .bare))
+        pick (Speech.wordless e k) = (λ i. absurd (let z : _≡_ {A = ℕ} 0 1 = cc in omega arith), g k)
+
+    walk-same : {m : Aim Table Label} {a b : ℕ} {t : Tree Label} → Reads kaori kind m a b t → T (spoken (asked m)) → b ≤ n → (w : Rows) → walk ts σ t w ≡ walk ts τ t w
+    unfolding walk spoken
+    walk-same Reads.nothing h l w = refl
+    walk-same (Reads.taken {x = x} {p = p} e r) h l w = walk-same r (both (not (a-name x)) (spoken p) h .1) l w
+    walk-same (Reads.both {p = p} {q = q} {t = t} {u = u} x y) h l w = let (i, j) = both (spoken p) (spoken q) h in more-same t u (walk-same x i (omega (arith, takes y))) (walk-same y j l) w
+    walk-same (Reads.opened x) h l w = walk-same x h l w
+    walk-same (Reads.labelled {f = f} {a = a} {b = b} {t = t} x) h l w = let (i, j) = node-same f x h l (λ k. walk-same x k l) in made-same f a b t i j w
+    walk-same (Reads.chosen {n = m} e x) h l w = walk-same x (spoken-entry m _ e) l w
+    walk-same (Reads.first x) h l w = walk-same x h l w
+    walk-same (Reads.link {n = m} {f = f} {b = b} {c = c} {t = t} {u = u} x e y) h l w =
+        let (i, j) = node-same f y (spoken-entry m _ e) l (λ k. walk-same y k l) in
+        made-same f b c (Tree.more t u) i (more-same t u (walk-same x h (omega (arith, takes y))) j) w
+    walk-same (Reads.ended x e) h l w = walk-same x h l w
+    walk-same (Reads.alone x e) h l w = walk-same x h l w
+    walk-same (Reads.joined {n = m} {f = f} {b = b} {c = c} {t = t} {u = u} x e y) h l w =
+        let (i, j) = node-same f y (spoken-entry m _ e) l (λ k. walk-same y k l) in
+        made-same f b c (Tree.more t u) i (more-same t u (walk-same x h (omega (arith, takes y))) j) w
+
+  -- the rows of a script
+  pub written-same : {kind : ℕ → ℕ} {n : ℕ} {t : Tree Label} → Script kind n t → ((i : ℕ) → i < n → a-name (kind i) ≡ true → σ i ≡ τ i) → written ts σ t ≡ written ts τ t
+  unfolding written unparented spoken has-word
+  written-same x same = ap (λ r. parented (r .rows)) (walk-same same x tt (omega arith) blank)
