@@ -9,10 +9,10 @@ use mathlib.Core.List.{List}
 use mathlib.Core.Path.{_≡_, refl, ap, _∙_}
 use lib.Dec.{eqb}
 use lib.ListN.{length, getD}
+use Rattle.grammar.specs.Table.{Holds, word}
 use Rattle.grammar.specs.Token.{lexeme}
 use Rattle.grammar.proofs.Lexemes.{lexeme-none, lexeme-length, part-at}
 use Rattle.interner.specs.Index.{mix, mixed, bucket, newest, Index}
-use Rattle.interner.specs.Table.{Holds, word}
 
 -- a bucket is one of the `size` numbers from `size` on
 mixed-low : (bytes : List ℕ) → mixed bytes < 65536

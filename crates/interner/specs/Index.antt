@@ -7,7 +7,8 @@ use mathlib.Core.List.{List}
 use mathlib.Core.Path.{_≡_}
 use lib.Dec.{eqb}
 use lib.ListN.{length, getD, set}
-use Rattle.interner.specs.Table.{word}
+use Rattle.grammar.specs.Handle.{absent}
+use Rattle.grammar.specs.Table.{word}
 
 -- four bytes of a word and how long it is, as far as it fits, mixed to a number below 65536. Any function would do; the factors are odd and arbitrary
 abbrev pub mix : (a b c d n : ℕ) → ℕ
@@ -31,6 +32,12 @@ newest text size table b (suc n) = cond (eqb (bucket size (word text table n)) b
 pub record Index (text : List ℕ) (size count : ℕ) (table index : List ℕ) : Type 0 where
   pub heads : (b : ℕ) → size ≤ b → b < 2 * size → getD index b 0 ≡ newest text size table b count
   pub next : (k : ℕ) → k < count → getD index k 0 ≡ newest text size table (bucket size (word text table k)) k
+
+-- the index has row `count` and bucket b, and a u32 the number of rows with that one
+pub record Linkable (count b : ℕ) (index : List ℕ) : Type 0 where
+  pub row : count < length index
+  pub place : b < length index
+  pub number : count < absent
 
 -- row `count` is the newest of bucket b now, and the one that was is the next older
 abbrev pub linked : (count b : ℕ) (index : List ℕ) → List ℕ
