@@ -23,8 +23,9 @@ pub(crate) fn one(room: &mut [u32], i: usize, x: u32)
     room[i] = x;
 }
 
-// The first n numbers from a place of one room, put at a place of another.
-fn copy(to: &mut [u32], at: usize, from: &[u32], first: usize, n: usize)
+// The first n numbers from a place of one room, put at a place of another. It asks that they are there, and for room for them.
+// Ruled out: the numbers from one further on; a number before the place or behind them that changes.
+pub fn copy(to: &mut [u32], at: usize, from: &[u32], first: usize, n: usize)
     requires { ⌜ (at + n ≤ length (now to)) × (first + n ≤ length (now from)) ⌝ }
     ensures { λ _. ⌜ Written at (at + n) (take n (drop first (now (from .entry)))) (now (to .entry)) (now (to .exit)) ⌝ }
 {

@@ -1,14 +1,16 @@
 -- What the door answers, in terms of the grammar's Door.antt. Document 01, Refusal numbers, in order of checking.
-use Prim.Native.Nat.{ℕ, _/_, _≤_, _<_}
+use Prim.Native.Nat.{ℕ, _*_, _/_, _≤_, _<_}
 use mathlib.Core.Bool.{cond}
 use mathlib.Core.List.{List}
 use mathlib.Core.Path.{_≡_}
 use lib.Dec.{eqb}
 use lib.ListN.{length, getD}
+use Rattle.builtins.specs.Known.{Known}
 use Rattle.grammar.specs.Answer.{Answer, refuse}
+use Rattle.grammar.specs.Builtin.{Builtins, built, Right-names}
 use Rattle.grammar.specs.Call.{Call}
-use Rattle.grammar.specs.Door.{Right-list, Right-scratch, Sound, Closed, Lent, Admitted, First-without, Turned-away}
-use Rattle.grammar.specs.Room.{Rooms}
+use Rattle.grammar.specs.Door.{Right-list, Right-scratch, Right-symbols, Sound, Closed, Lent, Admitted, First-without, Turned-away}
+use Rattle.grammar.specs.Room.{Rooms, symbol-width}
 use Rattle.grammar.specs.Token.{count, start, end}
 use Rattle.door.specs.declared.Entry.{Entry}
 
@@ -37,6 +39,18 @@ pub data Lengths-checked (list text limit scratch : ℕ) : ℕ → Type 0 where
   wrong : {k : ℕ} → First-without (Asks-lengths list text limit scratch) 5 k → Lengths-checked list text limit scratch k
   right : ((k : ℕ) → k < 5 → Asks-lengths list text limit scratch k) → Lengths-checked list text limit scratch 0
 
+-- the code of these, of 18 and of the 4 after it, whichever is first, or 0 where there is nothing wrong
+pub data Admits-code (names : Builtins) (list text limit symbols scratch : ℕ) : ℕ → Type 0 where
+  lengths : {k : ℕ} → Lengths-checked list text limit scratch k → (k ≡ 0 → ⊥) → Admits-code names list text limit symbols scratch k
+  names : Lengths-checked list text limit scratch 0 → (Right-names names → ⊥) → Admits-code names list text limit symbols scratch 18
+  names-room : Lengths-checked list text limit scratch 0 → Right-names names → symbols < symbol-width * built names → Admits-code names list text limit symbols scratch 4
+  right : Lengths-checked list text limit scratch 0 → Right-names names → Right-symbols names symbols → Admits-code names list text limit symbols scratch 0
+
+-- and the names' index, where there is nothing wrong
+pub record Admits (names : Builtins) (list text limit symbols scratch : ℕ) (index : List ℕ) (r : ℕ) : Type 0 where
+  pub code : Admits-code names list text limit symbols scratch r
+  pub known : r ≡ 0 → Known names index
+
 -- checks 6 and 7: the first token that is not sound, or then the first that is not closed, or all that is asked of text and list
 pub data List-checked (text ts : List ℕ) : Entry → Type 0 where
   unsound : {i : ℕ} → First-without (Sound text ts) (count ts) i → List-checked text ts (Entry.Refused (record { code = 6; at = i; start = start ts i; end = end ts i }))
@@ -58,7 +72,12 @@ abbrev pub Told : Entry → Type 0
 Told Entry.Open = Unit {0}
 Told (Entry.Refused q) = 1 ≤ q .code
 
--- a call with this text, list and limit, and with a scratch room of this length, enters so
-pub record Entered (text ts : List ℕ) (limit scratch : ℕ) (r : Entry) : Type 0 where
+-- a call with these names, this text, list and limit, and with symbol and scratch rooms of these lengths, enters so
+pub record Entered (names : Builtins) (text ts : List ℕ) (limit symbols scratch : ℕ) (r : Entry) : Type 0 where
   pub told : Told r
-  pub says : (rooms : Rooms) → length (rooms .scratch) ≡ scratch → Enters (record { text = text; tokens = ts; limit = limit; rooms = rooms }) (entry-numbers r)
+  pub says : (rooms : Rooms) → length (rooms .symbols) ≡ symbols → length (rooms .scratch) ≡ scratch → Enters (record { names = names; text = text; tokens = ts; limit = limit; rooms = rooms }) (entry-numbers r)
+
+-- and the names have their index, where it is let in
+pub record Checked (names : Builtins) (text ts : List ℕ) (limit symbols scratch : ℕ) (index : List ℕ) (r : Entry) : Type 0 where
+  pub entered : Entered names text ts limit symbols scratch r
+  pub known : r ≡ Entry.Open → Known names index

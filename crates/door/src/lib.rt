@@ -1,6 +1,9 @@
-// The door: checks 1 to 7 of document 01, in order. Of the rooms it asks for scratch alone (document 02, L6): whether rows fit the others is met in reading.
+// The door: checks 1 to 7 of document 01, in order, and that of the built-in names (document 02, L10) among them. Of the rooms it asks for scratch, and for the
+// built-in rows in the symbol room: whether a script's rows fit is met in reading.
 pub mod wrong;
 
+use builtins::NAME_WIDTH;
+use builtins::right;
 use lexeme::fits;
 use spelling::words;
 use token::kinds;
@@ -10,11 +13,13 @@ use token::list::start_at;
 ghost use mathlib.Core.Path.{_≡_};
 ghost use Prim.Native.Nat.{_/_, _≤_, _<_};
 ghost use lib.ListN.{length, getD};
+ghost use Rattle.builtins.specs.Known.{blank-index};
+ghost use Rattle.grammar.specs.Builtin.{builtins as names-in};
 ghost use Rattle.grammar.specs.Door.{Whole, Ascii, Sound, Closed};
 ghost use Rattle.grammar.specs.Token.{count};
 ghost use Rattle.spelling.specs.Decides.{Decides};
 ghost use Rattle.spelling.specs.Words.{table};
-ghost use Rattle.door.specs.Entry.{Searched, Highest, Lengths-checked, List-checked, Entered};
+ghost use Rattle.door.specs.Entry.{Searched, Highest, Lengths-checked, Admits, List-checked, Checked};
 
 // Numbers a token in the list, and in scratch.
 const TOKEN_WIDTH: usize = 3;
@@ -70,6 +75,35 @@ pub fn lengths(list: usize, text: usize, limit: u32, scratch: usize) -> u32
     }
     if scratch / SCRATCH_WIDTH < tokens {
         return wrong::SCRATCH;
+    }
+    0
+}
+
+// The first of these, of 18 for the built-in names and of 4 for their rows that finds something wrong, or 0: then `index` is the names' own. It asks for an index that
+// is blank.
+// Ruled out: 18 where scratch is too small; 0 where the symbol room is a number short of the built-in rows.
+pub fn admit(
+    names: &[u8],
+    rows: &[u32],
+    index: &mut [u32],
+    list: usize,
+    text: usize,
+    limit: u32,
+    symbols: usize,
+    scratch: usize,
+) -> u32
+    requires { ⌜ now index ≡ blank-index ⌝ }
+    ensures { λ r. ⌜ Admits (names-in (now (names .entry)) (now (rows .entry))) list text limit symbols scratch (now (index .exit)) r ⌝ }
+{
+    let code = lengths(list, text, limit, scratch);
+    if code != 0 {
+        return code;
+    }
+    if !right(names, rows, index) {
+        return wrong::NAMES;
+    }
+    if symbols / NAME_WIDTH < rows.len() / NAME_WIDTH {
+        return wrong::NAMES_ROOM;
     }
     0
 }
@@ -195,12 +229,32 @@ fn listed(text: &[u8], tokens: &[u32]) -> Entry
     Entry::Open
 }
 
-// Lets a call in, or turns it away: of the rooms only scratch's length matters.
+// Lets a call in, or turns it away: of the rooms only the lengths of symbols and scratch matter. Where it is let in, `index` is the built-in names' own. It asks for an
+// index that is blank.
 // Ruled out: a code that is not the first; a place that is not the first.
-pub fn check(text: &[u8], tokens: &[u32], limit: u32, scratch: usize) -> Entry
-    ensures { λ r. ⌜ Entered (now (text .entry)) (now (tokens .entry)) limit scratch r ⌝ }
+pub fn check(
+    names: &[u8],
+    rows: &[u32],
+    index: &mut [u32],
+    text: &[u8],
+    tokens: &[u32],
+    limit: u32,
+    symbols: usize,
+    scratch: usize,
+) -> Entry
+    requires { ⌜ now index ≡ blank-index ⌝ }
+    ensures { λ r. ⌜ Checked (names-in (now (names .entry)) (now (rows .entry))) (now (text .entry)) (now (tokens .entry)) limit symbols scratch (now (index .exit)) r ⌝ }
 {
-    let code = lengths(tokens.len(), text.len(), limit, scratch);
+    let code = admit(
+        names,
+        rows,
+        index,
+        tokens.len(),
+        text.len(),
+        limit,
+        symbols,
+        scratch,
+    );
     if code != 0 {
         return Entry::Refused(Refusal {
             code: code,

@@ -1,4 +1,4 @@
-// What is wrong with a call that is turned away: document 01's codes, in order of checking.
+// What is wrong with a call that is turned away: the codes, in order of checking.
 pub const LIST: u32 = 1;
 
 pub const TEXT: u32 = 2;
@@ -6,6 +6,10 @@ pub const TEXT: u32 = 2;
 pub const LIMIT: u32 = 3;
 
 pub const SCRATCH: u32 = 4;
+
+pub const NAMES: u32 = 18;
+
+pub const NAMES_ROOM: u32 = 4;
 
 pub const BYTE: u32 = 5;
 

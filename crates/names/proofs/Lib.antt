@@ -1,4 +1,5 @@
 pub mod Fitting
+pub mod Looking
 pub mod Words
 pub mod Passing
 pub mod Readers

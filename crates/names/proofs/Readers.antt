@@ -7,6 +7,7 @@ use mathlib.Core.List.{List}
 use mathlib.Core.Path.{_≡_, sym, ap, _∙_, fun-ext}
 use lib.ListN.{length, getD, take, drop, List·getD-eq-default, length-take}
 use lib.Seq.{getD-take, getD-drop}
+use Rattle.grammar.specs.Builtin.{Builtins}
 use Rattle.grammar.specs.Door.{Whole}
 use Rattle.grammar.specs.Symbol.{symbol-in}
 use Rattle.grammar.specs.Token.{kind, count}
@@ -29,13 +30,13 @@ pub names-kept : (ts scratch after : List ℕ) → drop (2 * count ts) after ≡
 unfolding names-of
 names-kept ts scratch after e = ap (λ l. λ i. getD (take (count ts) l) i 0) e
 
-module _ {text ts symbols₀ scratch₀ symbols scratch : List ℕ} {known : ℕ} (w : Whole ts) (r : Resolved text ts symbols₀ scratch₀ symbols scratch known) where
-  no-symbol : (i : ℕ) → count ts ≤ i → symbol-in text ts (length symbols₀) i ≡ 0
+module _ {names : Builtins} {text ts symbols₀ scratch₀ symbols scratch : List ℕ} {known : ℕ} (w : Whole ts) (r : Resolved names text ts symbols₀ scratch₀ symbols scratch known) where
+  no-symbol : (i : ℕ) → count ts ≤ i → symbol-in names text ts (length symbols₀) i ≡ 0
   no-symbol i h =
       let k : kind ts i ≡ 0 = List·getD-eq-default ts 0 (omega (arith, w .rows)) in
-      wordless-in text ts i (length symbols₀) (is-no-word ts i (λ e. omega arith) (λ e. omega arith))
+      wordless-in names text ts i (length symbols₀) (is-no-word ts i (λ e. omega arith) (λ e. omega arith))
 
-  pub names-are : names-of ts scratch ≡ symbol-in text ts (length symbols₀)
+  pub names-are : names-of ts scratch ≡ symbol-in names text ts (length symbols₀)
   names-are = fun-ext (λ i. elim (decLt i (count ts)) [
     | yes h ↦ sym (name-at ts scratch i h) ∙ r .numbers i h
     | no h ↦ no-name ts scratch i (omega arith) ∙ sym (no-symbol i (omega arith))

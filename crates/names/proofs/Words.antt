@@ -1,4 +1,4 @@
--- One token more: its word is interned, or it has none.
+-- One token more: its word is looked up, or it has none.
 use Prim.Native.Nat.{ℕ, suc, _+_, _-_, _*_, _≤_}
 use native.Mathlib.Decide.{ℕ-discrete}
 use native.Mathlib.Omega.{arith}
@@ -6,25 +6,17 @@ use borrow.Author.Tests.{ne-eqb}
 use mathlib.Core.Bool.{true, false}
 use mathlib.Core.List.{List}
 use mathlib.Core.Path.{_≡_, refl, sym, ap, _∙_}
-use lib.ListN.{length, length-append, length-take}
-use lib.Seq.{length-take-le}
-use Rattle.grammar.specs.Door.{Sound}
+use lib.ListN.{length}
+use Rattle.grammar.specs.Builtin.{Builtins}
 use Rattle.grammar.specs.Kind.{StringLiteral, Identifier}
-use Rattle.grammar.specs.Lexeme.{string}
-use Rattle.grammar.specs.Pattern.{Matches}
 use Rattle.grammar.specs.Symbol.{interned, is-name, quote, word-start, word-end, symbol-rows, symbol}
-use Rattle.grammar.specs.Token.{kind, start, end, lexeme, count}
-use Rattle.grammar.proofs.Lexemes.{lexeme-length}
+use Rattle.grammar.specs.Token.{kind, count}
+use Rattle.grammar.proofs.Quotes.{word-part}
 use Rattle.grammar.proofs.Symbols.{In-room, in-room, rows-same, rows-few}
-use Rattle.interner.specs.Interns.{used, Enters, Ready}
 use Rattle.interner.specs.declared.Interned.{Interned}
-use Rattle.interner.proofs.Outcomes.{symbol-is, rows-are, no-symbol, size-kept, beyond}
-use Rattle.names.specs.Resolved.{Entered, Before, Named}
+use Rattle.names.specs.Resolved.{rows-of, room-of, Free, Looked-up, Before, Named}
 use Rattle.names.proofs.Fitting.{wordless-in}
-
--- a string has two quotes at least
-quotes : {xs : List ℕ} → Matches string xs → 2 ≤ length xs
-quotes (Matches.sequence {xs = a} (Matches.byte p) (Matches.sequence {xs = b} {ys = c} m (Matches.byte q) e) f) = simp (f, e, length-append) (omega arith)
+use Rattle.names.proofs.Looking.{rows-length}
 
 -- the two kinds that have a word are neighbours, and a quote is what is left of the one up to the other
 module _ (ts : List ℕ) (n : ℕ) (lo : StringLiteral ≤ kind ts n) (hi : kind ts n ≤ Identifier) where
@@ -38,82 +30,54 @@ module _ (ts : List ℕ) (n : ℕ) (lo : StringLiteral ≤ kind ts n) (hi : kind
 pub is-no-word : (ts : List ℕ) (n : ℕ) → (kind ts n ≡ Identifier → ⊥) → (kind ts n ≡ StringLiteral → ⊥) → is-name ts n ≡ false
 is-no-word ts n h k = rw (ne-eqb (kind ts n) Identifier h, ne-eqb (kind ts n) StringLiteral k)
 
--- the rows of the words so far stand in the room
-pub rows-stand : {text ts l : List ℕ} {n known : ℕ} → Entered text ts n known l → 2 * known ≤ length l
-rows-stand {l = l} {known = known} e = omega (arith, ap length (e .rows), length-take (2 * known) l, e .size)
-
--- a word is inside its token
-pub quoted : {text ts : List ℕ} {n : ℕ} → Sound text ts n → start ts n + 2 * quote ts n ≤ end ts n
-quoted {text} {ts} {n} s = elim (ℕ-discrete (kind ts n) StringLiteral) [
-  | yes k ↦
-      let m : Matches string (lexeme text (start ts n) (end ts n)) = rw k at (s .fits .lexeme (rw k (omega arith))) in
-      rw k (omega (arith, quotes m, lexeme-length text (start ts n) (end ts n) (s .forward) (s .inside)))
-  | no k ↦ rw (ne-eqb (kind ts n) StringLiteral k) (omega (arith, s .forward))
-]
-
-module _ {text ts l ps : List ℕ} {size n known : ℕ} (b : Before text ts size n known l ps) where
-  -- what `get_or_intern` asks
-  pub free-word : Ready text (word-start ts n) (word-end ts n) size known l ps
+module _ {names : Builtins} {index text ts own scratch : List ℕ} {built-count size n known : ℕ} (b : Before names built-count index text ts size n known own scratch) where
+  -- what is asked of a word's place
+  pub free-word : Free names built-count index text (word-start ts n) (word-end ts n) size known own scratch
   free-word =
-      let f = rows-few text ts n in
-      let i = b .inside in
-      let e = b .entered .size in
-      let q = quoted (b .sound) in
-      let s = b .size-is in
+      let few = rows-few names text ts n in
+      let long = rows-length names known own (b .indexed .stands) in
+      let rows = ap length (b .rows) in
       record {
-        part = record { ordered = omega (arith, q); inside = omega (arith, b .sound .inside) };
-        indexed = record {
-          stands = rows-stand (b .entered);
-          table = rw (b .entered .rows) (b .entered .table);
-          index-is = rw (b .entered .rows) (b .index);
-          index-room = omega (arith, b .scratch-room);
-          few = omega arith;
+        built-is = b .built-is;
+        built-in = b .built-in;
+        ready = record {
+          part = word-part (b .sound);
+          indexed = b .indexed;
+          free = omega (arith, b .inside, b .size-is);
+          number = omega (arith, b .few, b .size-is, b .built-is, b .built-in .indexed .few);
         };
-        free = omega arith;
-        number = omega (arith, b .few);
       }
 
-  -- a word is interned: it has its symbol, and where its row fits that row
-  module _ {m qs : List ℕ} {r : Interned} (t : is-name ts n ≡ true) (i : Enters text (word-start ts n) (word-end ts n) size known l m ps qs r) where
-    one-more : symbol-rows text ts (suc n) ≡ interned text (word-start ts n) (word-end ts n) (used known l)
+  -- a word is looked up: the token has its symbol, and where its row fits that row
+  module _ {own₁ scratch₁ : List ℕ} {r : Interned} (t : is-name ts n ≡ true) (l : Looked-up names text (word-start ts n) (word-end ts n) size known own own₁ scratch scratch₁ r) where
+    one-more : symbol-rows names text ts (suc n) ≡ interned names text (word-start ts n) (word-end ts n) (rows-of names known own)
     unfolding symbol-rows
-    one-more = rw (t, b .entered .rows)
+    one-more = rw (t, b .rows)
 
-    number : {x : ℕ} → In-room text ts (length l) n x → r .symbol ≡ x
+    number : {x : ℕ} → In-room names text ts (room-of names own) n x → r .symbol ≡ x
     unfolding symbol
-    number (In-room.there h) = rw (t, ← b .entered .rows) (symbol-is free-word (rw one-more at (h t)) (i .outcome))
-    number (In-room.missing e h) = no-symbol free-word (rw one-more at h) (i .outcome)
+    number (In-room.there h) = rw (t, ← b .rows) (l .number (rw one-more at (h t)))
+    number (In-room.missing e h) = l .missing (rw one-more at h)
 
-    module _ (fit : length (symbol-rows text ts (suc n)) ≤ length l) where
-      rows : used (r .count) m ≡ symbol-rows text ts (suc n)
-      rows = rw one-more (rows-are free-word (rw one-more at fit) (i .outcome))
-
-      enters : Entered text ts (suc n) (r .count) m
-      enters = record { rows = rows; size = sym (length-take-le (2 * r .count) m (i .indexed .stands)) ∙ ap length rows; table = rw (← rows) (i .indexed .table) }
-
-    pub word-interns : Named text ts size n l m ps qs r
-    word-interns =
-        let f = free-word in
+    pub word-named : Named names text ts size n own own₁ scratch scratch₁ r
+    word-named =
         let s = b .size-is in
-        let (long, wide) = size-kept f (i .outcome) in
         record {
-          number = number (in-room text ts (length l) n);
-          entered = enters;
-          index = λ fit. rw (← rows fit) (i .indexed .index-is);
-          numbers = λ j. beyond f (i .outcome) (2 * count ts + j) (omega arith);
-          symbol-size = long;
-          scratch-size = wide;
+          number = number (in-room names text ts (room-of names own) n);
+          rows = λ fit. l .rows (rw one-more at fit) ∙ sym one-more;
+          indexed = l .indexed;
+          numbers = λ j. l .beyond (2 * count ts + j) (omega arith);
+          own-size = l .own-size;
+          scratch-size = l .scratch-size;
         }
 
   -- or there is none
-  pub no-word : is-name ts n ≡ false → Named text ts size n l l ps ps (record { symbol = 0; count = known })
-  no-word h =
-      let e = rows-same text ts n h in
-      record {
-        number = sym (wordless-in text ts n (length l) h);
-        entered = λ fit. record { rows = rw e (b .entered .rows); size = rw e (b .entered .size); table = rw e (b .entered .table) };
-        index = λ fit. rw e (b .index);
-        numbers = λ j. refl;
-        symbol-size = refl;
-        scratch-size = refl;
-      }
+  pub no-word : is-name ts n ≡ false → Named names text ts size n own own scratch scratch (record { symbol = 0; count = known })
+  no-word h = record {
+    number = sym (wordless-in names text ts n (room-of names own) h);
+    rows = λ fit. b .rows ∙ sym (rows-same names text ts n h);
+    indexed = b .indexed;
+    numbers = λ j. refl;
+    own-size = refl;
+    scratch-size = refl;
+  }

@@ -5,6 +5,7 @@ use mathlib.Core.List.{List}
 use mathlib.Core.Path.{_≡_}
 use lib.ListN.{take}
 use Rattle.grammar.specs.Answer.{Answer, refuse, Answers}
+use Rattle.grammar.specs.Builtin.{Builtins}
 use Rattle.grammar.specs.Room.{Rooms}
 use Rattle.lexer.specs.Lexes.{Lexes}
 use Rattle.lexer.specs.declared.Lexed.{Lexed}
@@ -19,9 +20,9 @@ lexed-numbers l = refuse (l .code) (l .at) (l .start) (l .end) (l .expected)
 abbrev pub made-list : Lexed → List ℕ → List ℕ
 made-list l room = take (3 * l .count) room
 
-pub data Answers-text (text : List ℕ) (limit : ℕ) (list : List ℕ) (before : Rooms) : Answer → List ℕ → Rooms → Type 0 where
-  unmade : {l : Lexed} {room : List ℕ} → Lexes text list l room → (l .code ≡ 0 → ⊥) → Answers-text text limit list before (lexed-numbers l) room before
-  made : {l : Lexed} {room : List ℕ} {a : Answer} {after : Rooms} → Lexes text list l room → l .code ≡ 0 → Answers (call text (made-list l room) limit before) a after → Answers-text text limit list before a room after
+pub data Answers-text (names : Builtins) (text : List ℕ) (limit : ℕ) (list : List ℕ) (before : Rooms) : Answer → List ℕ → Rooms → Type 0 where
+  unmade : {l : Lexed} {room : List ℕ} → Lexes text list l room → (l .code ≡ 0 → ⊥) → Answers-text names text limit list before (lexed-numbers l) room before
+  made : {l : Lexed} {room : List ℕ} {a : Answer} {after : Rooms} → Lexes text list l room → l .code ≡ 0 → Answers (call names text (made-list l room) limit before) a after → Answers-text names text limit list before a room after
 
-pub record Read (text : List ℕ) (limit : ℕ) (list room : List ℕ) (before after : Rooms) (r : Numbers) : Type 0 where
-  pub answers : Answers-text text limit list before (numbers r) room after
+pub record Read (names : Builtins) (text : List ℕ) (limit : ℕ) (list room : List ℕ) (before after : Rooms) (r : Numbers) : Type 0 where
+  pub answers : Answers-text names text limit list before (numbers r) room after

@@ -3,11 +3,45 @@ use lexer::lex;
 use syntax::Numbers;
 use syntax::parse_checked;
 use syntax::refused;
+ghost use Rattle.grammar.specs.Builtin.{builtins as names-in, none};
 ghost use Rattle.reader.specs.Answered.{Read};
 ghost use Rattle.syntax.specs.Parsed.{rooms};
 
-// Reads a script's text. `list` takes its tokens, three numbers each, and then zeros. Refusals 2, 5, 16 and 1 of the token maker come first and leave the four
-// rooms as they are; then `parse` answers, whose refusals 6 and 7 are never met.
+// Reads a script's text beside built-in names (`parse_with`). `list` takes its tokens, three numbers each, and then zeros. Refusals 2, 5, 16 and 1 of the token maker
+// come first and leave the four rooms as they are; then `parse_with` answers, whose refusals 6 and 7 are never met.
+// Ruled out: an answer of other tokens than those that the text reads as; a room that changes where no list is made.
+pub fn read_with(
+    names: &[u8],
+    rows: &[u32],
+    text: &[u8],
+    list: &mut [u32],
+    limit: u32,
+    nodes: &mut [u32],
+    links: &mut [u32],
+    symbols: &mut [u32],
+    scratch: &mut [u32],
+) -> Numbers
+    ensures { λ r. ⌜ Read (names-in (now (names .entry)) (now (rows .entry))) (now (text .entry)) limit (now (list .entry)) (now (list .exit)) (rooms (now (nodes .entry)) (now (links .entry)) (now (symbols .entry)) (now (scratch .entry))) (rooms (now (nodes .exit)) (now (links .exit)) (now (symbols .exit)) (now (scratch .exit))) r ⌝ }
+{
+    let made = lex(text, list);
+    if made.code != 0 {
+        return refused(made.code, made.at, made.start, made.end, made.expected);
+    }
+    let used = 3 * (made.count as usize);
+    parse_checked(
+        names,
+        rows,
+        text,
+        &list[..used],
+        limit,
+        nodes,
+        links,
+        symbols,
+        scratch,
+    )
+}
+
+// Reads a script's text beside no built-in names.
 // Ruled out: an answer of other tokens than those that the text reads as; a room that changes where no list is made.
 pub fn read(
     text: &[u8],
@@ -18,12 +52,19 @@ pub fn read(
     symbols: &mut [u32],
     scratch: &mut [u32],
 ) -> Numbers
-    ensures { λ r. ⌜ Read (now (text .entry)) limit (now (list .entry)) (now (list .exit)) (rooms (now (nodes .entry)) (now (links .entry)) (now (symbols .entry)) (now (scratch .entry))) (rooms (now (nodes .exit)) (now (links .exit)) (now (symbols .exit)) (now (scratch .exit))) r ⌝ }
+    ensures { λ r. ⌜ Read none (now (text .entry)) limit (now (list .entry)) (now (list .exit)) (rooms (now (nodes .entry)) (now (links .entry)) (now (symbols .entry)) (now (scratch .entry))) (rooms (now (nodes .exit)) (now (links .exit)) (now (symbols .exit)) (now (scratch .exit))) r ⌝ }
 {
-    let made = lex(text, list);
-    if made.code != 0 {
-        return refused(made.code, made.at, made.start, made.end, made.expected);
-    }
-    let used = 3 * (made.count as usize);
-    parse_checked(text, &list[..used], limit, nodes, links, symbols, scratch)
+    let names: [u8; 0] = [0; 0];
+    let rows: [u32; 0] = [0; 0];
+    read_with(
+        &names,
+        &rows,
+        text,
+        list,
+        limit,
+        nodes,
+        links,
+        symbols,
+        scratch,
+    )
 }

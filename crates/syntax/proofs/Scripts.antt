@@ -16,7 +16,9 @@ use Rattle.door.specs.Entry.{entry-numbers, Entered}
 use Rattle.door.specs.declared.Entry.{Entry}
 use Rattle.door.specs.declared.Refusal.{Refusal as Turned}
 use Rattle.door.proofs.Codes.{opened, shut}
+use Rattle.builtins.specs.Known.{Known}
 use Rattle.grammar.specs.Answer.{success, rooms-cleared, rooms-filled, Answers}
+use Rattle.grammar.specs.Builtin.{Builtins}
 use Rattle.grammar.specs.Door.{Lent}
 use Rattle.grammar.specs.Handle.{absent}
 use Rattle.grammar.specs.Kaori.{script, script-items, Script}
@@ -42,7 +44,7 @@ use Rattle.grammar.proofs.Room.{links-length}
 use Rattle.grammar.proofs.Symbols.{rows-few, symbol-in-all}
 use Rattle.grammar.proofs.Trees.{one-tree}
 use Rattle.grammar.proofs.Worded.{words-fit}
-use Rattle.names.specs.Resolved.{Open, Resolved, names-of}
+use Rattle.names.specs.Resolved.{Fitting, Resolved, names-of}
 use Rattle.names.proofs.Readers.{names-are}
 use Rattle.parents.specs.Adopted.{first, Adoptable, Adopted}
 use Rattle.reading.specs.Answers.{Listed, List-case, Lists}
@@ -139,16 +141,19 @@ cleared-alike a = rw (a .nodes, a .links, a .symbols, a .scratch)
 filled-alike : {r s : Rooms} (w : Rows) (ss : List ℕ) → Alike r s → rooms-filled w ss s ≡ rooms-filled w ss r
 filled-alike w ss a = rw (a .nodes, a .links, a .symbols, a .scratch)
 
-module _ {text ts : List ℕ} {limit : ℕ} {before : Rooms} (d : Let-in text ts limit before) where
+module _ {names : Builtins} {index text ts : List ℕ} {limit : ℕ} {before : Rooms} (d : Let-in names index text ts limit before) where
   pub lent : Lent text ts
   lent = admitted-lent (d .admitted)
 
   -- what is asked where the symbols are found
-  pub names-open : Open text ts (before .scratch)
-  names-open = record { whole = lent .whole; sound = lent .sound; scratch-room = omega (arith, d .admitted .roomy) }
+  pub names-open : Fitting names index text ts (before .symbols) (before .scratch)
+  names-open = record {
+    opened = record { built-in = d .known; whole = lent .whole; sound = lent .sound; scratch-room = omega (arith, d .admitted .roomy) };
+    names-fit = d .admitted .names-fit;
+  }
 
   -- once they are found
-  module _ {symbols scratch : List ℕ} {known : ℕ} (v : Resolved text ts (before .symbols) (before .scratch) symbols scratch known) where
+  module _ {symbols scratch : List ℕ} {known : ℕ} (v : Resolved names text ts (before .symbols) (before .scratch) symbols scratch known) where
     -- the state that is read from
     abbrev pub from : State
     from = state (before .nodes) (before .links) scratch start
@@ -173,18 +178,18 @@ module _ {text ts : List ℕ} {limit : ℕ} {before : Rooms} (d : Let-in text ts
         }
 
     -- the symbols that are read with are those of the lent room
-    symbols-are : names-of ts scratch ≡ symbol-in text ts (length (before .symbols))
+    symbols-are : names-of ts scratch ≡ symbol-in names text ts (length (before .symbols))
     symbols-are = names-are (lent .whole) v
 
     -- a refusal of the script is at a token
     module _ {q : Refusal} (x : Refusing ts limit script 0 from (refusal q)) where
-      stops : Stopped (call text ts limit before) (refusal q)
+      stops : Stopped (call names text ts limit before) (refusal q)
       stops = rw symbols-are at (x .refuses)
 
       pub refused-at : q .at < count ts
       refused-at = omega (arith, refused-place (d .admitted) stops .place, lent .whole .some)
 
-      pub refused-answer : {middle after : Rooms} {r : Numbers} → Alike before middle → Cut ts q middle after r → Parsed text ts limit before after r
+      pub refused-answer : {middle after : Rooms} {r : Numbers} → Alike before middle → Cut ts q middle after r → Parsed names text ts limit before after r
       refused-answer a c = record { answers = rw (c .numbers-are, c .rooms-are, cleared-alike a) (Answers.refused (d .admitted) (Comes.stop stops)) }
 
     -- the statements up to Eof are a script
@@ -211,21 +216,21 @@ module _ {text ts : List ℕ} {limit : ℕ} {before : Rooms} (d : Let-in text ts
       reads-all = subst (λ n. Script (kind ts) n tree) ends-last reads-script
 
       -- all of it passes: its depth, its words and its rows
-      named : Named (symbol-in text ts (length (before .symbols))) tree
+      named : Named (symbol-in names text ts (length (before .symbols))) tree
       unfolding Named has-word tree
       named = (rw symbols-are at (l .reading .named), λ e z. plain refl e)
 
-      symbols-fit : length (symbol-rows text ts (count ts)) ≤ length (before .symbols)
-      symbols-fit = words-fit text ts (length (before .symbols)) reads-all named
+      symbols-fit : length (symbol-rows names text ts (count ts)) ≤ length (before .symbols)
+      symbols-fit = words-fit names text ts (length (before .symbols)) (d .admitted .names-fit) reads-all named
 
       tree-fits : depth tree ≤ limit
       unfolding depth tree
       tree-fits = omega (arith, l .reading .fits)
 
-      script-rows : unparented ts (symbol text ts) tree ≡ with-root c (rooms ns ls symbols ss)
-      script-rows = ap (λ σ. unparented ts σ tree) (sym (symbol-in-all text ts (lent .whole) symbols-fit) ∙ sym symbols-are) ∙ read-rows
+      script-rows : unparented ts (symbol names text ts) tree ≡ with-root c (rooms ns ls symbols ss)
+      script-rows = ap (λ σ. unparented ts σ tree) (sym (symbol-in-all names text ts (lent .whole) symbols-fit) ∙ sym symbols-are) ∙ read-rows
 
-      enough : Enough (space-of before) (written ts (symbol text ts) tree)
+      enough : Enough (space-of before) (written ts (symbol names text ts) tree)
       unfolding unparented
       enough =
           let all = with-root c (rooms ns ls symbols ss) in
@@ -236,30 +241,31 @@ module _ {text ts : List ℕ} {limit : ℕ} {before : Rooms} (d : Let-in text ts
             nodes = omega (arith, n, padded-length (20 ∷ 0 ∷ 0 ∷ c .links ∷ c .held ∷ absent ∷ []), length-take (node-width * c .nodes) ns, h .rows, m .nodes);
             links = omega (arith, k, length-take (3 * c .links) ls, length-take (3 * c .held) ss, h .lists, m .links);
           } in
-          enough-written ts (symbol text ts) (symbol text ts) tree (enough-as script-rows fit)
+          enough-written ts (symbol names text ts) (symbol names text ts) tree (enough-as script-rows fit)
 
       pub fitting : Root-fits c known (rooms ns ls symbols ss)
       fitting =
           let w = l .within in
-          let few = rows-few text ts (count ts) in
-          let k = v .entered symbols-fit .size in
+          let few = rows-few names text ts (count ts) in
+          let k = ap length (v .rows symbols-fit) in
+          let m = length-take-le (2 * known) symbols (v .stands) in
           record {
             nodes = h .rows;
             links = h .lists;
-            symbols = omega (arith, v .symbol-size, symbols-fit, k);
+            symbols = v .stands;
             scratch = omega (arith, w .links, w .at, w .roomy .scratch);
-            few = omega (arith, w .rows, w .links, w .at, lent .whole .most);
-            tree = rw (← script-rows) (one-tree ts (symbol text ts) reads-script (omega (arith, w .at, lent .whole .most)));
+            few = omega (arith, w .rows, w .links, w .at, lent .whole .most, d .admitted .named .few);
+            tree = rw (← script-rows) (one-tree ts (symbol names text ts) reads-script (omega (arith, w .at, lent .whole .most)));
           }
 
-      pub accepted-answer : {after : Rooms} {r : Numbers} → Rooted c known (rooms ns ls symbols ss) after r → Parsed text ts limit before after r
+      pub accepted-answer : {after : Rooms} {r : Numbers} → Rooted c known (rooms ns ls symbols ss) after r → Parsed names text ts limit before after r
       unfolding written
       accepted-answer {after} {r} a =
           let m = l .reading .rooms in
-          let w = written ts (symbol text ts) tree in
-          let found = symbol-rows text ts (count ts) in
+          let w = written ts (symbol names text ts) tree in
+          let found = symbol-rows names text ts (count ts) in
           let alike : Alike before (rooms ns ls symbols ss) = record { nodes = m .nodes; links = m .links; symbols = v .symbol-size; scratch = m .scratch ∙ v .scratch-size } in
-          let e = v .entered symbols-fit .rows in
+          let e = v .rows symbols-fit in
           let n : numbers r ≡ success w found = a .numbers-are ∙ rw (script-rows, e) in
           let o : after ≡ rooms-filled w found before = a .rooms-are ∙ rw (script-rows, e) (filled-alike (parented (with-root c (rooms ns ls symbols ss))) found alike) in
           record { answers = rw (n, o) (Answers.accepted (d .admitted) (Comes.read reads-all tree-fits enough symbols-fit)) }
@@ -310,10 +316,10 @@ module _ {ts : List ℕ} {limit : ℕ} {s : State} {ns ls ss : List ℕ} {r : Re
   room-told e = (rw e at a) .says .1
 
 -- what the door's answer says, by its case
-module _ {text ts : List ℕ} {limit : ℕ} {before : Rooms} {e : Entry}
-    (a : Entered text ts limit (length (before .scratch)) e) where
-  pub let-in : e ≡ Entry.Open → Let-in text ts limit before
-  let-in h = record { admitted = opened ((rw h at a) .says before refl) refl }
+module _ {names : Builtins} {text ts : List ℕ} {limit : ℕ} {before : Rooms} {e : Entry}
+    (a : Entered names text ts limit (length (before .symbols)) (length (before .scratch)) e) where
+  pub let-in : {index : List ℕ} → Known names index → e ≡ Entry.Open → Let-in names index text ts limit before
+  let-in k h = record { admitted = opened ((rw h at a) .says before refl refl) refl; known = k }
 
-  pub turned : {q : Turned} {r : Numbers} → e ≡ Entry.Refused q → numbers r ≡ entry-numbers (Entry.Refused q) → Parsed text ts limit before before r
-  turned h n = let b = rw h at a in record { answers = rw n (shut (b .says before refl) (b .told)) }
+  pub turned : {q : Turned} {r : Numbers} → e ≡ Entry.Refused q → numbers r ≡ entry-numbers (Entry.Refused q) → Parsed names text ts limit before before r
+  turned h n = let b = rw h at a in record { answers = rw n (shut (b .says before refl refl) (b .told)) }

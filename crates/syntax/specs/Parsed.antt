@@ -4,7 +4,9 @@ use Prim.Native.Nat.{ℕ, _+_, _*_, _≤_, _<_}
 use mathlib.Core.List.{List, [], _∷_, _++_}
 use mathlib.Core.Path.{_≡_}
 use lib.ListN.{length, take}
+use Rattle.builtins.specs.Known.{Known}
 use Rattle.grammar.specs.Answer.{Answer, success, refuse, rooms-cleared, rooms-filled, Answers}
+use Rattle.grammar.specs.Builtin.{Builtins}
 use Rattle.grammar.specs.Call.{Call}
 use Rattle.grammar.specs.Door.{Admitted}
 use Rattle.grammar.specs.Handle.{absent}
@@ -32,16 +34,17 @@ numbers r = record { code = r .code; nodes = r .nodes; links = r .links; symbols
 abbrev pub rooms : (nodes links symbols scratch : List ℕ) → Rooms
 rooms ns ls ys ss = record { nodes = ns; links = ls; symbols = ys; scratch = ss }
 
-abbrev pub call : (text ts : List ℕ) (limit : ℕ) → Rooms → Call
-call text ts limit r = record { text = text; tokens = ts; limit = limit; rooms = r }
+abbrev pub call : (names : Builtins) (text ts : List ℕ) (limit : ℕ) → Rooms → Call
+call names text ts limit r = record { names = names; text = text; tokens = ts; limit = limit; rooms = r }
 
--- the call with these rooms is answered so, and leaves the rooms so
-pub record Parsed (text ts : List ℕ) (limit : ℕ) (before after : Rooms) (r : Numbers) : Type 0 where
-  pub answers : Answers (call text ts limit before) (numbers r) after
+-- the call with these names and rooms is answered so, and leaves the rooms so
+pub record Parsed (names : Builtins) (text ts : List ℕ) (limit : ℕ) (before after : Rooms) (r : Numbers) : Type 0 where
+  pub answers : Answers (call names text ts limit before) (numbers r) after
 
--- the call is let in
-pub record Let-in (text ts : List ℕ) (limit : ℕ) (before : Rooms) : Type 0 where
-  pub admitted : Admitted (call text ts limit before)
+-- the call is let in, and its names have their index
+pub record Let-in (names : Builtins) (index text ts : List ℕ) (limit : ℕ) (before : Rooms) : Type 0 where
+  pub admitted : Admitted (call names text ts limit before)
+  pub known : Known names index
 
 -- the numbers of a refusal in reading
 abbrev pub refused-numbers : (ts : List ℕ) → Refusal → Answer

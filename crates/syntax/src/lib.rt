@@ -1,5 +1,5 @@
 // The public entry: a port of `parse` of parser.rs. The door, then the symbols of all names, the statements up to Eof, the root's row, the
-// parents, and zeros.
+// parents, and zeros. `parse` is `parse_with` beside no built-in names.
 use ast::ABSENT;
 use ast::LINK_WIDTH;
 use ast::NODE_WIDTH;
@@ -7,9 +7,10 @@ use ast::Node;
 use ast::room::clear;
 use ast::room::link;
 use ast::room::push;
+use builtins::INDEX;
 use door::Entry;
+use door::admit;
 use door::check;
-use door::lengths;
 use names::resolve;
 use parents::adopt;
 use parser::readers::statement;
@@ -25,6 +26,7 @@ use token::list::start_at;
 ghost use mathlib.Core.Path.{_≡_};
 ghost use Prim.Native.Nat.{_≤_, _<_};
 ghost use Rattle.grammar.specs.Answer.{refuse};
+ghost use Rattle.grammar.specs.Builtin.{builtins as names-in, none};
 ghost use Rattle.grammar.specs.Door.{Lent};
 ghost use Rattle.grammar.specs.Kaori as form;
 ghost use Rattle.grammar.specs.Phrase.{empty, chain, whole};
@@ -192,6 +194,9 @@ fn cut(
 
 // The answer of a call that is let in.
 fn script(
+    names: &[u8],
+    rows: &[u32],
+    index: &[u32],
     text: &[u8],
     tokens: &[u32],
     limit: u32,
@@ -200,10 +205,10 @@ fn script(
     symbols: &mut [u32],
     scratch: &mut [u32],
 ) -> Numbers
-    requires { ⌜ Let-in (now text) (now tokens) limit (rooms (now nodes) (now links) (now symbols) (now scratch)) ⌝ }
-    ensures { λ r. ⌜ Parsed (now (text .entry)) (now (tokens .entry)) limit (rooms (now (nodes .entry)) (now (links .entry)) (now (symbols .entry)) (now (scratch .entry))) (rooms (now (nodes .exit)) (now (links .exit)) (now (symbols .exit)) (now (scratch .exit))) r ⌝ }
+    requires { ⌜ Let-in (names-in (now names) (now rows)) (now index) (now text) (now tokens) limit (rooms (now nodes) (now links) (now symbols) (now scratch)) ⌝ }
+    ensures { λ r. ⌜ Parsed (names-in (now (names .entry)) (now (rows .entry))) (now (text .entry)) (now (tokens .entry)) limit (rooms (now (nodes .entry)) (now (links .entry)) (now (symbols .entry)) (now (scratch .entry))) (rooms (now (nodes .exit)) (now (links .exit)) (now (symbols .exit)) (now (scratch .exit))) r ⌝ }
 {
-    let known = resolve(text, tokens, symbols, scratch);
+    let known = resolve(names, rows, index, text, tokens, symbols, scratch);
     let start = Cursor {
         held: 0,
         at: 0,
@@ -217,9 +222,11 @@ fn script(
     }
 }
 
-// Reads a script as `parse` does, but looks at lengths and the limit alone. It asks that text and list have what checks 1 and 5 to 7 ask: the crates above know that
-// of a list that they made. Ruled out: 4 where the limit is 0; a reading whose rows do not fit.
+// Reads a script as `parse_with` does, but looks at lengths, the limit and the built-in names alone. It asks that text and list have what checks 1 and 5 to 7 ask: the
+// crates above know that of a list that they made. Ruled out: 4 where the limit is 0; a reading whose rows do not fit.
 pub fn parse_checked(
+    names: &[u8],
+    rows: &[u32],
     text: &[u8],
     tokens: &[u32],
     limit: u32,
@@ -229,17 +236,82 @@ pub fn parse_checked(
     scratch: &mut [u32],
 ) -> Numbers
     requires { ⌜ Lent (now text) (now tokens) ⌝ }
-    ensures { λ r. ⌜ Parsed (now (text .entry)) (now (tokens .entry)) limit (rooms (now (nodes .entry)) (now (links .entry)) (now (symbols .entry)) (now (scratch .entry))) (rooms (now (nodes .exit)) (now (links .exit)) (now (symbols .exit)) (now (scratch .exit))) r ⌝ }
+    ensures { λ r. ⌜ Parsed (names-in (now (names .entry)) (now (rows .entry))) (now (text .entry)) (now (tokens .entry)) limit (rooms (now (nodes .entry)) (now (links .entry)) (now (symbols .entry)) (now (scratch .entry))) (rooms (now (nodes .exit)) (now (links .exit)) (now (symbols .exit)) (now (scratch .exit))) r ⌝ }
 {
-    let code = lengths(tokens.len(), text.len(), limit, scratch.len());
+    let mut index: [u32; INDEX] = [0; INDEX];
+    let code = admit(
+        names,
+        rows,
+        &mut index,
+        tokens.len(),
+        text.len(),
+        limit,
+        symbols.len(),
+        scratch.len(),
+    );
     if code != 0 {
-        return refused(code, 0, 0, 0, 255);
+        return refused(code, 0, 0, 0, codes::NO_KIND);
     }
-    script(text, tokens, limit, nodes, links, symbols, scratch)
+    script(
+        names,
+        rows,
+        &index,
+        text,
+        tokens,
+        limit,
+        nodes,
+        links,
+        symbols,
+        scratch,
+    )
 }
 
-// Reads a script. What the door refuses, by 1 to 7, leaves the rooms as they are; a refusal in reading, by 4 or 8 to 11, leaves zeros throughout; success leaves the
-// script's rows and then zeros, and zeros throughout in `scratch`. Any text, list, limit and rooms have an answer.
+// Reads a script beside built-in names: `names` is their text, and `rows` has two numbers for each, where it starts and ends there. They are symbols 0 onward. What the
+// door refuses, by 1 to 7 or by 18 for names that are not right, leaves the rooms as they are; a refusal in reading, by 4 or 8 to 11, leaves zeros throughout; success
+// leaves the script's rows and then zeros, and zeros throughout in `scratch`. Any names, text, list, limit and rooms have an answer.
+// Ruled out: a row count that is not the tree's; a room that is not zero after a refusal in reading; a built-in name with another symbol than its row's number.
+pub fn parse_with(
+    names: &[u8],
+    rows: &[u32],
+    text: &[u8],
+    tokens: &[u32],
+    limit: u32,
+    nodes: &mut [u32],
+    links: &mut [u32],
+    symbols: &mut [u32],
+    scratch: &mut [u32],
+) -> Numbers
+    ensures { λ r. ⌜ Parsed (names-in (now (names .entry)) (now (rows .entry))) (now (text .entry)) (now (tokens .entry)) limit (rooms (now (nodes .entry)) (now (links .entry)) (now (symbols .entry)) (now (scratch .entry))) (rooms (now (nodes .exit)) (now (links .exit)) (now (symbols .exit)) (now (scratch .exit))) r ⌝ }
+{
+    let mut index: [u32; INDEX] = [0; INDEX];
+    let entry = check(
+        names,
+        rows,
+        &mut index,
+        text,
+        tokens,
+        limit,
+        symbols.len(),
+        scratch.len(),
+    );
+    match entry {
+        Entry::Refused(why) => refused(why.code, why.at, why.start, why.end, codes::NO_KIND),
+        Entry::Open => script(
+            names,
+            rows,
+            &index,
+            text,
+            tokens,
+            limit,
+            nodes,
+            links,
+            symbols,
+            scratch,
+        ),
+    }
+}
+
+// Reads a script beside no built-in names.
 // Ruled out: a row count that is not the tree's; a room that is not zero after a refusal in reading.
 pub fn parse(
     text: &[u8],
@@ -250,11 +322,19 @@ pub fn parse(
     symbols: &mut [u32],
     scratch: &mut [u32],
 ) -> Numbers
-    ensures { λ r. ⌜ Parsed (now (text .entry)) (now (tokens .entry)) limit (rooms (now (nodes .entry)) (now (links .entry)) (now (symbols .entry)) (now (scratch .entry))) (rooms (now (nodes .exit)) (now (links .exit)) (now (symbols .exit)) (now (scratch .exit))) r ⌝ }
+    ensures { λ r. ⌜ Parsed none (now (text .entry)) (now (tokens .entry)) limit (rooms (now (nodes .entry)) (now (links .entry)) (now (symbols .entry)) (now (scratch .entry))) (rooms (now (nodes .exit)) (now (links .exit)) (now (symbols .exit)) (now (scratch .exit))) r ⌝ }
 {
-    let entry = check(text, tokens, limit, scratch.len());
-    match entry {
-        Entry::Refused(why) => refused(why.code, why.at, why.start, why.end, 255),
-        Entry::Open => script(text, tokens, limit, nodes, links, symbols, scratch),
-    }
+    let names: [u8; 0] = [0; 0];
+    let rows: [u32; 0] = [0; 0];
+    parse_with(
+        &names,
+        &rows,
+        text,
+        tokens,
+        limit,
+        nodes,
+        links,
+        symbols,
+        scratch,
+    )
 }

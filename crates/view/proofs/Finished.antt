@@ -7,6 +7,7 @@ use mathlib.Core.Path.{_≡_, refl, ap, _∙_}
 use lib.ListN.{length, getD, replicate, length-append, List·getD-append}
 use lib.Seq.{getD-append-add}
 use Rattle.grammar.specs.Answer.{success, rooms-filled}
+use Rattle.grammar.specs.Builtin.{Builtins}
 use Rattle.grammar.specs.Call.{Call}
 use Rattle.grammar.specs.Door.{Admitted}
 use Rattle.grammar.specs.Handle.{absent}
@@ -29,10 +30,10 @@ use Rattle.view.specs.declared.SpanAnswer.{SpanAnswer}
 number-at : (before ys after : List ℕ) (row i : ℕ) → node-width * row ≡ length before → number ((before ++ ys) ++ after) row i ≡ getD (ys ++ after) i 0
 number-at before ys after row i e = rw (e, append-assoc before ys after) (getD-append-add before (ys ++ after) i 0)
 
-accepted-whole : {text ts ss : List ℕ} {limit room : ℕ} {space : Space} {w : Rows} → Comes text ts limit space room (accepted w ss) → Whole w
-accepted-whole {text} {ts} (Comes.read x h i j) = written-whole ts (symbol text ts) x
+accepted-whole : {names : Builtins} {text ts ss : List ℕ} {limit room : ℕ} {space : Space} {w : Rows} → Comes names text ts limit space room (accepted w ss) → Whole w
+accepted-whole {names} {text} {ts} (Comes.read x h i j) = written-whole ts (symbol names text ts) x
 
-module _ {c : Call} {w : Rows} {ss : List ℕ} (d : Admitted c) (o : Comes (c .text) (c .tokens) (c .limit) (space-of (c .rooms)) (length (c .rooms .symbols)) (accepted w ss)) where
+module _ {c : Call} {w : Rows} {ss : List ℕ} (d : Admitted c) (o : Comes (c .names) (c .text) (c .tokens) (c .limit) (space-of (c .rooms)) (length (c .rooms .symbols)) (accepted w ss)) where
   abbrev nodes : List ℕ
   nodes = rooms-filled w ss (c .rooms) .nodes
 

@@ -7,13 +7,14 @@ use mathlib.Core.List.{List}
 use mathlib.Core.Path.{_≡_, ap, _∙_}
 use Rattle.grammar.specs.Kind.{Identifier}
 use Rattle.grammar.specs.Symbol.{is-name, quote, word-start, word-end}
-use Rattle.names.proofs.Words.{is-word, is-no-word, quote-is, quoted, free-word, word-interns, no-word}
+use Rattle.grammar.proofs.Quotes.{quoted}
+use Rattle.names.proofs.Words.{is-word, is-no-word, quote-is, free-word, word-named, no-word}
 use Rattle.names.proofs.word.Statement.{statement}
 use Rattle.names.proofs.word.Tie as tie
 
 -- where the function starts, once the token's kind is read; where a word is found; and where it is read
 abbrev start : tie.After-kind-at → tie.Start
-start c = c .before .before .before .before .before
+start c = c .before .before .before .before .before .before .before .before
 
 abbrev found : tie.After-end-at → tie.Then2
 found c = c .before .before
@@ -44,14 +45,14 @@ ends c = omega (arith, quote-here (found c), c .end-at .ensures)
 inside : (c : tie.After-end-at) → c .before .start-at .result + 2 * (Identifier - found c .before .before .kind-at .result) ≤ c .end-at .result
 inside c = omega (arith, quote-here (found c), c .before .start-at .ensures, c .end-at .ensures, quoted (start (found c .before .before) .pre .sound))
 
-get-or-intern-requires : tie.Need-get-or-intern-requires
-get-or-intern-requires c κs = let read = c .before .before in rw (starts read, ends read) (free-word (start (found read .before .before) .pre))
+name-requires : tie.Need-name-requires
+name-requires c κs = let read = c .before .before in rw (starts read, ends read) (free-word (start (found read .before .before) .pre))
 
 returns : tie.Need-returns
 returns c =
     let done = c .before .before .before .before in
     let read = done .before .before .before in
-    word-interns (start (found read .before .before) .pre) (named (found read)) (rw (starts read, ends read) at (done .get-or-intern .ensures))
+    word-named (start (found read .before .before) .pre) (named (found read)) (rw (starts read, ends read) at (done .name .ensures))
 
 -- below the two kinds and above them there is no word
 returns-2 : tie.Need-returns-2
@@ -69,5 +70,5 @@ word-spec =
     tie.close
     (tie.spec
     (λ c κs. search needs) (λ c. search needs) (λ c κs. search needs) (λ c κs. search needs) (λ c. omega (arith, inside (c .before .before))) (λ c. omega (arith, inside (c .before .before)))
-    get-or-intern-requires
+    name-requires
     (λ c. search needs) (λ c. search needs) returns returns-2 returns-3)

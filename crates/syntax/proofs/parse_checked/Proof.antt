@@ -1,24 +1,23 @@
--- `parse_checked` meets its contract: what its lengths turn away is answered so, and anything else would be let in by the door.
+-- `parse_checked` meets its contract: what its lengths or its built-in names turn away is answered so, and anything else would be let in by the door.
 use mathlib.Core.Path.{refl}
 use borrow.Author.Needs.{needs}
 use Rattle.door.specs.Entry.{List-checked}
-use Rattle.door.proofs.Codes.{by-lengths, by-list}
+use Rattle.door.proofs.Codes.{by-code, by-list}
 use Rattle.syntax.proofs.Scripts.{let-in, turned}
 use Rattle.syntax.proofs.parse_checked.Statement.{statement}
 use Rattle.syntax.proofs.parse_checked.Tie as tie
 
 returns : tie.Need-returns
-returns c = turned (by-lengths (c .before .before .lengths .ensures) (c .before .if1 .taken)) refl (c .refused .ensures)
+returns c = turned (by-code (c .before .before .before .admit .ensures .code) (c .before .if1 .taken)) refl (c .refused .ensures)
 
 script-requires : tie.Need-script-requires
 script-requires c κs =
-    let p = c .before .before .before .before .before .before .before .before .before .before .before .before .pre in
-    let-in (by-list (c .before .before .before .before .before .lengths .ensures) (c .before .before .before .before .if1 .left) (p .ascii) (List-checked.let-in p)) refl
-
-returns-2 : tie.Need-returns-2
-returns-2 c = c .before .before .before .before .before .before .before .before .script .ensures
+    let nothing-wrong = c .before .before .before .before .before .if1 .left in
+    let admitted = c .before .before .before .before .before .before .before in
+    let p = admitted .before .before .before .before .before .before .before .before .before .before .pre in
+    let-in (by-list (admitted .admit .ensures .code) nothing-wrong (p .ascii) (List-checked.let-in p)) (admitted .admit .ensures .known nothing-wrong) refl
 
 pub parse-checked-spec : {M : Type 1} → statement M
 parse-checked-spec =
     tie.close
-    (tie.spec (λ c κs. search needs) (λ c κs. search needs) returns script-requires (λ c. search needs) (λ c. search needs) (λ c. search needs) (λ c. search needs) returns-2)
+    (tie.spec (λ c. search needs) (λ c κs. search needs) (λ c κs. search needs) returns (λ c. search needs) script-requires (λ c. search needs) (λ c. search needs) (λ c. search needs) (λ c. search needs) (λ c. search needs))

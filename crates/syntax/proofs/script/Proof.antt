@@ -9,7 +9,7 @@ use Rattle.syntax.proofs.script.Tie as tie
 
 -- back from where one part is known to where the one before it is
 abbrev to-start : tie.After-resolve → tie.Start
-to-start c = c .before .before .before .before .before .before .before .before .before
+to-start c = c .before .before .before .before .before .before .before .before .before .before .before .before
 
 abbrev to-resolved : tie.After-whole → tie.After-resolve
 to-resolved c = c .before .before .before .before .before .before .before .before
@@ -63,7 +63,7 @@ returns-2 c =
 pub script-spec : {M : Type 1} → statement M
 script-spec =
     tie.close
-    (tie.spec (λ c κs. names-open (c .before .before .before .before .before .before .before .before .pre)) whole-requires (λ c. search needs) cut-requires (λ c. search needs)
+    (tie.spec (λ c κs. names-open (c .before .before .before .before .before .before .before .before .before .before .before .pre)) whole-requires (λ c. search needs) cut-requires (λ c. search needs)
     root-requires (λ c. search needs) (λ c. search needs)
     (λ c. let d = c .before .before .before .before .before .before .before .before in omega (arith, d .cut .kept, to-resolved (to-read d) .resolve .ensures .symbol-size))
     (λ c. let d = c .before .before .before .before .before .before .before .before in omega (arith, d .cut .kept, kept (to-read d))) returns (λ c. search needs) (λ c. search needs)
