@@ -28,16 +28,18 @@ enum {
     KAORI_SCRATCH_WIDTH = 3
 };
 
-/* The most tokens of a script, the Eof counted, the most bytes of its text, and the greatest depth limit. */
-enum { KAORI_TOKENS_MAX = 4096, KAORI_TEXT_MAX = 65536, KAORI_LIMIT_MAX = 64 };
+/* The most tokens of a script, the Eof counted, the most bytes of its text and of the built-in names' text, the greatest
+   depth limit, and the most built-in names. */
+enum { KAORI_TOKENS_MAX = 4096, KAORI_TEXT_MAX = 65536, KAORI_LIMIT_MAX = 64, KAORI_NAMES_MAX = 64 };
 
-/* The least room for an answer of kaori_parse and kaori_read, for one of kaori_place, and for a message. */
-enum { KAORI_ANSWER_ROOM = 8, KAORI_PLACE_ROOM = 3, KAORI_MESSAGE_ROOM = 52 };
+/* The least room for an answer of the four functions that read a script, for one of kaori_place, for one of kaori_name, and
+   for a message. */
+enum { KAORI_ANSWER_ROOM = 8, KAORI_PLACE_ROOM = 3, KAORI_NAME_ROOM = 3, KAORI_MESSAGE_ROOM = 52 };
 
-/* What stands where in an answer of kaori_parse and kaori_read. After 0: code, three counts of rows, 0, 0, 0, 255. After
+/* What stands where in an answer of the four that read a script. After 0: code, three counts of rows, 0, 0, 0, 255. After
    a refusal: code, 0, 0, 0, the number of the token, where it starts and ends in the text, and the kind of token that
-   was required there, or 255. Refusals 5 and 16 have no token but a byte, and 1, 2, 3 and a 4 for scratch have no place:
-   their numbers are then 0. */
+   was required there, or 255. Refusals 5 and 16 have no token but a byte, and 1, 2, 3, 18 and a 4 that was not met in
+   reading have no place: their numbers are then 0. */
 enum {
     KAORI_CODE,
     KAORI_NODES,
@@ -49,8 +51,9 @@ enum {
     KAORI_EXPECTED
 };
 
-/* And in an answer of kaori_place, after its code. */
+/* And in an answer of kaori_place and of kaori_name, after its code. */
 enum { KAORI_LINE = 1, KAORI_COLUMN };
+enum { KAORI_NAME_START = 1, KAORI_NAME_END };
 
 /* Codes. The first that applies is the answer; in reading, from left to right, the first that is met. At one token a 4 for
    a link's or a node's row comes first, then 11, then a 4 for a symbol's row, then 8, 9 and 10. 12 is not used. */
@@ -60,8 +63,8 @@ enum {
                                   tokens, or too little room for their list */
     KAORI_LONG_TEXT = 2,       /* text over 65,536 bytes */
     KAORI_BAD_LIMIT = 3,       /* depth limit 0 or over 64 */
-    KAORI_SMALL_ROOM = 4,      /* scratch has fewer rows than there are tokens; or, met in reading, a row does not fit the
-                                  room of its sort */
+    KAORI_SMALL_ROOM = 4,      /* scratch has fewer rows than there are tokens; then, the symbol room has fewer rows than
+                                  there are built-in names; or, met in reading, a row does not fit the room of its sort */
     KAORI_HIGH_BYTE = 5,       /* a byte of the text over 127 */
     KAORI_BAD_TOKEN = 6,       /* a token's kind, span or lexeme is wrong */
     KAORI_BAD_EOF = 7,         /* Eof before the last token, or no Eof there */
@@ -71,7 +74,10 @@ enum {
     KAORI_TOO_DEEP = 11,       /* an opening would pass the depth limit */
     KAORI_SMALL_ANSWER = 13,   /* too little room for the answer: nothing was done */
     KAORI_PAST_TEXT = 14,      /* of kaori_place: the offset is past the text */
-    KAORI_NO_TOKEN = 16        /* of kaori_read: no token starts at a byte */
+    KAORI_NO_NAME = 15,        /* of kaori_name: the symbol is not below the count, or its row does not fit its text */
+    KAORI_NO_TOKEN = 16,       /* of kaori_read: no token starts at a byte */
+    KAORI_BAD_NAMES = 18       /* the built-in names: their text is over 65,536 bytes, they are over 64, a span is wrong, one
+                                  is no identifier, or two are the same. After a 4 for scratch, before any other 4 */
 };
 
 /* `expected` where no certain kind was required. */
@@ -153,19 +159,25 @@ enum { KAORI_PARENT = 9 };
 
 /* A link row is an item of a list: a node (its row, 0, 0), a name (symbol, start, end) or a map's entry (key's row,
    value's row or absent, 0). A symbol row is where the symbol first stands in the text, start and end; a name's symbol
-   is its text, a string's what stands between its quotes; symbols are numbered in the order of their first places. */
+   is its text, a string's what stands between its quotes; symbols are numbered in the order of their first places. Beside
+   built-in names the first symbols are theirs, with their own rows, which are places in their text; the script's follow. */
+
+/* Built-in names, which are lent beside a script: they have the same symbols in every script, 0 onward. They are a text and
+   rows of two numbers, where each name starts and ends there; names may share bytes, and a number left over is not looked
+   at. A name or a string of the script that spells one of them has its symbol, and no row of its own. */
 
 /* How much room to lend. Scratch needs as many rows as there are tokens, the Eof counted. The node, link and symbol rooms
    may be of any size: a script is read where its rows fit, and answered by 4 where they do not.
-   - As many rows as there are tokens are always enough, in each room.
+   - As many rows as there are tokens are always enough, in each room; for symbols with a row more for each built-in name.
    - The counts of an answer of 0 are just what that script needs: with so many rows it is read, with a row less it is not.
    - A first guess for other scripts: two thirds of the tokens for nodes, a third for links, a quarter for symbols, and four
      rows more in each; bindings/README.md has what was measured. After a 4 lend more, and call again.
-   There are two sorts of 4. Where scratch has too few rows no place is given, and the rooms are left as they were. Else the
-   4 was met in reading: the place is the token at which the first row did not fit, and all rooms are left zeros. A symbol's
-   row is met at its name or string, a node's links and then its row at the token after the node, the root's at the Eof,
-   and there too an import's that the Eof stops. Tell the two apart by what was lent, not by the answer: of an Eof alone
-   with the span 0, 0 and no node row the eight numbers are 4 0 0 0 0 0 0 255, as they are for scratch. */
+   There are two sorts of 4. Where scratch has too few rows, or the symbol room fewer than there are built-in names, no place
+   is given, and the rooms are left as they were. Else the 4 was met in reading: the place is the token at which the first
+   row did not fit, and all rooms are left zeros. A symbol's row is met at its name or string, a node's links and then its
+   row at the token after the node, the root's at the Eof, and there too an import's that the Eof stops. Tell the two apart
+   by what was lent, not by the answer: of an Eof alone with the span 0, 0 and no node row the eight numbers are
+   4 0 0 0 0 0 0 255, as they are for scratch. */
 
 /* Reads a script that is given as its text and its tokens.
    Takes: the text; the tokens, three numbers each (kind, start, end), Eof last; the depth limit, 1 to 64; four rooms,
@@ -190,6 +202,25 @@ uint32_t kaori_read(const uint8_t *text, size_t text_len, uint32_t *tokens, size
                     uint32_t *nodes, size_t nodes_len, uint32_t *links, size_t links_len, uint32_t *symbols,
                     size_t symbols_len, uint32_t *scratch, size_t scratch_len, uint32_t *answer, size_t answer_len);
 
+/* The same beside built-in names: their text and their rows come first, and the rest as in kaori_parse. With no text and no
+   rows the answer is that of kaori_parse.
+   Answers: the code: 0, 1 to 11, 13 or 18. A 4 for scratch, 18 and a 4 for the built-in names' rows come in this order, after
+   3 and before 5.
+   Leaves: as kaori_parse, and after 18 and a 4 for the built-in names' rows the four rooms as they were. After 0 the symbol
+   rows begin with the built-in names', and are counted with them. */
+uint32_t kaori_parse_with(const uint8_t *names, size_t names_len, const uint32_t *name_rows, size_t name_rows_len,
+                          const uint8_t *text, size_t text_len, const uint32_t *tokens, size_t tokens_len,
+                          uint32_t limit, uint32_t *nodes, size_t nodes_len, uint32_t *links, size_t links_len,
+                          uint32_t *symbols, size_t symbols_len, uint32_t *scratch, size_t scratch_len,
+                          uint32_t *answer, size_t answer_len);
+
+/* And as kaori_read: the token maker's refusals come first, then 3, 4, 18 and 8 to 11 as kaori_parse_with has them. */
+uint32_t kaori_read_with(const uint8_t *names, size_t names_len, const uint32_t *name_rows, size_t name_rows_len,
+                         const uint8_t *text, size_t text_len, uint32_t *tokens, size_t tokens_len, uint32_t limit,
+                         uint32_t *nodes, size_t nodes_len, uint32_t *links, size_t links_len, uint32_t *symbols,
+                         size_t symbols_len, uint32_t *scratch, size_t scratch_len, uint32_t *answer,
+                         size_t answer_len);
+
 /* The text of a refusal, with no byte 0 at its end.
    Takes: the refusal's code and `expected`; the kind of the token at its place; and a room of 52 bytes or more.
    Answers: the text's length, at most 52. It is 0 for a code that is not 8 to 11, where the text needs a kind over 44,
@@ -204,6 +235,37 @@ size_t kaori_message(uint32_t code, uint32_t expected, uint32_t found, uint8_t *
    Leaves: in the answer's room code, line and column, the last two 0 after 2 and 14, and the rest as it was; after 13 all
    as it was. */
 uint32_t kaori_place(const uint8_t *text, size_t text_len, size_t offset, uint32_t *answer, size_t answer_len);
+
+/* Where the name of a symbol starts and ends in its text: the built-in names' for a symbol below `built`, and else the
+   script's. A string's symbol may have an empty name.
+   Takes: the two texts; the symbol room, and how many rows of it are in use; the number of built-in names; the symbol; and
+   a room of 3 numbers or more for the answer. Without built-in names `names_len` and `built` are 0.
+   Answers: the code: 0, 13 or 15. After a call that was answered with 0 each symbol below the count has a name: with the
+   texts that were lent, the room that was left, and the counts of symbols and of built-in names.
+   Leaves: in the answer's room code, start and end, the last two 0 after 15, and the rest as it was; after 13 all as it
+   was. */
+uint32_t kaori_name(const uint8_t *names, size_t names_len, const uint8_t *text, size_t text_len,
+                    const uint32_t *symbols, size_t symbols_len, uint32_t count, uint32_t built, uint32_t symbol,
+                    uint32_t *answer, size_t answer_len);
+
+/* A name as a part of the text that has it, with the code 0; or 15 and no bytes. */
+struct kaori_part {
+    uint32_t code;
+    const uint8_t *bytes;
+    size_t length;
+};
+
+static inline struct kaori_part kaori_name_part(const uint8_t *names, size_t names_len, const uint8_t *text,
+                                                size_t text_len, const uint32_t *symbols, size_t symbols_len,
+                                                uint32_t count, uint32_t built, uint32_t symbol) {
+    uint32_t place[KAORI_NAME_ROOM];
+    struct kaori_part part;
+    part.code = kaori_name(names, names_len, text, text_len, symbols, symbols_len, count, built, symbol, place,
+                           KAORI_NAME_ROOM);
+    part.bytes = (symbol < built ? names : text) + place[KAORI_NAME_START];
+    part.length = place[KAORI_NAME_END] - place[KAORI_NAME_START];
+    return part;
+}
 
 #ifdef __cplusplus
 }

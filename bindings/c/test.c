@@ -200,6 +200,114 @@ static void parents(void) {
     EXPECT(row == KAORI_ABSENT);
 }
 
+/* Built-in names `show` and `print`, and `show(a);`: show is symbol 0, print 1 and a 2. */
+static const char names[] = "showprint";
+static const uint32_t name_rows[] = {0, 4, 4, 9, 7};
+static const char script[] = "show(a);";
+static const uint32_t script_list[] = {KAORI_IDENTIFIER, 0, 4, KAORI_LEFT_PAREN, 4, 5, KAORI_IDENTIFIER, 5, 6, KAORI_RIGHT_PAREN, 6, 7, KAORI_SEMICOLON, 7, 8, KAORI_EOF, 8, 8};
+
+/* A call beside names, with so many numbers of the symbol room and of scratch. */
+static uint32_t beside(rooms *r, const char *lent, const uint32_t *rows, size_t length, size_t symbols,
+                       size_t scratch) {
+    return kaori_parse_with((const uint8_t *)lent, strlen(lent), rows, length, (const uint8_t *)script, strlen(script),
+                            script_list, LENGTH(script_list), 64, r->nodes, LENGTH(r->nodes), r->links,
+                            LENGTH(r->links), r->symbols, symbols, r->scratch, scratch, r->answer, 8);
+}
+
+static uint32_t text_beside(rooms *r, const uint32_t *rows, size_t length, const char *text) {
+    return kaori_read_with((const uint8_t *)names, strlen(names), rows, length, (const uint8_t *)text, strlen(text),
+                           r->tokens, LENGTH(r->tokens), 64, r->nodes, LENGTH(r->nodes), r->links, LENGTH(r->links),
+                           r->symbols, LENGTH(r->symbols), r->scratch, LENGTH(r->scratch), r->answer, 8);
+}
+
+static int part_is(const rooms *r, uint32_t symbol, const char *bytes, size_t length) {
+    struct kaori_part part =
+        kaori_name_part((const uint8_t *)names, strlen(names), (const uint8_t *)script, strlen(script), r->symbols,
+                        LENGTH(r->symbols), r->answer[KAORI_SYMBOLS], 2, symbol);
+    return part.code == (symbol < 3 ? KAORI_OK : KAORI_NO_NAME) && (const char *)part.bytes == bytes &&
+           part.length == length;
+}
+
+static void built_in(void) {
+    static const uint32_t whole[] = {0, 4, 2, 3, 0, 0, 0, KAORI_NO_KIND}, rows[] = {0, 4, 4, 9, 5, 6};
+    rooms r = fresh(), plain = fresh();
+    /* a fifth number is left over */
+    for (size_t length = 4; length <= 5; length++) {
+        r = fresh();
+        EXPECT(beside(&r, names, name_rows, length, LENGTH(r.symbols), LENGTH(r.scratch)) == KAORI_OK && fences(&r));
+        EXPECT(memcmp(r.answer, whole, sizeof whole) == 0 && memcmp(r.symbols, rows, sizeof rows) == 0);
+        EXPECT(all(r.symbols + 6, LENGTH(r.symbols) - 6, 0) && all(r.scratch, LENGTH(r.scratch), 0));
+        EXPECT(r.nodes[3] == 0 && r.nodes[KAORI_NODE_WIDTH + 3] == 2);
+    }
+    EXPECT(part_is(&r, 0, names, 4) && part_is(&r, 1, names + 4, 5) && part_is(&r, 2, script + 5, 1));
+    EXPECT(part_is(&r, 3, script, 0) && part_is(&r, KAORI_ABSENT, script, 0));
+    /* but for the symbols, the rows are those of the script alone; and beside no names all is as without */
+    EXPECT(parse(&plain, script, script_list, LENGTH(script_list), 64, 8) == KAORI_OK &&
+           plain.answer[KAORI_SYMBOLS] == 2);
+    EXPECT(plain.nodes[3] == 0 && plain.nodes[KAORI_NODE_WIDTH + 3] == 1);
+    r.nodes[KAORI_NODE_WIDTH + 3] = 1;
+    EXPECT(memcmp(r.nodes, plain.nodes, sizeof r.nodes) == 0 && memcmp(r.links, plain.links, sizeof r.links) == 0);
+    r = fresh();
+    EXPECT(beside(&r, "", name_rows, 0, LENGTH(r.symbols), LENGTH(r.scratch)) == KAORI_OK &&
+           memcmp(&r, &plain, sizeof r) == 0);
+    /* a string that spells a built-in name has its symbol, and from the text all is the same */
+    r = fresh();
+    EXPECT(text_beside(&r, name_rows, 4, "\"print\";") == KAORI_OK && r.nodes[3] == 1 && r.answer[KAORI_SYMBOLS] == 2);
+    EXPECT(text_beside(&r, name_rows, 4, script) == KAORI_OK && memcmp(r.symbols, rows, sizeof rows) == 0);
+    EXPECT(memcmp(r.answer, whole, sizeof whole) == 0 && memcmp(r.tokens, script_list, sizeof script_list) == 0);
+}
+
+/* What is wrong with built-in names, and in which order it is found. */
+static void wrong_names(void) {
+    static const uint32_t twice[] = {0, 4, 0, 4}, back[] = {4, 0}, past[] = {0, 10}, empty[] = {4, 4}, two[] = {0, 2};
+    static uint32_t many[KAORI_SYMBOL_WIDTH * (KAORI_NAMES_MAX + 1)];
+    static char long_text[KAORI_TEXT_MAX + 2];
+    rooms r = fresh();
+    size_t s = LENGTH(r.symbols), scratch = LENGTH(r.scratch);
+    memset(long_text, 'a', KAORI_TEXT_MAX + 1);
+    for (size_t i = 0; i < LENGTH(many); i++) many[i] = (uint32_t)(i % 2 == 0 ? 0 : i / 2 + 1);
+    EXPECT(beside(&r, names, twice, 4, s, scratch) == KAORI_BAD_NAMES && answered(&r, 18, 0, 0, 0, KAORI_NO_KIND));
+    EXPECT(beside(&r, names, back, 2, s, scratch) == KAORI_BAD_NAMES &&
+           beside(&r, names, past, 2, s, scratch) == KAORI_BAD_NAMES);
+    EXPECT(beside(&r, names, empty, 2, s, scratch) == KAORI_BAD_NAMES &&
+           beside(&r, "if", two, 2, s, scratch) == KAORI_BAD_NAMES);
+    EXPECT(beside(&r, "1234", twice, 2, s, scratch) == KAORI_BAD_NAMES &&
+           beside(&r, "nil ", twice, 2, s, scratch) == KAORI_BAD_NAMES);
+    EXPECT(beside(&r, long_text, twice, 0, s, scratch) == KAORI_BAD_NAMES);
+    long_text[KAORI_TEXT_MAX] = 0;
+    EXPECT(beside(&r, long_text, many, LENGTH(many), s, scratch) == KAORI_BAD_NAMES);
+    /* 64 names are right; they do not fit the symbol room */
+    EXPECT(beside(&r, long_text, many, LENGTH(many) - 2, s, scratch) == KAORI_SMALL_ROOM);
+    /* scratch, the names, their rows, and then the text */
+    EXPECT(beside(&r, names, twice, 4, s, scratch - 7) == KAORI_SMALL_ROOM &&
+           beside(&r, names, twice, 4, 3, scratch) == KAORI_BAD_NAMES);
+    EXPECT(beside(&r, names, name_rows, 4, 3, scratch) == KAORI_SMALL_ROOM && answered(&r, 4, 0, 0, 0, KAORI_NO_KIND));
+    EXPECT(text_beside(&r, twice, 4, "a @") == KAORI_NO_TOKEN && text_beside(&r, twice, 4, "a;") == KAORI_BAD_NAMES);
+    EXPECT(four_are(&r, OLD));
+    /* the names' rows fit, and the script's own does not */
+    EXPECT(beside(&r, names, name_rows, 4, 5, scratch) == KAORI_SMALL_ROOM && answered(&r, 4, 2, 5, 6, KAORI_NO_KIND));
+    EXPECT(all(r.symbols, 5, 0) && r.symbols[5] == OLD && all(r.nodes, LENGTH(r.nodes), 0));
+}
+
+static uint32_t name_place(uint32_t count, uint32_t built, uint32_t symbol, uint32_t *answer, size_t room) {
+    static const uint32_t rows[] = {0, 9, 0, 9, 3, 3, 3, 2, 8, 8, 7, 9, 1};
+    return kaori_name((const uint8_t *)names, strlen(names), (const uint8_t *)script, strlen(script), rows, LENGTH(rows),
+                      count, built, symbol, answer, room);
+}
+
+/* The place of a name, of rows that no reader wrote: a row is held to its own text, which the symbol's number chooses. */
+static void naming(void) {
+    static const uint32_t places[][3] = {{0, 0, 9}, {15, 0, 0}, {0, 3, 3}, {15, 0, 0}, {0, 8, 8}, {15, 0, 0}, {15, 0, 0}, {15, 0, 0}};
+    uint32_t answer[] = {OLD, OLD, OLD, OLD};
+    for (uint32_t symbol = 0; symbol < LENGTH(places); symbol++) {
+        EXPECT(name_place(LENGTH(places), 1, symbol, answer, 4) == places[symbol][0]);
+        EXPECT(memcmp(answer, places[symbol], sizeof places[symbol]) == 0 && answer[3] == OLD);
+    }
+    EXPECT(name_place(2, 2, 1, answer, 3) == KAORI_OK && answer[KAORI_NAME_END] == 9);
+    EXPECT(name_place(1, 2, 1, answer, 3) == KAORI_NO_NAME && answer[KAORI_NAME_END] == 0);
+    EXPECT(name_place(2, 2, 1, answer, 2) == KAORI_SMALL_ANSWER && answer[KAORI_CODE] == KAORI_NO_NAME);
+}
+
 static void telling(void) {
     uint8_t room[54];
     memset(room, '.', sizeof room);
@@ -234,6 +342,9 @@ int main(void) {
     row_by_row();
     the_same_numbers();
     parents();
+    built_in();
+    wrong_names();
+    naming();
     telling();
     return failed != 0;
 }

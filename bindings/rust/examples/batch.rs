@@ -5,13 +5,17 @@ mod rows;
 
 use std::io::{BufWriter, Error, Read, Write, stdin, stdout};
 
-use kaori_syntax::{Refusal, Rooms};
+use kaori_syntax::{Builtins, Refusal, Rooms, Tree};
 use rows::{answer, decode, frame};
 
 const BAD: &str = "bad input\n";
-/// What stands before a limit and the sizes of rooms, and the largest rooms that are lent: as for the program `batch`.
+/// What stands before a limit and the sizes of rooms, and what does where built-in names follow these; the largest rooms that
+/// are lent, and the largest names: as for the program `batch`.
 const MARK: [u8; 2] = [0x52, 0x4D];
+const NAMES_MARK: [u8; 2] = [0x52, 0x4E];
 const LARGEST: [usize; 4] = [5_129, 1_538, 1_025, 1_538];
+const MOST_BYTES: usize = 8_192;
+const MOST_NUMBERS: usize = 133;
 
 fn main() -> Result<(), Error> {
     let mut rooms = Rooms::for_tokens(512);
@@ -35,15 +39,22 @@ fn main() -> Result<(), Error> {
 
 /// The answer to a case with a limit and rooms of its own, if it is one: the eight numbers, and then each room as it was left.
 fn lent(case: &[u8]) -> Option<String> {
-    let (head, input) = case.strip_prefix(&MARK)?.split_at_checked(20)?;
-    let number =
-        |i: usize| u32::from_le_bytes([head[4 * i], head[4 * i + 1], head[4 * i + 2], head[4 * i + 3]]);
-    let Some((text, tokens)) = decode(input) else { return Some(BAD.to_string()) };
-    let room = |i: usize| vec![7; (number(i + 1) as usize).min(LARGEST[i])];
+    let is_named = case.starts_with(&NAMES_MARK);
+    let mut rest = case.strip_prefix(if is_named { &NAMES_MARK } else { &MARK })?;
+    let head = numbers(&mut rest, 5)?;
+    let names = if is_named { Some(names(&mut rest)?) } else { None };
+    let Some((text, tokens)) = decode(rest) else { return Some(BAD.to_string()) };
+    let room = |i: usize| vec![7; (head[i + 1] as usize).min(LARGEST[i])];
     let mut rooms =
         Rooms { nodes: room(0), links: room(1), symbols: room(2), scratch: room(3), ..Rooms::for_tokens(0) };
-    let numbers = match rooms.parse(text, &tokens, number(0)) {
+    let builtins = names.as_ref().map_or(Builtins::NONE, |(text, rows)| Builtins { text, rows });
+    let answered = match is_named {
+        false => rooms.parse(text, &tokens, head[0]),
+        true => rooms.parse_with(builtins, text, &tokens, head[0]),
+    };
+    let numbers = match answered {
         Ok(tree) => {
+            spelled(&tree, builtins, text);
             let counts = [tree.node_rows().len(), tree.link_rows().len(), tree.symbol_rows().len()];
             [0, counts[0] as u32, counts[1] as u32, counts[2] as u32, 0, 0, 0, 255]
         }
@@ -54,4 +65,29 @@ fn lent(case: &[u8]) -> Option<String> {
     let line = |numbers: &[u32]| numbers.iter().map(|n| format!(" {n}")).collect::<String>() + "\n";
     let Rooms { nodes, links, symbols, scratch, .. } = &rooms;
     Some([&numbers[..], nodes, links, symbols, scratch].map(line).concat())
+}
+
+/// The next numbers of a case, four bytes each.
+fn numbers(rest: &mut &[u8], count: usize) -> Option<Vec<u32>> {
+    let bytes = rest.split_off(..4 * count)?;
+    Some(bytes.as_chunks().0.iter().map(|bytes| u32::from_le_bytes(*bytes)).collect())
+}
+
+/// Built-in names: how long their text is and how many numbers their rows have, and then both.
+fn names<'a>(rest: &mut &'a [u8]) -> Option<(&'a [u8], Vec<u32>)> {
+    let sizes = numbers(rest, 2)?;
+    let [size, count] = [sizes[0] as usize, sizes[1] as usize];
+    if MOST_BYTES < size || MOST_NUMBERS < count {
+        return None;
+    }
+    Some((rest.split_off(..size)?, numbers(rest, count)?))
+}
+
+/// Each symbol has the bytes of its row, out of the built-in text or the script's, and there is none after them.
+fn spelled(tree: &Tree, builtins: Builtins, text: &[u8]) {
+    for (symbol, row) in tree.symbol_rows().iter().enumerate() {
+        let own = if symbol < builtins.count() as usize { builtins.text } else { text };
+        assert_eq!(tree.symbol(symbol as u32), own.get(row[0] as usize..row[1] as usize), "symbol {symbol}");
+    }
+    assert_eq!(tree.symbol(tree.symbol_rows().len() as u32), None);
 }

@@ -81,6 +81,25 @@
 //! # Ok::<(), kaori_syntax::Refusal>(())
 //! ```
 //!
+//! Built-in names are lent beside a script, and have the same symbols in every one:
+//!
+//! ```
+//! use kaori_syntax::{Node, OwnedBuiltins, Rooms};
+//!
+//! let station = OwnedBuiltins::new(&["show", "print"]);
+//! let mut rooms = Rooms::for_tokens_with(station.lend(), 64);
+//! let tree = rooms.read_with(station.lend(), b"a(print);", 64)?;
+//! let symbols: Vec<_> = tree
+//!     .rows()
+//!     .filter_map(|row| match row.node {
+//!         Node::Identifier(name) => Some((name.symbol, tree.symbol(name.symbol)?)),
+//!         _ => None,
+//!     })
+//!     .collect();
+//! assert_eq!(symbols, [(2, &b"a"[..]), (1, &b"print"[..])]);
+//! # Ok::<(), kaori_syntax::Refusal>(())
+//! ```
+//!
 //! A refusal has a code, a place and a message:
 //!
 //! ```
@@ -94,9 +113,11 @@
 //! assert_eq!((place.line, place.column), (2, 7));
 //! ```
 #![deny(unsafe_code, missing_docs)]
+mod builtins;
 mod node;
 mod raw;
 
+pub use builtins::{Builtins, OwnedBuiltins, name};
 pub use node::{BinaryOp, Entries, Name, Names, Node, Nodes, Outward, Row, Rows, Span, Tree, UnaryOp};
 
 /// The most tokens of a script, the Eof at its end counted.
@@ -105,6 +126,8 @@ pub const MAX_TOKENS: usize = 4096;
 pub const MAX_TEXT: usize = 65_536;
 /// The greatest depth limit.
 pub const MAX_DEPTH: u32 = 64;
+/// The most built-in names.
+pub const MAX_NAMES: usize = 64;
 
 /// The numbers of a token in a list.
 pub const TOKEN_WIDTH: usize = 3;
@@ -119,12 +142,12 @@ pub const SCRATCH_WIDTH: usize = 3;
 
 const NO_KIND: u32 = 255;
 const EOF: u32 = 44;
-/// The code for scratch that is too small, and for a row that does not fit.
+/// The code for scratch or a symbol room that is too small, and for a row that does not fit.
 const SMALL_ROOM: u32 = 4;
 
 /// What the reader writes into, lent for a call; what it holds does not matter. `scratch` needs as many rows as there are
 /// tokens. The others may be of any size: with as many rows as the script's tree has it is read, with fewer it is refused
-/// by 4. As many rows as there are tokens are always enough.
+/// by 4. As many rows as there are tokens are always enough, for symbols with a row more for each built-in name.
 ///
 /// After a success each room has the script's rows and then zeros, `scratch` zeros alone. After a refusal that was met in
 /// reading, one with code 8 to 11 or a 4 with [`Refusal::found`], all are zeros; after any other all are as they were.
@@ -162,6 +185,13 @@ impl Rooms {
         Rooms::with_rows(tokens, tokens, tokens, tokens)
     }
 
+    /// The same beside these built-in names, whose rows stand in the symbol room too.
+    pub fn for_tokens_with(builtins: Builtins, tokens: usize) -> Rooms {
+        let mut rooms = Rooms::for_tokens(tokens);
+        rooms.symbols.resize(rooms.symbols.len() + SYMBOL_WIDTH * most_names(builtins), 0);
+        rooms
+    }
+
     /// Rooms of so many node, link and symbol rows, and for up to so many tokens; never more than [`MAX_TOKENS`], and never
     /// more than a row a token, which is always enough. What a script needs is what its tree has: as many node, link and
     /// symbol rows. A first guess: two thirds, a third and a quarter of the tokens, and four rows more in each; bindings'
@@ -182,17 +212,29 @@ impl Rooms {
     /// that `scratch` is for: then the script can be read again. Any other refusal is given back, and so is this one where
     /// nothing can be grown.
     pub fn grow(&mut self, why: Refusal) -> Result<(), Refusal> {
+        self.grow_with(Builtins::NONE, why)
+    }
+
+    /// The same beside these built-in names: the symbol room is grown until their rows fit, and then by up to a row for each
+    /// token more.
+    pub fn grow_with(&mut self, builtins: Builtins, why: Refusal) -> Result<(), Refusal> {
         let mut left = Err(why);
+        let names = most_names(builtins);
         if why.code == SMALL_ROOM && why.found.is_some() {
             let most = (self.scratch.len() / SCRATCH_WIDTH).min(MAX_TOKENS);
             let Rooms { nodes, links, symbols, .. } = self;
-            for (room, width) in [(nodes, NODE_WIDTH), (links, LINK_WIDTH), (symbols, SYMBOL_WIDTH)] {
+            for (room, width, most) in
+                [(nodes, NODE_WIDTH, most), (links, LINK_WIDTH, most), (symbols, SYMBOL_WIDTH, most + names)]
+            {
                 let rows = room.len() / width;
                 if rows < most {
                     room.resize(width * (2 * rows).clamp(1, most), 0);
                     left = Ok(());
                 }
             }
+        } else if why.code == SMALL_ROOM && self.symbols.len() < SYMBOL_WIDTH * names {
+            self.symbols.resize(SYMBOL_WIDTH * names, 0);
+            left = Ok(());
         }
         left
     }
@@ -208,6 +250,34 @@ impl Rooms {
         let Rooms { nodes, links, symbols, scratch, .. } = self;
         parse(text, tokens, limit, Lent { nodes, links, symbols, scratch })
     }
+
+    /// Reads a script's text beside built-in names: [`read_with`] in these rooms.
+    pub fn read_with<'a>(
+        &'a mut self,
+        builtins: Builtins<'a>,
+        text: &'a [u8],
+        limit: u32,
+    ) -> Result<Tree<'a>, Refusal> {
+        let Rooms { nodes, links, symbols, scratch, list } = self;
+        read_with(builtins, text, list, limit, Lent { nodes, links, symbols, scratch })
+    }
+
+    /// Reads a script's text and tokens beside built-in names: [`parse_with`] in these rooms.
+    pub fn parse_with<'a>(
+        &'a mut self,
+        builtins: Builtins<'a>,
+        text: &'a [u8],
+        tokens: &[u32],
+        limit: u32,
+    ) -> Result<Tree<'a>, Refusal> {
+        let Rooms { nodes, links, symbols, scratch, .. } = self;
+        parse_with(builtins, text, tokens, limit, Lent { nodes, links, symbols, scratch })
+    }
+}
+
+/// How many built-in names take rows: more than are allowed are refused.
+fn most_names(builtins: Builtins) -> usize {
+    (builtins.count() as usize).min(MAX_NAMES)
 }
 
 /// Why a script was refused, and where. The first refusal that applies is given. 12 is not used.
@@ -217,7 +287,7 @@ impl Rooms {
 /// | 1 | the token list's length is not three times a count from 1 to 4,096; by [`read`]: too many tokens, or too little list room |
 /// | 2 | text over 65,536 bytes |
 /// | 3 | depth limit 0 or over 64 |
-/// | 4 | `scratch` has fewer rows than there are tokens; met in reading: a row does not fit its room |
+/// | 4 | `scratch` has fewer rows than there are tokens; after 18: the symbol room has fewer rows than there are built-in names; met in reading: a row does not fit its room |
 /// | 5 | a text byte over 127 |
 /// | 6 | a token's kind, span or lexeme is wrong |
 /// | 7 | Eof before the last token, or none there |
@@ -226,9 +296,10 @@ impl Rooms {
 /// | 10 | a statement starts with `for` |
 /// | 11 | an opening would pass the depth limit |
 /// | 16 | by [`read`]: no token starts at a byte |
+/// | 18 | the built-in names' text is over 65,536 bytes, they are over 64, a span is wrong, one is no identifier, or two are the same; after a 4 for `scratch` |
 #[derive(Clone, Copy, PartialEq, Eq, Debug)]
 pub struct Refusal {
-    /// From 1 to 11, or 16.
+    /// From 1 to 11, 16 or 18.
     pub code: u32,
     /// The token's number, for codes 6 to 11 and a 4 that was met in reading; else 0.
     pub at: u32,
@@ -237,7 +308,8 @@ pub struct Refusal {
     /// The kind that was required there, for code 8. Kinds are numbered in the order of token.rs's `Token`, from 0.
     pub expected: Option<u32>,
     /// The kind of the token, for codes 6 to 11 and a 4 that was met in reading. So it tells the two sorts of 4 apart, also
-    /// where all other numbers are the same: without a kind it is `scratch` that is too small.
+    /// where all other numbers are the same: without a kind it is `scratch` that is too small, or the symbol room for the
+    /// built-in names.
     pub found: Option<u32>,
 }
 
@@ -338,13 +410,29 @@ pub fn read<'a>(text: &'a [u8], list: &mut [u32], limit: u32, rooms: Lent<'a>) -
     let Lent { nodes, links, symbols, scratch } = rooms;
     let mut answer = [0; 8];
     let code = raw::read(text, list, limit, nodes, links, symbols, scratch, &mut answer);
-    // how many tokens were made matters after a 4 alone
-    let tokens = if code == SMALL_ROOM { made(list) } else { list };
-    tree(answer, text, tokens, Lent { nodes, links, symbols, scratch })
+    tree(answer, Builtins::NONE, text, made(list, code), Lent { nodes, links, symbols, scratch })
 }
 
-/// The tokens of a list that was made, up to their Eof.
-fn made(list: &[u32]) -> &[u32] {
+/// [`read`] beside built-in names.
+pub fn read_with<'a>(
+    builtins: Builtins<'a>,
+    text: &'a [u8],
+    list: &mut [u32],
+    limit: u32,
+    rooms: Lent<'a>,
+) -> Result<Tree<'a>, Refusal> {
+    let Lent { nodes, links, symbols, scratch } = rooms;
+    let Builtins { text: names, rows } = builtins;
+    let mut answer = [0; 8];
+    let code = raw::read_with(names, rows, text, list, limit, nodes, links, symbols, scratch, &mut answer);
+    tree(answer, builtins, text, made(list, code), Lent { nodes, links, symbols, scratch })
+}
+
+/// The tokens of a list that was made, up to their Eof. How many there are matters after a 4 alone.
+fn made(list: &[u32], code: u32) -> &[u32] {
+    if code != SMALL_ROOM {
+        return list;
+    }
     let eof = list.chunks_exact(TOKEN_WIDTH).position(|token| token[0] == EOF);
     eof.and_then(|eof| list.get(..TOKEN_WIDTH * (eof + 1))).unwrap_or(list)
 }
@@ -365,20 +453,39 @@ pub fn parse<'a>(text: &'a [u8], tokens: &[u32], limit: u32, rooms: Lent<'a>) ->
     let Lent { nodes, links, symbols, scratch } = rooms;
     let mut answer = [0; 8];
     raw::parse(text, tokens, limit, nodes, links, symbols, scratch, &mut answer);
-    tree(answer, text, tokens, Lent { nodes, links, symbols, scratch })
+    tree(answer, Builtins::NONE, text, tokens, Lent { nodes, links, symbols, scratch })
+}
+
+/// [`parse`] beside built-in names.
+pub fn parse_with<'a>(
+    builtins: Builtins<'a>,
+    text: &'a [u8],
+    tokens: &[u32],
+    limit: u32,
+    rooms: Lent<'a>,
+) -> Result<Tree<'a>, Refusal> {
+    let Lent { nodes, links, symbols, scratch } = rooms;
+    let Builtins { text: names, rows } = builtins;
+    let mut answer = [0; 8];
+    raw::parse_with(names, rows, text, tokens, limit, nodes, links, symbols, scratch, &mut answer);
+    tree(answer, builtins, text, tokens, Lent { nodes, links, symbols, scratch })
 }
 
 fn tree<'a>(
     [code, node_rows, link_rows, symbol_rows, at, start, end, expected]: [u32; 8],
+    builtins: Builtins<'a>,
     text: &'a [u8],
     tokens: &[u32],
     Lent { nodes, links, symbols, scratch }: Lent<'a>,
 ) -> Result<Tree<'a>, Refusal> {
     if code == 0 {
-        return Ok(Tree::new(text, (nodes, node_rows), (links, link_rows), (symbols, symbol_rows)));
+        return Ok(Tree::new(builtins, text, (nodes, node_rows), (links, link_rows), (symbols, symbol_rows)));
     }
     let names_token = match code {
-        SMALL_ROOM => tokens.len() / TOKEN_WIDTH <= scratch.len() / SCRATCH_WIDTH,
+        SMALL_ROOM => {
+            tokens.len() / TOKEN_WIDTH <= scratch.len() / SCRATCH_WIDTH
+                && builtins.count() as usize <= symbols.len() / SYMBOL_WIDTH
+        }
         _ => (6..=11).contains(&code),
     };
     let expected = (expected != NO_KIND).then_some(expected);

@@ -1,11 +1,12 @@
 //! The rows of a script as nodes.
-use crate::{LINK_WIDTH, NODE_WIDTH, SYMBOL_WIDTH};
+use crate::{Builtins, LINK_WIDTH, NODE_WIDTH, SYMBOL_WIDTH, name};
 
 const ABSENT: u32 = u32::MAX;
 
-/// A script that was read: its rows, in the rooms that were lent. A copy of it is four slices.
+/// A script that was read: its rows, in the rooms that were lent. A copy of it is six slices.
 #[derive(Clone, Copy, Debug)]
 pub struct Tree<'a> {
+    builtins: Builtins<'a>,
     text: &'a [u8],
     nodes: &'a [[u32; NODE_WIDTH]],
     links: &'a [[u32; LINK_WIDTH]],
@@ -248,12 +249,13 @@ fn used<const N: usize>((room, count): (&[u32], u32)) -> &[[u32; N]] {
 
 impl<'a> Tree<'a> {
     pub(crate) fn new(
+        builtins: Builtins<'a>,
         text: &'a [u8],
         nodes: (&'a [u32], u32),
         links: (&'a [u32], u32),
         symbols: (&'a [u32], u32),
     ) -> Tree<'a> {
-        Tree { text, nodes: used(nodes), links: used(links), symbols: used(symbols) }
+        Tree { builtins, text, nodes: used(nodes), links: used(links), symbols: used(symbols) }
     }
 
     /// The node rows as numbers: kind, start, end, six more, and the parent's row, as bindings/c/kaori.h has them.
@@ -266,7 +268,8 @@ impl<'a> Tree<'a> {
         self.links
     }
 
-    /// The symbol rows as numbers: where each symbol first stands in the text.
+    /// The symbol rows as numbers: those of the built-in names, which are places in their text, and then where each other
+    /// symbol first stands in the script's.
     pub fn symbol_rows(&self) -> &'a [[u32; SYMBOL_WIDTH]] {
         self.symbols
     }
@@ -305,10 +308,9 @@ impl<'a> Tree<'a> {
         self.row(self.nodes.len().checked_sub(1)? as u32)
     }
 
-    /// The bytes of a symbol: a name, or what stands between a string's quotes. None: there are not so many.
+    /// The bytes of a symbol: a built-in name, a name, or what stands between a string's quotes. None: there are not so many.
     pub fn symbol(&self, symbol: u32) -> Option<&'a [u8]> {
-        let &[start, end] = self.symbols.get(symbol as usize)?;
-        self.text.get(start as usize..end as usize)
+        name(self.builtins, self.text, self.symbols.as_flattened(), self.symbols.len() as u32, symbol)
     }
 
     /// The row of this number. None: there are not so many.
@@ -375,7 +377,7 @@ mod tests {
     fn outward(kinds: [u32; 3], parents: [u32; 3], from: u32) -> Vec<u32> {
         let row = |i: usize| [kinds[i], 0, 0, 0, 0, 0, 0, 0, 0, parents[i]];
         let nodes = [row(0), row(1), row(2), [14; NODE_WIDTH]].concat(); // the room has a row more
-        let tree = Tree::new(b"", (&nodes, 3), (&[], 0), (&[], 0));
+        let tree = Tree::new(Builtins::NONE, b"", (&nodes, 3), (&[], 0), (&[], 0));
         tree.outward(from).map(|row| row.number).collect()
     }
 

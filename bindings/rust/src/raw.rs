@@ -18,6 +18,22 @@ unsafe extern "C" {
         nodes: *mut u32, nodes_len: usize, links: *mut u32, links_len: usize, symbols: *mut u32, symbols_len: usize,
         scratch: *mut u32, scratch_len: usize, answer: *mut u32, answer_len: usize,
     ) -> u32;
+    fn kaori_parse_with(
+        names: *const u8, names_len: usize, name_rows: *const u32, name_rows_len: usize,
+        text: *const u8, text_len: usize, tokens: *const u32, tokens_len: usize, limit: u32,
+        nodes: *mut u32, nodes_len: usize, links: *mut u32, links_len: usize, symbols: *mut u32, symbols_len: usize,
+        scratch: *mut u32, scratch_len: usize, answer: *mut u32, answer_len: usize,
+    ) -> u32;
+    fn kaori_read_with(
+        names: *const u8, names_len: usize, name_rows: *const u32, name_rows_len: usize,
+        text: *const u8, text_len: usize, tokens: *mut u32, tokens_len: usize, limit: u32,
+        nodes: *mut u32, nodes_len: usize, links: *mut u32, links_len: usize, symbols: *mut u32, symbols_len: usize,
+        scratch: *mut u32, scratch_len: usize, answer: *mut u32, answer_len: usize,
+    ) -> u32;
+    fn kaori_name(
+        names: *const u8, names_len: usize, text: *const u8, text_len: usize, symbols: *const u32, symbols_len: usize,
+        count: u32, built: u32, symbol: u32, answer: *mut u32, answer_len: usize,
+    ) -> u32;
     fn kaori_message(code: u32, expected: u32, found: u32, room: *mut u8, room_len: usize) -> usize;
     fn kaori_place(text: *const u8, text_len: usize, offset: usize, answer: *mut u32, answer_len: usize) -> u32;
 }
@@ -50,6 +66,53 @@ pub fn read(
             text.as_ptr(), text.len(), tokens.as_mut_ptr(), tokens.len(), limit,
             nodes.as_mut_ptr(), nodes.len(), links.as_mut_ptr(), links.len(), symbols.as_mut_ptr(), symbols.len(),
             scratch.as_mut_ptr(), scratch.len(), answer.as_mut_ptr(), answer.len(),
+        )
+    }
+}
+
+#[rustfmt::skip]
+#[allow(clippy::too_many_arguments)]
+pub fn parse_with(
+    names: &[u8], name_rows: &[u32], text: &[u8], tokens: &[u32], limit: u32,
+    nodes: &mut [u32], links: &mut [u32], symbols: &mut [u32], scratch: &mut [u32], answer: &mut [u32; 8],
+) -> u32 {
+    // SAFETY: as the module says.
+    unsafe {
+        kaori_parse_with(
+            names.as_ptr(), names.len(), name_rows.as_ptr(), name_rows.len(),
+            text.as_ptr(), text.len(), tokens.as_ptr(), tokens.len(), limit,
+            nodes.as_mut_ptr(), nodes.len(), links.as_mut_ptr(), links.len(), symbols.as_mut_ptr(), symbols.len(),
+            scratch.as_mut_ptr(), scratch.len(), answer.as_mut_ptr(), answer.len(),
+        )
+    }
+}
+
+#[rustfmt::skip]
+#[allow(clippy::too_many_arguments)]
+pub fn read_with(
+    names: &[u8], name_rows: &[u32], text: &[u8], tokens: &mut [u32], limit: u32,
+    nodes: &mut [u32], links: &mut [u32], symbols: &mut [u32], scratch: &mut [u32], answer: &mut [u32; 8],
+) -> u32 {
+    // SAFETY: as the module says.
+    unsafe {
+        kaori_read_with(
+            names.as_ptr(), names.len(), name_rows.as_ptr(), name_rows.len(),
+            text.as_ptr(), text.len(), tokens.as_mut_ptr(), tokens.len(), limit,
+            nodes.as_mut_ptr(), nodes.len(), links.as_mut_ptr(), links.len(), symbols.as_mut_ptr(), symbols.len(),
+            scratch.as_mut_ptr(), scratch.len(), answer.as_mut_ptr(), answer.len(),
+        )
+    }
+}
+
+#[rustfmt::skip]
+pub fn name(
+    names: &[u8], text: &[u8], symbols: &[u32], count: u32, built: u32, symbol: u32, answer: &mut [u32; 3],
+) -> u32 {
+    // SAFETY: as the module says.
+    unsafe {
+        kaori_name(
+            names.as_ptr(), names.len(), text.as_ptr(), text.len(), symbols.as_ptr(), symbols.len(),
+            count, built, symbol, answer.as_mut_ptr(), answer.len(),
         )
     }
 }

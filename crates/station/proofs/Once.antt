@@ -7,18 +7,20 @@ use lib.ListN.{length}
 use Rattle.diagnostics.specs.Message.{text-of}
 use Rattle.diagnostics.proofs.Messages.{one-message as one-text}
 use Rattle.diagnostics.proofs.Places.{one-place as one-line}
+use Rattle.grammar.specs.Builtin.{Builtins}
 use Rattle.grammar.specs.Room.{Rooms}
+use Rattle.naming.proofs.Telling.{one-place as one-name-place}
 use Rattle.reader.proofs.Texts.{one-read as one-answer}
-use Rattle.station.specs.Exports.{listed, placed, put, Parses, Reads-text, Places, Writes}
+use Rattle.station.specs.Exports.{listed, placed, name-placed, put, Parses, Reads-text, Places, Writes, Names-place}
 use Rattle.syntax.proofs.Promises.{one-parse as one-tree}
 
-pub one-parse : {text ts : List ℕ} {limit : ℕ} {before after after′ : Rooms} {room out out′ : List ℕ} {r r′ : ℕ} → Parses text ts limit before room after out r → Parses text ts limit before room after′ out′ r′ → (r ≡ r′) × (out ≡ out′) × (after ≡ after′)
+pub one-parse : {names : Builtins} {text ts : List ℕ} {limit : ℕ} {before after after′ : Rooms} {room out out′ : List ℕ} {r r′ : ℕ} → Parses names text ts limit before room after out r → Parses names text ts limit before room after′ out′ r′ → (r ≡ r′) × (out ≡ out′) × (after ≡ after′)
 one-parse (Parses.short h) (Parses.short i) = (refl, refl, refl)
 one-parse (Parses.short h) (Parses.parsed i q) = absurd (omega arith)
 one-parse (Parses.parsed h p) (Parses.short i) = absurd (omega arith)
 one-parse {room = room} (Parses.parsed h p) (Parses.parsed i q) = let (e, f) = one-tree p q in (ap (λ a. a .code) e, ap (λ a. put (listed a) room) e, f)
 
-pub one-read : {text : List ℕ} {limit : ℕ} {list tokens tokens′ : List ℕ} {before after after′ : Rooms} {room out out′ : List ℕ} {r r′ : ℕ} → Reads-text text limit list before room tokens after out r → Reads-text text limit list before room tokens′ after′ out′ r′ → (r ≡ r′) × (out ≡ out′) × (tokens ≡ tokens′) × (after ≡ after′)
+pub one-read : {names : Builtins} {text : List ℕ} {limit : ℕ} {list tokens tokens′ : List ℕ} {before after after′ : Rooms} {room out out′ : List ℕ} {r r′ : ℕ} → Reads-text names text limit list before room tokens after out r → Reads-text names text limit list before room tokens′ after′ out′ r′ → (r ≡ r′) × (out ≡ out′) × (tokens ≡ tokens′) × (after ≡ after′)
 one-read (Reads-text.short h) (Reads-text.short i) = (refl, refl, refl, refl)
 one-read (Reads-text.short h) (Reads-text.read i q) = absurd (omega arith)
 one-read (Reads-text.read h p) (Reads-text.short i) = absurd (omega arith)
@@ -29,6 +31,12 @@ one-place (Places.short h) (Places.short i) = (refl, refl)
 one-place (Places.short h) (Places.place i q) = absurd (omega arith)
 one-place (Places.place h p) (Places.short i) = absurd (omega arith)
 one-place {room = room} (Places.place h p) (Places.place i q) = let e = one-line p q in (ap (λ a. a .code) e, ap (λ a. put (placed a) room) e)
+
+pub one-name : {names text symbols : List ℕ} {count built symbol : ℕ} {room out out′ : List ℕ} {r r′ : ℕ} → Names-place names text symbols count built symbol room out r → Names-place names text symbols count built symbol room out′ r′ → (r ≡ r′) × (out ≡ out′)
+one-name (Names-place.short h) (Names-place.short i) = (refl, refl)
+one-name (Names-place.short h) (Names-place.place i q) = absurd (omega arith)
+one-name (Names-place.place h p) (Names-place.short i) = absurd (omega arith)
+one-name {room = room} (Names-place.place h p) (Names-place.place i q) = let e = one-name-place p q in (ap (λ a. a .code) e, ap (λ a. put (name-placed a) room) e)
 
 pub one-message : {code expected found : ℕ} {before after after′ : List ℕ} {r r′ : ℕ} → Writes code expected found before after r → Writes code expected found before after′ r′ → (r ≡ r′) × (after ≡ after′)
 one-message (Writes.written p) (Writes.written q) = let (e, f) = one-text p q in (ap (λ m. m .length) e, f)

@@ -1,4 +1,4 @@
--- What the exported functions answer: what `parse`, `read`, `message` and `place` answer. C gets an answer of more than one number at the start of a lent room, the
+-- What the exported functions answer: what `parse_with`, `read_with`, `message` and the two `place` answer. C gets an answer of more than one number at the start of a lent room, the
 -- numbers in document 01's order, and its code once more as the value of the call. Where that room is too short the code is 13, and nothing else is done.
 use Prim.Native.Nat.{ℕ, _≤_, _<_}
 use mathlib.Core.List.{List, [], _∷_, _++_}
@@ -7,7 +7,10 @@ use Rattle.diagnostics.specs.Line.{Placed}
 use Rattle.diagnostics.specs.Message.{Message-given}
 use Rattle.diagnostics.specs.declared.Message.{Message}
 use Rattle.diagnostics.specs.declared.Place.{Place}
+use Rattle.grammar.specs.Builtin.{Builtins}
 use Rattle.grammar.specs.Room.{Rooms}
+use Rattle.naming.specs.Name.{Place-told}
+use Rattle.naming.specs.declared.PlaceAnswer.{PlaceAnswer}
 use Rattle.reader.specs.Answered.{Read}
 use Rattle.syntax.specs.Parsed.{Parsed}
 use Rattle.syntax.specs.declared.Numbers.{Numbers}
@@ -24,13 +27,13 @@ abbrev pub put : (numbers room : List ℕ) → List ℕ
 put numbers room = numbers ++ drop (length numbers) room
 
 -- room: for the answer, before the call; then the four rooms, the room for the answer, and the code after it
-pub data Parses (text ts : List ℕ) (limit : ℕ) (before : Rooms) (room : List ℕ) : Rooms → List ℕ → ℕ → Type 0 where
-  short : length room < 8 → Parses text ts limit before room before room 13
-  parsed : {after : Rooms} {a : Numbers} → 8 ≤ length room → Parsed text ts limit before after a → Parses text ts limit before room after (put (listed a) room) (a .code)
+pub data Parses (names : Builtins) (text ts : List ℕ) (limit : ℕ) (before : Rooms) (room : List ℕ) : Rooms → List ℕ → ℕ → Type 0 where
+  short : length room < 8 → Parses names text ts limit before room before room 13
+  parsed : {after : Rooms} {a : Numbers} → 8 ≤ length room → Parsed names text ts limit before after a → Parses names text ts limit before room after (put (listed a) room) (a .code)
 
-pub data Reads-text (text : List ℕ) (limit : ℕ) (list : List ℕ) (before : Rooms) (room : List ℕ) : List ℕ → Rooms → List ℕ → ℕ → Type 0 where
-  short : length room < 8 → Reads-text text limit list before room list before room 13
-  read : {tokens : List ℕ} {after : Rooms} {a : Numbers} → 8 ≤ length room → Read text limit list tokens before after a → Reads-text text limit list before room tokens after (put (listed a) room) (a .code)
+pub data Reads-text (names : Builtins) (text : List ℕ) (limit : ℕ) (list : List ℕ) (before : Rooms) (room : List ℕ) : List ℕ → Rooms → List ℕ → ℕ → Type 0 where
+  short : length room < 8 → Reads-text names text limit list before room list before room 13
+  read : {tokens : List ℕ} {after : Rooms} {a : Numbers} → 8 ≤ length room → Read names text limit list tokens before after a → Reads-text names text limit list before room tokens after (put (listed a) room) (a .code)
 
 pub data Places (text : List ℕ) (offset : ℕ) (room : List ℕ) : List ℕ → ℕ → Type 0 where
   short : length room < 3 → Places text offset room room 13
@@ -39,3 +42,11 @@ pub data Places (text : List ℕ) (offset : ℕ) (room : List ℕ) : List ℕ �
 -- the length alone: it is 0 where the text's room has under 52 bytes
 pub data Writes (code expected found : ℕ) (before after : List ℕ) : ℕ → Type 0 where
   written : {m : Message} → Message-given code expected found before after m → Writes code expected found before after (m .length)
+
+-- of a name's place
+abbrev pub name-placed : PlaceAnswer → List ℕ
+name-placed p = p .code ∷ p .start ∷ p .end ∷ []
+
+pub data Names-place (names text symbols : List ℕ) (count built symbol : ℕ) (room : List ℕ) : List ℕ → ℕ → Type 0 where
+  short : length room < 3 → Names-place names text symbols count built symbol room room 13
+  place : {p : PlaceAnswer} → 3 ≤ length room → Place-told names text symbols count built symbol p → Names-place names text symbols count built symbol room (put (name-placed p) room) (p .code)

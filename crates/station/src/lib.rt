@@ -1,14 +1,17 @@
-// What a station links: `parse`, `read`, the message of a refusal and the line of a place, for C and Rust to call, over numbers and slices alone. None has a
-// `requires`. A slice is a pointer and a length to C, in this order.
+// What a station links: `parse` and `read`, both beside built-in names too, the message of a refusal, the line of a place and the place of a name, for C and Rust to
+// call, over numbers and slices alone. None has a `requires`. A slice is a pointer and a length to C, in this order.
 use diagnostics::line::place;
 use diagnostics::text::message;
 use reader::read;
+use reader::read_with;
 use syntax::Numbers;
 use syntax::parse;
+use syntax::parse_with;
 ghost use Prim.Native.Nat.{_≤_};
 ghost use mathlib.Core.Path.{_≡_};
 ghost use lib.ListN.{length};
-ghost use Rattle.station.specs.Exports.{listed, put, Parses, Reads-text, Places, Writes};
+ghost use Rattle.grammar.specs.Builtin.{builtins as names-in, none};
+ghost use Rattle.station.specs.Exports.{listed, put, Parses, Reads-text, Places, Writes, Names-place};
 ghost use Rattle.syntax.specs.Parsed.{rooms};
 
 // Puts the eight numbers of an answer at the start of a room.
@@ -39,12 +42,47 @@ pub extern "C" fn kaori_parse(
     scratch: &mut [u32],
     answer: &mut [u32],
 ) -> u32
-    ensures { λ r. ⌜ Parses (now (text .entry)) (now (tokens .entry)) limit (rooms (now (nodes .entry)) (now (links .entry)) (now (symbols .entry)) (now (scratch .entry))) (now (answer .entry)) (rooms (now (nodes .exit)) (now (links .exit)) (now (symbols .exit)) (now (scratch .exit))) (now (answer .exit)) r ⌝ }
+    ensures { λ r. ⌜ Parses none (now (text .entry)) (now (tokens .entry)) limit (rooms (now (nodes .entry)) (now (links .entry)) (now (symbols .entry)) (now (scratch .entry))) (now (answer .entry)) (rooms (now (nodes .exit)) (now (links .exit)) (now (symbols .exit)) (now (scratch .exit))) (now (answer .exit)) r ⌝ }
 {
     if answer.len() < 8 {
         return 13;
     }
     let a = parse(text, tokens, limit, nodes, links, symbols, scratch);
+    list(a, answer);
+    a.code
+}
+
+// Reads such a script beside built-in names: `parse_with`.
+// Ruled out: the script's text in the place of the names'; an answer beside no names.
+#[no_mangle]
+pub extern "C" fn kaori_parse_with(
+    names: &[u8],
+    rows: &[u32],
+    text: &[u8],
+    tokens: &[u32],
+    limit: u32,
+    nodes: &mut [u32],
+    links: &mut [u32],
+    symbols: &mut [u32],
+    scratch: &mut [u32],
+    answer: &mut [u32],
+) -> u32
+    ensures { λ r. ⌜ Parses (names-in (now (names .entry)) (now (rows .entry))) (now (text .entry)) (now (tokens .entry)) limit (rooms (now (nodes .entry)) (now (links .entry)) (now (symbols .entry)) (now (scratch .entry))) (now (answer .entry)) (rooms (now (nodes .exit)) (now (links .exit)) (now (symbols .exit)) (now (scratch .exit))) (now (answer .exit)) r ⌝ }
+{
+    if answer.len() < 8 {
+        return 13;
+    }
+    let a = parse_with(
+        names,
+        rows,
+        text,
+        tokens,
+        limit,
+        nodes,
+        links,
+        symbols,
+        scratch,
+    );
     list(a, answer);
     a.code
 }
@@ -62,12 +100,47 @@ pub extern "C" fn kaori_read(
     scratch: &mut [u32],
     answer: &mut [u32],
 ) -> u32
-    ensures { λ r. ⌜ Reads-text (now (text .entry)) limit (now (tokens .entry)) (rooms (now (nodes .entry)) (now (links .entry)) (now (symbols .entry)) (now (scratch .entry))) (now (answer .entry)) (now (tokens .exit)) (rooms (now (nodes .exit)) (now (links .exit)) (now (symbols .exit)) (now (scratch .exit))) (now (answer .exit)) r ⌝ }
+    ensures { λ r. ⌜ Reads-text none (now (text .entry)) limit (now (tokens .entry)) (rooms (now (nodes .entry)) (now (links .entry)) (now (symbols .entry)) (now (scratch .entry))) (now (answer .entry)) (now (tokens .exit)) (rooms (now (nodes .exit)) (now (links .exit)) (now (symbols .exit)) (now (scratch .exit))) (now (answer .exit)) r ⌝ }
 {
     if answer.len() < 8 {
         return 13;
     }
     let a = read(text, tokens, limit, nodes, links, symbols, scratch);
+    list(a, answer);
+    a.code
+}
+
+// Reads such a script beside built-in names: `read_with`.
+// Ruled out: the script's text in the place of the names'; an answer beside no names.
+#[no_mangle]
+pub extern "C" fn kaori_read_with(
+    names: &[u8],
+    rows: &[u32],
+    text: &[u8],
+    tokens: &mut [u32],
+    limit: u32,
+    nodes: &mut [u32],
+    links: &mut [u32],
+    symbols: &mut [u32],
+    scratch: &mut [u32],
+    answer: &mut [u32],
+) -> u32
+    ensures { λ r. ⌜ Reads-text (names-in (now (names .entry)) (now (rows .entry))) (now (text .entry)) limit (now (tokens .entry)) (rooms (now (nodes .entry)) (now (links .entry)) (now (symbols .entry)) (now (scratch .entry))) (now (answer .entry)) (now (tokens .exit)) (rooms (now (nodes .exit)) (now (links .exit)) (now (symbols .exit)) (now (scratch .exit))) (now (answer .exit)) r ⌝ }
+{
+    if answer.len() < 8 {
+        return 13;
+    }
+    let a = read_with(
+        names,
+        rows,
+        text,
+        tokens,
+        limit,
+        nodes,
+        links,
+        symbols,
+        scratch,
+    );
     list(a, answer);
     a.code
 }
@@ -95,5 +168,39 @@ pub extern "C" fn kaori_place(text: &[u8], offset: usize, answer: &mut [u32]) ->
     answer[0] = p.code;
     answer[1] = p.line;
     answer[2] = p.column;
+    p.code
+}
+
+// The numbers of a name's place.
+const NAME_PLACE: usize = 3;
+
+// Where the name of a symbol starts and ends in its text, the built-in names' for a symbol below `built` and else the script's: `naming::place`.
+// Ruled out: start and end in each other's place; the number of built-in names in the place of the symbols'.
+#[no_mangle]
+pub extern "C" fn kaori_name<'a>(
+    names: &'a [u8],
+    text: &'a [u8],
+    symbols: &[u32],
+    count: u32,
+    built: u32,
+    symbol: u32,
+    answer: &mut [u32],
+) -> u32
+    ensures { λ r. ⌜ Names-place (now (names .entry)) (now (text .entry)) (now (symbols .entry)) count built symbol (now (answer .entry)) (now (answer .exit)) r ⌝ }
+{
+    if answer.len() < NAME_PLACE {
+        return 13;
+    }
+    let p = naming::place(
+        names,
+        text,
+        symbols,
+        count as usize,
+        built as usize,
+        symbol as usize,
+    );
+    answer[0] = p.code;
+    answer[1] = p.start;
+    answer[2] = p.end;
     p.code
 }
