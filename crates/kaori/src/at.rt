@@ -57,22 +57,37 @@ fn innermost(covers: &[u32], root: u32, offset: usize) -> u32 {
     root
 }
 
-// A row's name, with its operator where it has one. The root is the script.
-fn put_role(nodes: &[u32], row: u32, root: u32, out: &mut [u8; 4096], at: usize) -> usize
+// What a row is. The root is the script.
+fn put_role(
+    nodes: &[u32],
+    row: u32,
+    root: u32,
+    built: usize,
+    out: &mut [u8; 4096],
+    at: usize,
+) -> usize
     requires { ⌜ at ≤ 4096 ⌝ }
     ensures { λ r. ⌜ r ≤ 4096 ⌝ }
 {
     if row == root {
         return put(b"Script", out, at);
     }
-    put_node(nodes, row, out, at)
+    put_node(nodes, row, built, out, at)
 }
 
 // The line of a row.
-fn line(text: &[u8], nodes: &[u32], covers: &[u32], out: &mut [u8; 4096], row: u32, root: u32) {
+fn line(
+    text: &[u8],
+    nodes: &[u32],
+    covers: &[u32],
+    built: usize,
+    out: &mut [u8; 4096],
+    row: u32,
+    root: u32,
+) {
     let part = part_of(covers, row);
     let led = lead(text, part, 0, out);
-    let named = put_role(nodes, row, root, out, led);
+    let named = put_role(nodes, row, root, built, out, led);
     finish(text, part, out, named);
 }
 
@@ -81,13 +96,14 @@ fn outward(
     text: &[u8],
     nodes: &[u32],
     covers: &[u32],
+    built: usize,
     out: &mut [u8; 4096],
     first: u32,
     root: u32,
 ) {
     let mut row = first;
     while row <= root {
-        line(text, nodes, covers, out, row, root);
+        line(text, nodes, covers, built, out, row, root);
         let above = node(nodes, row, PARENT as u32);
         if above <= row {
             return;
@@ -101,10 +117,11 @@ pub(crate) fn show_at(
     text: &[u8],
     nodes: &[u32],
     covers: &[u32],
+    built: usize,
     out: &mut [u8; 4096],
     root: u32,
     offset: usize,
 ) {
     let first = innermost(covers, root, offset);
-    outward(text, nodes, covers, out, first, root);
+    outward(text, nodes, covers, built, out, first, root);
 }

@@ -5,6 +5,7 @@ use children::below;
 use children::child;
 use children::node;
 use children::places;
+use token::kinds;
 ghost use Prim.Native.Nat.{_+_, _≤_, _<_};
 ghost use Rattle.kaori.specs.Noted.{Noted};
 
@@ -80,6 +81,9 @@ struct Stretch {
     shut: u32,
 }
 
+// No token's kind.
+const NO_KIND: u32 = 255;
+
 // The kind of a token where it lies in a stretch, and no token's kind where it does not.
 fn kind_in(tokens: &[u32], at: u32, s: Stretch) -> u32 {
     let i = 3 * (at as usize);
@@ -90,20 +94,20 @@ fn kind_in(tokens: &[u32], at: u32, s: Stretch) -> u32 {
             }
         }
     }
-    255
+    NO_KIND
 }
 
-// Counts one token of a stretch. Any kind but those of the parentheses, 17 and 18, changes nothing.
+// Counts one token of a stretch. Any kind but those of the parentheses changes nothing.
 fn counted(s: Stretch, kind: u32) -> Stretch
     requires { ⌜ (s .open < 4294967295) × (s .shut < 4294967295) ⌝ }
     ensures { λ r. ⌜ (r .open ≤ s .open + 1) × (r .shut ≤ s .shut + 1) ⌝ }
 {
     let mut next = s;
-    if kind == 17 {
+    if kind == kinds::LEFT_PAREN {
         next.open = s.open + 1;
         return next;
     }
-    if kind == 18 {
+    if kind == kinds::RIGHT_PAREN {
         if s.open == 0 {
             next.shut = s.shut + 1;
             return next;
@@ -137,7 +141,7 @@ fn closed_by(tokens: &[u32], at: u32, s: Stretch) -> Stretch {
         return s;
     }
     if i + 2 < tokens.len() {
-        if tokens[i] == 18 {
+        if tokens[i] == kinds::RIGHT_PAREN {
             if tokens[i + 1] >= s.end {
                 let mut next = s;
                 next.end = tokens[i + 2];
@@ -156,7 +160,7 @@ fn opened_by(tokens: &[u32], at: u32, s: Stretch) -> Stretch {
         return s;
     }
     if i + 2 < tokens.len() {
-        if tokens[i] == 17 {
+        if tokens[i] == kinds::LEFT_PAREN {
             if tokens[i + 2] <= s.start {
                 let mut next = s;
                 next.start = tokens[i + 1];

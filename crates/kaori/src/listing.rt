@@ -1,5 +1,8 @@
 // The listing of the program `rows`, line by line.
 use crate::page::write;
+use ast::LINK_WIDTH;
+use ast::NODE_WIDTH;
+use builtins::NAME_WIDTH;
 use spelling::display::put;
 use wire::output::numbers;
 use wire::output::refused;
@@ -28,22 +31,16 @@ pub(crate) fn list_rows(nodes: &[u32], links: &[u32], symbols: &[u32], n: u32, l
     let all = put(b"\n", &mut room, told);
     write(&room, all);
     let a = n as usize;
-    if a <= 4096 {
-        if 10 * a <= nodes.len() {
-            lines(b"", 10, nodes, a);
-        }
+    if NODE_WIDTH * a <= nodes.len() {
+        lines(b"", NODE_WIDTH, nodes, a);
     }
     let b = l as usize;
-    if b <= 4096 {
-        if 3 * b <= links.len() {
-            lines(b"link ", 3, links, b);
-        }
+    if LINK_WIDTH * b <= links.len() {
+        lines(b"link ", LINK_WIDTH, links, b);
     }
     let c = s as usize;
-    if c <= 4096 {
-        if 2 * c <= symbols.len() {
-            lines(b"sym ", 2, symbols, c);
-        }
+    if NAME_WIDTH * c <= symbols.len() {
+        lines(b"sym ", NAME_WIDTH, symbols, c);
     }
 }
 

@@ -1,7 +1,9 @@
 // The command `kaori`, for those who write scripts: what a script reads as, what is wrong with it, and what stands at a place of it.
 mod at;
+mod builtin;
 mod cover;
 mod listing;
+mod load;
 mod page;
 mod reads;
 mod report;
@@ -10,13 +12,20 @@ mod tree;
 mod words;
 
 use at::decimal;
+use builtin::ROWS;
+use builtin::list;
+use builtins::MOST;
+use builtins::NAME_WIDTH;
 use check::same;
-use libc::STDERR_FILENO;
 use libc::STDOUT_FILENO;
+use load::complain;
+use load::fail;
+use load::load;
 use page::put_line;
 use script::Wish;
 use script::script;
 ghost use Prim.Native.Nat.{_≤_};
+ghost use lib.ListN.{length};
 
 fn help() {
     io::write_all(STDOUT_FILENO, b"kaori shows how Kaori reads a script.\n\n");
@@ -42,68 +51,48 @@ fn help() {
     );
     io::write_all(
         STDOUT_FILENO,
+        b"  kaori --names FILE ..       any of these with built-in names, a line each in FILE; the tree marks them\n",
+    );
+    io::write_all(
+        STDOUT_FILENO,
         b"  kaori help                  this text\n\n",
     );
     io::write_all(
         STDOUT_FILENO,
-        b"A script has at most 65,536 bytes and 4,095 tokens, and is nested at most 64 deep.\n",
+        b"A script has at most 65,536 bytes and 4,095 tokens, and is nested at most 64 deep. There are at most 64 built-in names.\n",
     );
     io::write_all(
         STDOUT_FILENO,
-        b"Exit status: 0 if all scripts are good, 1 if one is not, 2 if a file cannot be read or has no such place.\n",
+        b"Exit status: 0 if all scripts are good, 1 if one is not, 2 if a file cannot be read, has no such place or lists no right names.\n",
     );
 }
 
-// One line on standard error: a file or a word, and what is wrong with it.
-fn complain(what: &[u8], why: &[u8]) {
-    io::write_all(STDERR_FILENO, b"kaori: ");
-    io::write_all(STDERR_FILENO, what);
-    io::write_all(STDERR_FILENO, why);
-    io::write_all(STDERR_FILENO, b"\n");
-}
-
-// The same with the system's reason.
-fn fail(path: &[u8]) {
-    io::write_all(STDERR_FILENO, b"kaori: ");
-    os::fail(path);
-}
-
-// The script in an open file. A read that fails and the end of the file both end `read_full`; one more read tells them apart, and whether the file is too
-// large.
-fn open_file(wish: Wish, path: &[u8], fd: i32, out: &mut [u8; 4096]) -> u32
+// The script in a file. The answer is the status.
+fn file(names: &[u8], rows: &[u32], wish: Wish, path: &[u8], out: &mut [u8; 4096]) -> u32
     ensures { λ r. ⌜ r ≤ 2 ⌝ }
 {
     let mut text = io::large_buffer();
-    let n = io::read_full(fd, &mut text);
-    let mut more = [0u8; 1];
-    let got = libc::read(fd, &mut more);
-    if got < 0 {
-        fail(path);
+    let loaded = load(
+        path,
+        b": file too large: a script has at most 65,536 bytes",
+        &mut text,
+    );
+    if !loaded.whole {
         return 2;
     }
-    if got > 0 {
-        complain(path, b": file too large: a script has at most 65,536 bytes");
-        return 2;
-    }
-    script(wish, path, &text[..n], out)
-}
-
-// The script in a file. The answer is the status.
-fn file(wish: Wish, path: &[u8], out: &mut [u8; 4096]) -> u32
-    ensures { λ r. ⌜ r ≤ 2 ⌝ }
-{
-    let fd = os::open_read(path);
-    if fd < 0 {
-        fail(path);
-        return 2;
-    }
-    let status = open_file(wish, path, fd, out);
-    libc::close(fd);
-    status
+    let n = loaded.size;
+    script(names, rows, wish, path, &text[..n], out)
 }
 
 // The file that an argument names. Where there are several files, the name stands above what is shown of one.
-fn argument(wish: Wish, i: usize, many: bool, out: &mut [u8; 4096]) -> u32
+fn argument(
+    names: &[u8],
+    rows: &[u32],
+    wish: Wish,
+    i: usize,
+    many: bool,
+    out: &mut [u8; 4096],
+) -> u32
     ensures { λ r. ⌜ r ≤ 2 ⌝ }
 {
     let mut path = io::buffer();
@@ -118,7 +107,7 @@ fn argument(wish: Wish, i: usize, many: bool, out: &mut [u8; 4096]) -> u32
             put_line(&path[..n], out);
         }
     }
-    file(wish, &path[..n], out)
+    file(names, rows, wish, &path[..n], out)
 }
 
 // The greater of two statuses.
@@ -133,7 +122,7 @@ fn worse(a: u32, b: u32) -> u32
 }
 
 // The files that the arguments from `first` on name.
-fn files(wish: Wish, first: usize) -> u32
+fn files(names: &[u8], rows: &[u32], wish: Wish, first: usize) -> u32
     ensures { λ r. ⌜ r ≤ 2 ⌝ }
 {
     let mut out = io::buffer();
@@ -146,7 +135,7 @@ fn files(wish: Wish, first: usize) -> u32
     let mut status = 0;
     let mut i = first;
     while i < n {
-        status = worse(status, argument(wish, i, many, &mut out));
+        status = worse(status, argument(names, rows, wish, i, many, &mut out));
         i += 1;
     }
     status
@@ -168,8 +157,8 @@ fn number(i: usize) -> u32 {
 }
 
 // What stands at the place that three arguments name: a file, a line and a column.
-fn place(first: usize) -> u32
-    requires { ⌜ first ≤ 3 ⌝ }
+fn place(names: &[u8], rows: &[u32], first: usize) -> u32
+    requires { ⌜ first ≤ 5 ⌝ }
     ensures { λ r. ⌜ r ≤ 2 ⌝ }
 {
     let mut out = io::buffer();
@@ -186,6 +175,8 @@ fn place(first: usize) -> u32
         return 2;
     }
     argument(
+        names,
+        rows,
         Wish {
             report: true,
             tree: false,
@@ -201,12 +192,14 @@ fn place(first: usize) -> u32
 }
 
 // What a command asks for, and the files that follow it.
-fn command(word: &[u8], first: usize) -> u32
-    requires { ⌜ first ≤ 3 ⌝ }
+fn command(names: &[u8], rows: &[u32], word: &[u8], first: usize) -> u32
+    requires { ⌜ first ≤ 5 ⌝ }
     ensures { λ r. ⌜ r ≤ 2 ⌝ }
 {
     if same(word, b"check") {
         return files(
+            names,
+            rows,
             Wish {
                 report: true,
                 tree: false,
@@ -220,6 +213,8 @@ fn command(word: &[u8], first: usize) -> u32
     }
     if same(word, b"tree") {
         return files(
+            names,
+            rows,
             Wish {
                 report: true,
                 tree: true,
@@ -233,6 +228,8 @@ fn command(word: &[u8], first: usize) -> u32
     }
     if same(word, b"rows") {
         return files(
+            names,
+            rows,
             Wish {
                 report: false,
                 tree: false,
@@ -246,6 +243,8 @@ fn command(word: &[u8], first: usize) -> u32
     }
     if same(word, b"all") {
         return files(
+            names,
+            rows,
             Wish {
                 report: true,
                 tree: true,
@@ -258,7 +257,7 @@ fn command(word: &[u8], first: usize) -> u32
         );
     }
     if same(word, b"at") {
-        return place(first);
+        return place(names, rows, first);
     }
     if same(word, b"help") {
         help();
@@ -268,9 +267,9 @@ fn command(word: &[u8], first: usize) -> u32
     2
 }
 
-// The command that argument i names; help where there is none.
-fn run(i: usize) -> u32
-    requires { ⌜ i ≤ 2 ⌝ }
+// The command that argument i names, beside built-in names; help where there is none.
+fn run(names: &[u8], rows: &[u32], i: usize) -> u32
+    requires { ⌜ i ≤ 4 ⌝ }
     ensures { λ r. ⌜ r ≤ 2 ⌝ }
 {
     let mut word = io::buffer();
@@ -284,7 +283,64 @@ fn run(i: usize) -> u32
         fail(b"command");
         return 2;
     }
-    command(&word[..n], i + 1)
+    command(names, rows, &word[..n], i + 1)
+}
+
+// The command that argument i names, beside the names that a file's text lists.
+fn run_named(path: &[u8], text: &[u8], i: usize) -> u32
+    requires { ⌜ (length (now text) ≤ 65536) × (i ≤ 4) ⌝ }
+    ensures { λ r. ⌜ r ≤ 2 ⌝ }
+{
+    let mut rows: [u32; ROWS] = [0; ROWS];
+    let count = list(path, text, &mut rows);
+    if count > MOST {
+        return 2;
+    }
+    run(text, &rows[..NAME_WIDTH * count], i)
+}
+
+// The command after argument i, which names the file that lists the built-in names.
+fn run_beside(i: usize) -> u32
+    requires { ⌜ i ≤ 3 ⌝ }
+    ensures { λ r. ⌜ r ≤ 2 ⌝ }
+{
+    let mut path = io::buffer();
+    let n = os::arg(i, &mut path);
+    let error = os::errno();
+    if error == libc::EINVAL {
+        complain(b"--names", b" takes a file; see kaori help");
+        return 2;
+    }
+    if error != 0 {
+        fail(b"file name");
+        return 2;
+    }
+    let mut text = io::large_buffer();
+    let loaded = load(
+        &path[..n],
+        b": file too large: built-in names have at most 65,536 bytes",
+        &mut text,
+    );
+    if !loaded.whole {
+        return 2;
+    }
+    let size = loaded.size;
+    run_named(&path[..n], &text[..size], i + 1)
+}
+
+// The command from argument i on, which may be `--names`.
+fn start(i: usize) -> u32
+    requires { ⌜ i ≤ 2 ⌝ }
+    ensures { λ r. ⌜ r ≤ 2 ⌝ }
+{
+    let mut word = [0u8; 16];
+    let n = os::arg(i, &mut word);
+    if same(&word[..n], b"--names") {
+        return run_beside(i + 1);
+    }
+    let names: [u8; 0] = [0; 0];
+    let rows: [u32; 0] = [0; 0];
+    run(&names, &rows, i)
 }
 
 // A program answers no status. Where its first argument is `--status`, it writes the digit to descriptor 3 instead, for the script that starts it.
@@ -292,7 +348,7 @@ fn main() {
     let mut word = [0u8; 16];
     let n = os::arg(1, &mut word);
     if same(&word[..n], b"--status") {
-        let status = run(2);
+        let status = start(2);
         if status == 0 {
             io::write_all(3, b"0");
             return;
@@ -304,5 +360,5 @@ fn main() {
         io::write_all(3, b"2");
         return;
     }
-    run(1);
+    start(1);
 }

@@ -6,6 +6,7 @@ use crate::words::indent;
 use crate::words::put_sign;
 use crate::words::put_text;
 use ast::ABSENT;
+use ast::kinds;
 use children::Children;
 use children::below;
 use children::child;
@@ -183,20 +184,27 @@ fn opening(
     ensures { λ r. ⌜ r ≤ 4096 ⌝ }
 {
     match node(nodes, row, 0) {
-        4 => put(b"not ", out, at),
-        5 => put_sign(5, node(nodes, row, 3), out, at),
-        7 => put_binding(b"let ", text, nodes, row, out, at),
-        8 => put_binding(b"const ", text, nodes, row, out, at),
-        9 => put_binding(b"ref ", text, nodes, row, out, at),
-        10..=14 | 24..=25 => put_named(text, nodes, row, 1, out, at),
-        17 => put(b"#{", out, at),
-        18 => put_function(text, nodes, links, row, out, at),
-        19 => put_bars(text, nodes, links, row, out, at),
-        20 => put_byte(b'{', out, at),
-        21 => put(b"if ", out, at),
-        22 => put(b"while ", out, at),
-        23 => put(b"return ", out, at),
-        26 => put_import(text, nodes, links, row, out, at),
+        kinds::LOGICAL_NOT => put(b"not ", out, at),
+        kinds::UNARY => put_sign(kinds::UNARY, node(nodes, row, 3), out, at),
+        kinds::VARIABLE => put_binding(b"let ", text, nodes, row, out, at),
+        kinds::CONSTANT => put_binding(b"const ", text, nodes, row, out, at),
+        kinds::REF => put_binding(b"ref ", text, nodes, row, out, at),
+        kinds::IDENTIFIER..=kinds::NIL | kinds::BREAK..=kinds::CONTINUE => put_named(
+            text,
+            nodes,
+            row,
+            1,
+            out,
+            at,
+        ),
+        kinds::MAP => put(b"#{", out, at),
+        kinds::FUNCTION => put_function(text, nodes, links, row, out, at),
+        kinds::LAMBDA => put_bars(text, nodes, links, row, out, at),
+        kinds::BLOCK => put_byte(b'{', out, at),
+        kinds::IF => put(b"if ", out, at),
+        kinds::WHILE_LOOP => put(b"while ", out, at),
+        kinds::RETURN => put(b"return ", out, at),
+        kinds::IMPORT => put_import(text, nodes, links, row, out, at),
         _ => at,
     }
 }
@@ -204,7 +212,7 @@ fn opening(
 // Whether a node of this kind takes more than its own token and a chain: an operator, a lambda, a block or an `if`.
 fn is_compound(kind: u32) -> bool {
     match kind {
-        1..=5 | 19..=21 => true,
+        kinds::BINARY..=kinds::UNARY | kinds::LAMBDA..=kinds::IF => true,
         _ => false,
     }
 }
@@ -212,7 +220,7 @@ fn is_compound(kind: u32) -> bool {
 // Whether a node of this kind reaches as far to the right as it can: a lambda, a block or an `if`.
 fn is_open(kind: u32) -> bool {
     match kind {
-        19..=21 => true,
+        kinds::LAMBDA..=kinds::IF => true,
         _ => false,
     }
 }
@@ -220,14 +228,14 @@ fn is_open(kind: u32) -> bool {
 // Whether a child is put in parentheses: the operand of an operator, and the body of a lambda; and what a block or `=` follows, where it would not end there.
 fn is_grouped(kind: u32, place: usize, kid: u32) -> bool {
     match kind {
-        1..=5 => is_compound(kid),
-        19 => {
-            if kid == 20 {
+        kinds::BINARY..=kinds::UNARY => is_compound(kid),
+        kinds::LAMBDA => {
+            if kid == kinds::BLOCK {
                 return false;
             }
             is_compound(kid)
         }
-        6 | 21..=22 => {
+        kinds::ASSIGN | kinds::IF..=kinds::WHILE_LOOP => {
             if place == 0 {
                 return is_open(kid);
             }
@@ -295,21 +303,21 @@ fn before(
     ensures { λ r. ⌜ r ≤ 4096 ⌝ }
 {
     match kind {
-        1..=3 | 6 => {
+        kinds::BINARY..=kinds::LOGICAL_OR | kinds::ASSIGN => {
             if place == 0 {
                 return at;
             }
             put_between(kind, operator, out, at)
         }
-        15 => {
+        kinds::FUNCTION_CALL => {
             if place > 1 {
                 return put(b", ", out, at);
             }
             at
         }
-        17 => before_entry(place, out, at),
-        20 => new_line(level + 1, out, at),
-        21..=22 => before_block(place, out, at),
+        kinds::MAP => before_entry(place, out, at),
+        kinds::BLOCK => new_line(level + 1, out, at),
+        kinds::IF..=kinds::WHILE_LOOP => before_block(place, out, at),
         _ => at,
     }
 }
@@ -317,7 +325,7 @@ fn before(
 // Whether a statement of this kind stands without `;`: a function, a block, an `if` or a `while`.
 pub(crate) fn is_closed(kind: u32) -> bool {
     match kind {
-        18 | 20..=22 => true,
+        kinds::FUNCTION | kinds::BLOCK..=kinds::WHILE_LOOP => true,
         _ => false,
     }
 }
@@ -344,13 +352,13 @@ fn after(kind: u32, b: Children, place: usize, kid: u32, out: &mut [u8; 4096], a
     ensures { λ r. ⌜ r ≤ 4096 ⌝ }
 {
     match kind {
-        15 => {
+        kinds::FUNCTION_CALL => {
             if place == 0 {
                 return put_byte(b'(', out, at);
             }
             at
         }
-        20 => {
+        kinds::BLOCK => {
             if is_ended(b, place, kid) {
                 return put_byte(b';', out, at);
             }
@@ -388,18 +396,18 @@ fn closing(
     ensures { λ r. ⌜ r ≤ 4096 ⌝ }
 {
     match node(nodes, row, 0) {
-        15 => put_byte(b')', out, at),
-        16 => {
+        kinds::FUNCTION_CALL => put_byte(b')', out, at),
+        kinds::PROPERTY_ACCESS => {
             let dot = put_byte(b'.', out, at);
             put_named(text, nodes, row, 5, out, dot)
         }
-        17 => {
+        kinds::MAP => {
             if b.count == 0 {
                 return put_byte(b'}', out, at);
             }
             put(b" }", out, at)
         }
-        20 => close_block(b, level, out, at),
+        kinds::BLOCK => close_block(b, level, out, at),
         _ => at,
     }
 }
@@ -420,7 +428,7 @@ fn deeper(kind: u32, level: u32) -> u32
     requires { ⌜ level < 4294967295 ⌝ }
     ensures { λ r. ⌜ r ≤ level + 1 ⌝ }
 {
-    if kind == 20 {
+    if kind == kinds::BLOCK {
         return level + 1;
     }
     level

@@ -16,6 +16,7 @@ use crate::report::report;
 use crate::tree::tree;
 use crate::words::indent;
 use crate::words::put_first_line;
+use builtins::NAME_WIDTH;
 use children::below;
 use children::child;
 use children::node;
@@ -23,8 +24,9 @@ use children::places;
 use diagnostics::line::offset;
 use diagnostics::line::place;
 use libc::STDERR_FILENO;
-use reader::read;
+use reader::read_with;
 use syntax::Numbers;
+use token::kinds;
 use wire::output::found;
 ghost use Prim.Native.Nat.{_≤_};
 
@@ -63,13 +65,21 @@ fn show_reads(text: &[u8], nodes: &[u32], links: &[u32], out: &mut [u8; 4096], r
 }
 
 // A statement: where it starts, how it is read, and its tree.
-fn show(text: &[u8], nodes: &[u32], links: &[u32], covers: &[u32], out: &mut [u8; 4096], row: u32) {
+fn show(
+    text: &[u8],
+    nodes: &[u32],
+    links: &[u32],
+    covers: &[u32],
+    built: usize,
+    out: &mut [u8; 4096],
+    row: u32,
+) {
     put_line(b"", out);
     show_head(text, covers, out, row);
     put_line(b"  reads as", out);
     show_reads(text, nodes, links, out, row);
     put_line(b"  tree", out);
-    tree(text, nodes, links, covers, out, row, 0, false);
+    tree(text, nodes, links, covers, built, out, row, 0, false);
 }
 
 // The statements of a script, whose root is `root`.
@@ -78,6 +88,7 @@ fn show_all(
     nodes: &[u32],
     links: &[u32],
     covers: &[u32],
+    built: usize,
     out: &mut [u8; 4096],
     root: u32,
 ) {
@@ -87,7 +98,7 @@ fn show_all(
     while i < n {
         let kid = child(links, b, i);
         if kid < root {
-            show(text, nodes, links, covers, out, kid);
+            show(text, nodes, links, covers, built, out, kid);
         }
         i += 1;
     }
@@ -97,7 +108,7 @@ fn show_all(
 fn count(list: &[u32]) -> u32 {
     let mut n: u32 = 0;
     while n < 4096 {
-        if found(list, n) == 44 {
+        if found(list, n) == kinds::EOF {
             return n + 1;
         }
         n += 1;
@@ -112,6 +123,7 @@ fn show_read(
     nodes: &[u32],
     links: &[u32],
     rows: u32,
+    built: usize,
     out: &mut [u8; 4096],
 ) {
     if rows == 0 {
@@ -119,7 +131,7 @@ fn show_read(
     }
     let mut covers = two_each();
     cover(list, count(list), nodes, links, rows, &mut covers);
-    show_all(text, nodes, links, &covers, out, rows - 1);
+    show_all(text, nodes, links, &covers, built, out, rows - 1);
 }
 
 // One line on standard error: a file has no such place.
@@ -142,6 +154,7 @@ fn show_place(
     nodes: &[u32],
     links: &[u32],
     rows: u32,
+    built: usize,
     out: &mut [u8; 4096],
 ) -> u32
     ensures { λ r. ⌜ r ≤ 2 ⌝ }
@@ -156,7 +169,7 @@ fn show_place(
     }
     let mut covers = two_each();
     cover(list, count(list), nodes, links, rows, &mut covers);
-    show_at(text, nodes, &covers, out, rows - 1, here);
+    show_at(text, nodes, &covers, built, out, rows - 1, here);
     0
 }
 
@@ -196,16 +209,31 @@ fn ten_each() -> [u32; 40960] {
     [0; 40960]
 }
 
-// Reads a text, and shows what is asked for. The answer is the status: 0 for a good script, 1 for one that is refused, 2 for a place that it does not have.
-pub(crate) fn script(wish: Wish, path: &[u8], text: &[u8], out: &mut [u8; 4096]) -> u32
+// The symbol room has 64 rows more, for built-in names.
+fn symbol_room() -> [u32; 8320] {
+    [0; 8320]
+}
+
+// Reads a text beside built-in names, and shows what is asked for. The answer is the status: 0 for a good script, 1 for one that is refused, 2 for a place that it
+// does not have.
+pub(crate) fn script(
+    names: &[u8],
+    rows: &[u32],
+    wish: Wish,
+    path: &[u8],
+    text: &[u8],
+    out: &mut [u8; 4096],
+) -> u32
     ensures { λ r. ⌜ r ≤ 2 ⌝ }
 {
     let mut list = three_each();
     let mut nodes = ten_each();
     let mut links = three_each();
-    let mut symbols = two_each();
+    let mut symbols = symbol_room();
     let mut scratch = three_each();
-    let a = read(
+    let a = read_with(
+        names,
+        rows,
         text,
         &mut list,
         64,
@@ -218,11 +246,12 @@ pub(crate) fn script(wish: Wish, path: &[u8], text: &[u8], out: &mut [u8; 4096])
         show_refused(wish, path, text, &list, a, out);
         return 1;
     }
+    let built = rows.len() / NAME_WIDTH;
     if wish.line != 0 {
-        return show_place(wish, path, text, &list, &nodes, &links, a.nodes, out);
+        return show_place(wish, path, text, &list, &nodes, &links, a.nodes, built, out);
     }
     if wish.tree {
-        show_read(text, &list, &nodes, &links, a.nodes, out);
+        show_read(text, &list, &nodes, &links, a.nodes, built, out);
     }
     if wish.rows {
         list_rows(&nodes, &links, &symbols, a.nodes, a.links, a.symbols);

@@ -10,6 +10,7 @@ use crate::words::indent;
 use crate::words::put_excerpt;
 use crate::words::put_name;
 use crate::words::put_sign;
+use ast::kinds;
 use children::Children;
 use children::below;
 use children::child;
@@ -30,15 +31,42 @@ fn put_place(text: &[u8], offset: u32, out: &mut [u8; 4096], at: usize) -> usize
     put_number(here.column, out, colon)
 }
 
-// A node's name, with its operator where it has one.
-pub(crate) fn put_node(nodes: &[u32], row: u32, out: &mut [u8; 4096], at: usize) -> usize
+// Whether a row of this kind is a name, or declares one: the row's first number is then the name's symbol.
+fn is_named(kind: u32) -> bool {
+    match kind {
+        kinds::VARIABLE..=kinds::IDENTIFIER | kinds::FUNCTION => true,
+        _ => false,
+    }
+}
+
+// The mark of a built-in name: `built` of them stand before all other symbols. A string or a property that spells one has its symbol, and is no name.
+fn put_built_in(nodes: &[u32], row: u32, built: usize, out: &mut [u8; 4096], at: usize) -> usize
+    requires { ⌜ at ≤ 4096 ⌝ }
+    ensures { λ r. ⌜ r ≤ 4096 ⌝ }
+{
+    if is_named(node(nodes, row, 0)) {
+        if (node(nodes, row, 3) as usize) < built {
+            return put(b" (built-in)", out, at);
+        }
+    }
+    at
+}
+
+// What a node is: its kind, with its operator where it has one, or the mark of a built-in name.
+pub(crate) fn put_node(
+    nodes: &[u32],
+    row: u32,
+    built: usize,
+    out: &mut [u8; 4096],
+    at: usize,
+) -> usize
     requires { ⌜ at ≤ 4096 ⌝ }
     ensures { λ r. ⌜ r ≤ 4096 ⌝ }
 {
     let kind = node(nodes, row, 0);
     let named = put_name(kind, out, at);
-    if kind > 6 {
-        return named;
+    if kind > kinds::ASSIGN {
+        return put_built_in(nodes, row, built, out, named);
     }
     let gap = put_byte(b' ', out, named);
     put_sign(kind, node(nodes, row, 3), out, gap)
@@ -82,6 +110,7 @@ fn line(
     text: &[u8],
     nodes: &[u32],
     covers: &[u32],
+    built: usize,
     out: &mut [u8; 4096],
     row: u32,
     level: u32,
@@ -89,14 +118,14 @@ fn line(
 ) {
     let part = part_of(covers, row);
     let led = lead(text, part, level, out);
-    let named = put_node(nodes, row, out, led);
+    let named = put_node(nodes, row, built, out, led);
     let marked = put_tail(tail, out, named);
     finish(text, part, out, marked);
 }
 
 // Whether a place of a row is its tail: only a block has one.
 fn is_tail(nodes: &[u32], row: u32, b: Children, place: usize) -> bool {
-    if node(nodes, row, 0) == 20 {
+    if node(nodes, row, 0) == kinds::BLOCK {
         return place > linked(b);
     }
     false
@@ -108,6 +137,7 @@ pub(crate) fn tree(
     nodes: &[u32],
     links: &[u32],
     covers: &[u32],
+    built: usize,
     out: &mut [u8; 4096],
     row: u32,
     level: u32,
@@ -115,7 +145,7 @@ pub(crate) fn tree(
 )
     requires { ⌜ level + row < 4294967296 ⌝ }
 {
-    line(text, nodes, covers, out, row, level, tail);
+    line(text, nodes, covers, built, out, row, level, tail);
     let b = below(nodes, row);
     let n = places(b);
     let mut i = 0;
@@ -123,7 +153,7 @@ pub(crate) fn tree(
         let kid = child(links, b, i);
         if kid < row {
             let last = is_tail(nodes, row, b, i);
-            tree(text, nodes, links, covers, out, kid, level + 1, last);
+            tree(text, nodes, links, covers, built, out, kid, level + 1, last);
         }
         i += 1;
     }

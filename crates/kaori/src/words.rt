@@ -2,6 +2,7 @@
 use crate::page::pad;
 use crate::page::put;
 use crate::page::put_byte;
+use ast::kinds;
 use diagnostics::line::NEWLINE;
 use diagnostics::line::RETURN;
 use diagnostics::line::ends_line;
@@ -17,8 +18,16 @@ const NAMES: [u8; 392] = *b"\
     Nil           FunctionCall  PropertyAccessMap           Function      Lambda        Block         \
     If            WhileLoop     Return        Break         Continue      Import        ?             ";
 
+const NAME_CELL: usize = 14;
+
+const OTHER_KIND: usize = 27;
+
 // The signs of a Binary's operators, as ops.rs counts them: a cell of two bytes each, and the last for all others.
 const SIGNS: [u8; 24] = *b"+ - * / % ==!=> >=< <=? ";
+
+const SIGN_CELL: usize = 2;
+
+const OTHER_SIGN: usize = 11;
 
 // The bytes of a table from one place up to another, or up to the first blank.
 fn put_cell(table: &[u8], from: usize, upto: usize, out: &mut [u8; 4096], at: usize) -> usize
@@ -44,8 +53,8 @@ pub(crate) fn put_name(kind: u32, out: &mut [u8; 4096], at: usize) -> usize
     ensures { λ r. ⌜ r ≤ 4096 ⌝ }
 {
     let table = NAMES;
-    let from = 14 * least(kind as usize, 27);
-    put_cell(&table, from, from + 14, out, at)
+    let from = NAME_CELL * least(kind as usize, OTHER_KIND);
+    put_cell(&table, from, from + NAME_CELL, out, at)
 }
 
 // The sign of a Binary's operator.
@@ -54,8 +63,8 @@ fn put_binary(operator: u32, out: &mut [u8; 4096], at: usize) -> usize
     ensures { λ r. ⌜ r ≤ 4096 ⌝ }
 {
     let table = SIGNS;
-    let from = 2 * least(operator as usize, 11);
-    put_cell(&table, from, from + 2, out, at)
+    let from = SIGN_CELL * least(operator as usize, OTHER_SIGN);
+    put_cell(&table, from, from + SIGN_CELL, out, at)
 }
 
 // The sign of a node of this kind, whose first number is `operator`; nothing where it has none.
@@ -64,17 +73,17 @@ pub(crate) fn put_sign(kind: u32, operator: u32, out: &mut [u8; 4096], at: usize
     ensures { λ r. ⌜ r ≤ 4096 ⌝ }
 {
     match kind {
-        1 => put_binary(operator, out, at),
-        2 => put(b"and", out, at),
-        3 => put(b"or", out, at),
-        4 => put(b"not", out, at),
-        5 => {
+        kinds::BINARY => put_binary(operator, out, at),
+        kinds::LOGICAL_AND => put(b"and", out, at),
+        kinds::LOGICAL_OR => put(b"or", out, at),
+        kinds::LOGICAL_NOT => put(b"not", out, at),
+        kinds::UNARY => {
             if operator == 0 {
                 return put(b"-", out, at);
             }
             put(b"^", out, at)
         }
-        6 => put(b"=", out, at),
+        kinds::ASSIGN => put(b"=", out, at),
         _ => at,
     }
 }

@@ -1,5 +1,5 @@
 -- What the parts that print lines ask of their callers (the rows are there, and there is room for the lines) and answer.
-use Prim.Native.Nat.{ℕ, _+_, _*_, _≤_, _<_}
+use Prim.Native.Nat.{ℕ, _+_, _*_, _^_, _≤_, _<_}
 use mathlib.Core.List.{List}
 use lib.ListN.{length}
 use Rattle.grammar.specs.Room.{node-width, link-width, symbol-width}
@@ -18,7 +18,7 @@ line-size = 128
 pub record Line (lead : List ℕ) (width : ℕ) (source : List ℕ) (i : ℕ) (room : List ℕ) (at : ℕ) : Type 0 where
   pub short : length lead ≤ 5
   pub narrow : width ≤ node-width
-  pub few : i < 4096
+  pub few : i < 2 ^ 32
   pub there : width * i + width ≤ length source
   pub fits : at + line-size ≤ length room
 

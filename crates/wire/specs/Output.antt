@@ -4,6 +4,7 @@ use mathlib.Core.List.{List}
 use mathlib.Core.Path.{_≡_}
 use lib.ListN.{length, getD, replicate}
 use Rattle.grammar.specs.Answer.{Answer, Answers}
+use Rattle.grammar.specs.Builtin.{none}
 use Rattle.grammar.specs.Call.{Call}
 use Rattle.grammar.specs.Pattern.{bytes}
 use Rattle.grammar.specs.Room.{Rooms, node-width, link-width, symbol-width, scratch-width}
@@ -21,7 +22,7 @@ blank-rooms = record {
 }
 
 abbrev pub call : (text ts : List ℕ) → Call
-call text ts = record { text = text; tokens = ts; limit = 64; rooms = blank-rooms }
+call text ts = record { names = none; text = text; tokens = ts; limit = 64; rooms = blank-rooms }
 
 -- for an input this may be printed: one output and no other (`one-output`)
 pub data Outputs (input : List ℕ) : List ℕ → Type 0 where

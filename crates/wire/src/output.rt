@@ -59,7 +59,7 @@ fn line(lead: &[u8], values: &[u32], room: &mut [u8], at: usize) -> usize
     put(b"\n", room, b)
 }
 
-// The line of a row. It asks that the row is there and its number below 4,096, that it has at most ten numbers and a lead of at most five bytes, and for 128
+// The line of a row. It asks that the row is there and its number fits 32 bits, that it has at most ten numbers and a lead of at most five bytes, and for 128
 // bytes of room from `at` on (`Line`).
 // Ruled out: the row's number counted from 1; a line without its newline.
 pub fn row(lead: &[u8], width: usize, source: &[u32], i: usize, room: &mut [u8], at: usize) -> usize

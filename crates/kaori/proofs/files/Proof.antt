@@ -5,10 +5,10 @@ use Rattle.kaori.proofs.files.Statement.{statement}
 use Rattle.kaori.proofs.files.Tie as tie
 
 abbrev Inv-loop : tie.InvT-loop
-Inv-loop wish first out₀ n many status₀ i₀ out status i = status ≤ 2
+Inv-loop names rows wish first out₀ n many status₀ i₀ out status i = status ≤ 2
 
 abbrev μ-loop : tie.MeasureT-loop
-μ-loop wish first out₀ n many status₀ i₀ out status i = n - i
+μ-loop names rows wish first out₀ n many status₀ i₀ out status i = n - i
 
 pub files-spec : {M : Type 1} → statement M
 files-spec =

@@ -5,10 +5,10 @@ use Rattle.kaori.proofs.at.outward.Statement.{statement}
 use Rattle.kaori.proofs.at.outward.Tie as tie
 
 abbrev Inv-loop : tie.InvT-loop
-Inv-loop text nodes covers out₀ first root row₀ out row = Unit {0}
+Inv-loop text nodes covers built out₀ first root row₀ out row = Unit {0}
 
 abbrev μ-loop : tie.MeasureT-loop
-μ-loop text nodes covers out₀ first root row₀ out row = suc root - row
+μ-loop text nodes covers built out₀ first root row₀ out row = suc root - row
 
 pub outward-spec : {M : Type 1} → statement M
 outward-spec =

@@ -5,10 +5,10 @@ use Rattle.kaori.proofs.script.show_all.Statement.{statement}
 use Rattle.kaori.proofs.script.show_all.Tie as tie
 
 abbrev Inv-loop : tie.InvT-loop
-Inv-loop text nodes links covers out₀ root b n i₀ out i = Unit {0}
+Inv-loop text nodes links covers built out₀ root b n i₀ out i = Unit {0}
 
 abbrev μ-loop : tie.MeasureT-loop
-μ-loop text nodes links covers out₀ root b n i₀ out i = n - i
+μ-loop text nodes links covers built out₀ root b n i₀ out i = n - i
 
 pub show-all-spec : {M : Type 1} → statement M
 show-all-spec =

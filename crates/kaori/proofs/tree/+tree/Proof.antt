@@ -15,7 +15,7 @@ use Rattle.kaori.proofs.tree.+tree.{statement}
 use Rattle.kaori.proofs.tree.+tree.Tie.{close}
 
 abbrev μ-tree : Measures 5 tree-kinds.ps ℕ
-μ-tree κs a = a .1 .1 .1 .1 .1 .0
+μ-tree κs a = a .1 .1 .1 .1 .1 .1 .0
 
 abbrev tree-at : ℕ → In 5 tree-kinds.ps
 tree-at t = and 5 tree-kinds.ps (is 5 tree-kinds.ps μ-tree t) tree.Pre
@@ -27,10 +27,10 @@ abbrev claims : ℕ → tree-lts.Claims
 claims t = (line-reads.Asked, line-reads.Learnt, below-reads.Asked, below-reads.Learnt, places-reads.Asked, places-reads.Learnt, child-reads.Asked, child-reads.Learnt, is-tail-reads.Asked, is-tail-reads.Learnt, tree-below t, tree.Post)
 
 abbrev tree-Inv-loop : tree-lts.InvT-loop
-tree-Inv-loop text nodes links covers out₀ row level tail b n i₀ out i = Unit {0}
+tree-Inv-loop text nodes links covers built out₀ row level tail b n i₀ out i = Unit {0}
 
 abbrev tree-μ-loop : tree-lts.MeasureT-loop
-tree-μ-loop text nodes links covers out₀ row level tail b n i₀ out i = n - i
+tree-μ-loop text nodes links covers built out₀ row level tail b n i₀ out i = n - i
 
 pub +tree-spec : {M : Type 1} → statement M
 +tree-spec = close μ-tree λ t. tree-lts.spec (claims t)
