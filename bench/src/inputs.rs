@@ -1,20 +1,50 @@
 //! The scripts that are timed.
-use kaori_syntax::{LINK_WIDTH, NODE_WIDTH, Rooms, SCRATCH_WIDTH, SYMBOL_WIDTH};
-
-/// The numbers of a row of each room together.
-pub const ROOM_WIDTH: usize = NODE_WIDTH + LINK_WIDTH + SYMBOL_WIDTH + SCRATCH_WIDTH;
+use kaori_syntax::{LINK_WIDTH, NODE_WIDTH, OwnedBuiltins, Refusal, Rooms, SYMBOL_WIDTH, Tree};
 
 pub struct Input {
     pub name: &'static str,
     pub text: String,
+    /// The built-in names that stand beside it: none, but for the inputs that are about them.
+    pub names: &'static [&'static str],
+    pub builtins: OwnedBuiltins,
     /// Three numbers a token, the Eof last.
     pub tokens: Vec<u32>,
     /// Whether its ratio counts for `typical` in the last line.
     pub typical: bool,
     /// Whether the answer is a refusal.
     pub refused: bool,
-    /// How many numbers are set to zero in rooms of as many rows as there are tokens.
+    /// How many numbers there are in rooms of as many rows as there are tokens, with a symbol row more for each built-in name,
+    /// and how many of these are set to zero.
+    pub lent: usize,
     pub cleared: usize,
+}
+
+impl Input {
+    /// Rooms for it.
+    pub fn rooms(&self) -> Rooms {
+        Rooms::for_tokens_with(self.builtins.lend(), self.tokens.len() / 3)
+    }
+
+    /// One call, from its text and these tokens.
+    pub fn parse<'a>(
+        &'a self,
+        rooms: &'a mut Rooms,
+        tokens: &[u32],
+        limit: u32,
+    ) -> Result<Tree<'a>, Refusal> {
+        match self.names.is_empty() {
+            true => rooms.parse(self.text.as_bytes(), tokens, limit),
+            false => rooms.parse_with(self.builtins.lend(), self.text.as_bytes(), tokens, limit),
+        }
+    }
+
+    /// One call, from its text alone.
+    pub fn read<'a>(&'a self, rooms: &'a mut Rooms, limit: u32) -> Result<Tree<'a>, Refusal> {
+        match self.names.is_empty() {
+            true => rooms.read(self.text.as_bytes(), limit),
+            false => rooms.read_with(self.builtins.lend(), self.text.as_bytes(), limit),
+        }
+    }
 }
 
 const SCREEN: &str = r#"import ui.screen: Panel, Button, Label;
@@ -42,6 +72,16 @@ fun draw(screen, trains) {
 }
 "#;
 
+/// What a station may have built in: 64 names, of which the screen has the first seventeen.
+#[rustfmt::skip]
+const STATION: [&str; 64] = [
+    "ui", "screen", "text", "label", "at", "each", "count", "time", "late", "platform", "shown", "title", "rows", "footer",
+    "Panel", "Button", "Label", "print", "advance", "open", "close", "show", "hide", "refresh", "clear", "move_to", "resize",
+    "line", "box", "fill", "image", "icon", "font", "size", "left", "right", "top", "bottom", "click", "touch", "key",
+    "timer", "wait", "now", "date", "hour", "minute", "second", "delay", "station", "track", "arrival", "departure", "route",
+    "stop", "next", "previous", "first", "last", "find", "sort", "filter", "join", "split",
+];
+
 pub fn all() -> Vec<Input> {
     let screens = |tokens: usize| SCREEN.repeat(tokens / (tokens_of(SCREEN).len() / 3));
     let parentheses = format!("{}a{};", "(".repeat(60), ")".repeat(60));
@@ -60,21 +100,29 @@ pub fn all() -> Vec<Input> {
         input("each name four times", (0..511).map(|i| format!("n{i};").repeat(4)).collect()),
         input("one name", "total;".repeat(2047)),
         input("refusal at the end", screens(4000) + "return;"),
+        beside("screen, 64 names", &STATION, SCREEN.to_string()),
+        beside("large script, 64 names", &STATION, screens(4000)),
     ]
 }
 
 fn input(name: &'static str, text: String) -> Input {
-    let tokens = tokens_of(&text);
-    let mut rooms = Rooms::for_tokens(tokens.len() / 3);
-    let answer = rooms.read(text.as_bytes(), 64);
-    let used = answer.as_ref().map_or(0, |tree| {
+    beside(name, &[], text)
+}
+
+fn beside(name: &'static str, names: &'static [&'static str], text: String) -> Input {
+    let (tokens, builtins) = (tokens_of(&text), OwnedBuiltins::new(names));
+    let mut input =
+        Input { name, text, names, builtins, tokens, typical: false, refused: false, lent: 0, cleared: 0 };
+    let mut rooms = input.rooms();
+    let lent = rooms.nodes.len() + rooms.links.len() + rooms.symbols.len() + rooms.scratch.len();
+    let used = input.read(&mut rooms, 64).map(|tree| {
         NODE_WIDTH * tree.node_rows().len()
             + LINK_WIDTH * tree.link_rows().len()
             + SYMBOL_WIDTH * tree.symbol_rows().len()
     });
-    let refused = answer.is_err();
-    let cleared = ROOM_WIDTH * (tokens.len() / 3) - used;
-    Input { name, text, tokens, typical: false, refused, cleared }
+    input.refused = used.is_err();
+    (input.lent, input.cleared) = (lent, lent - used.unwrap_or(0));
+    input
 }
 
 /// The tokens of a text, by the list that `read` leaves.

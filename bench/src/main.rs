@@ -7,6 +7,9 @@
 //!
 //! The text columns start from the text alone. The Rust side is the lexer of lexer.rs and then the parser, both in its
 //! time. That lexer is the bench's own and not logos, so these columns are no comparison with Kaori's lexer.
+//!
+//! Two inputs stand beside 64 built-in names, outside the ratios of the last line. The proved reader looks the names over in
+//! each call, in its time; the Rust's interner is given them before the clock starts.
 mod inputs;
 mod lexer;
 
@@ -17,9 +20,9 @@ use std::{
     time::{Duration, Instant},
 };
 
-use inputs::{Input, ROOM_WIDTH};
+use inputs::Input;
 use kaori::{
-    compiler::{Compiler, fresh_interner},
+    compiler::{Compiler, INTERNER, fresh_interner},
     syntax::{
         ast::Ast,
         parser::Parser,
@@ -92,9 +95,11 @@ fn bench(time: Duration) {
         if input.typical {
             typical = typical.min(ratio);
         }
-        worst = worst.min(ratio);
-        // rooms of twice the rows have `ROOM_WIDTH` more numbers a token to clear
-        let zeroing = (t.wide - t.ours) / (ROOM_WIDTH as f64 * tokens) * input.cleared as f64;
+        if input.names.is_empty() {
+            worst = worst.min(ratio);
+        }
+        // rooms of twice the rows have as many numbers more to clear as there are in these
+        let zeroing = (t.wide - t.ours) / input.lent as f64 * input.cleared as f64;
         let reading = t.ours - t.door - zeroing;
         let per = |ns: f64| format!("{:.1}", ns / tokens);
         println!(
@@ -119,20 +124,22 @@ fn bench(time: Duration) {
     println!("zeroing: the numbers past the rows, at the price of a number in rooms of twice the rows");
     println!("4096: the same call in rooms of 4,096 rows");
     println!(
-        "typical: the lesser ratio of the screen and the large script; worst: the least of all; tokens to tree"
+        "typical: the lesser ratio of the screen and the large script; worst: the least of all; tokens to tree; \
+         both without the lines with built-in names"
+    );
+    println!(
+        "64 names: this reader looks the names over in each call; the Rust's interner has them before the clock starts"
     );
     println!("typical {typical:.2}, worst {worst:.2}");
 }
 
 fn measure(input: &Input, time: Duration) -> Times {
-    let tokens = input.tokens.len() / 3;
-    let text = input.text.as_bytes();
-    let mut rooms = Rooms::for_tokens(tokens);
+    let mut rooms = input.rooms();
     let mut wide = rooms.clone();
     for room in [&mut wide.nodes, &mut wide.links, &mut wide.symbols, &mut wide.scratch] {
         room.resize(2 * room.len(), 0);
     }
-    let mut full = Rooms::for_tokens(4096);
+    let mut full = Rooms::for_tokens_with(input.builtins.lend(), 4096);
     let rust_tokens: Vec<(Token, Span)> =
         input.tokens.chunks(3).map(|t| (TOKENS[t[0] as usize], Span { start: t[1], end: t[2] })).collect();
     let turned = turned_away(&input.tokens);
@@ -142,18 +149,18 @@ fn measure(input: &Input, time: Duration) -> Times {
     let mut times: [Vec<u64>; 7] = Default::default();
     let end = Instant::now() + time;
     while times[0].is_empty() || Instant::now() < end {
-        times[0].push(second(|| clock(|| rooms.parse(text, &input.tokens, LIMIT).is_ok())));
+        times[0].push(second(|| clock(|| input.parse(&mut rooms, &input.tokens, LIMIT).is_ok())));
         times[1].push(second(|| {
-            fresh_interner();
+            fresh_interner(input.names);
             let list = rust_tokens.clone();
             clock(|| Parser::new(&input.text, list, &compiler).parse())
         }));
-        times[2].push(second(|| clock(|| rooms.parse(text, &turned, LIMIT).is_ok())));
-        times[3].push(second(|| clock(|| wide.parse(text, &input.tokens, LIMIT).is_ok())));
-        times[4].push(second(|| clock(|| full.parse(text, &input.tokens, LIMIT).is_ok())));
-        times[5].push(second(|| clock(|| rooms.read(text, LIMIT).is_ok())));
+        times[2].push(second(|| clock(|| input.parse(&mut rooms, &turned, LIMIT).is_ok())));
+        times[3].push(second(|| clock(|| input.parse(&mut wide, &input.tokens, LIMIT).is_ok())));
+        times[4].push(second(|| clock(|| input.parse(&mut full, &input.tokens, LIMIT).is_ok())));
+        times[5].push(second(|| clock(|| input.read(&mut rooms, LIMIT).is_ok())));
         times[6].push(second(|| {
-            fresh_interner();
+            fresh_interner(input.names);
             clock(|| lexer::tokens(&input.text).map(|list| Parser::new(&input.text, list, &compiler).parse()))
         }));
     }
@@ -162,7 +169,7 @@ fn measure(input: &Input, time: Duration) -> Times {
     Times { ours, rust, door, wide, full, text, rust_text, runs }
 }
 
-/// Both sides answer alike, the door refuses the list that is made for it, and the token maker, the Rust lexer and the
+/// Both sides answer alike, by the number of nodes and of symbols or by the place of the refusal, the door refuses the list that is made for it, and the token maker, the Rust lexer and the
 /// oracle's make the input's tokens.
 fn agree(input: &Input, rust_tokens: &[(Token, Span)], turned: &[u32], rooms: &mut Rooms) {
     let (name, text) = (input.name, input.text.as_bytes());
@@ -172,11 +179,14 @@ fn agree(input: &Input, rust_tokens: &[(Token, Span)], turned: &[u32], rooms: &m
     assert_eq!(numbers(rust_tokens), input.tokens, "{name}: the order of `TOKENS`");
     assert_eq!(numbers(&lexer::tokens(&input.text).unwrap()), input.tokens, "{name}: the Rust lexer");
     assert_eq!(Lexer::new().tokens(text).unwrap().as_flattened(), input.tokens, "{name}: the oracle's lexer");
-    fresh_interner();
+    fresh_interner(input.names);
     let compiler = Compiler::default();
     let rust = Parser::new(&input.text, rust_tokens.to_vec(), &compiler).parse();
-    match (rooms.parse(text, &input.tokens, LIMIT), rust) {
+    match (input.parse(rooms, &input.tokens, LIMIT), rust) {
         (Ok(tree), Ok(ast)) => {
+            // no script has it: its number is the count
+            let next = INTERNER.lock().unwrap().get_or_intern("§");
+            assert_eq!(next.0 as usize, tree.symbol_rows().len(), "{name}: the number of symbols");
             // a tree of as many nodes has the same last one
             let mut other = Ast::default();
             let last = tree.rows().map(|_| other.nil(Span::default())).last();
@@ -187,9 +197,9 @@ fn agree(input: &Input, rust_tokens: &[(Token, Span)], turned: &[u32], rooms: &m
         }
         (ours, rust) => panic!("{name}: {:?} and {:?}", ours.err(), rust.err()),
     }
-    let refusal = rooms.parse(text, turned, LIMIT).unwrap_err();
+    let refusal = input.parse(rooms, turned, LIMIT).unwrap_err();
     assert_eq!((refusal.code, refusal.at as usize), (6, input.tokens.len() / 3 - 2), "{name}");
-    assert_eq!(rooms.read(text, LIMIT).is_err(), input.refused, "{name}");
+    assert_eq!(input.read(rooms, LIMIT).is_err(), input.refused, "{name}");
     assert_eq!(rooms.list, input.tokens, "{name}");
 }
 

@@ -2,6 +2,7 @@
 use std::fmt::{Display, Write};
 
 use crate::{
+    builtins::Builtins,
     case::Case,
     door, judge,
     rows::{Outcome, Refusal, Rows},
@@ -25,7 +26,7 @@ pub fn answer_with(input: &[u8], limit: u32) -> Vec<u8> {
 pub fn outcome(case: &Case, limit: u32) -> Outcome {
     match door::refusal(case, limit) {
         Some(refusal) => Outcome::Refused(refusal),
-        None => judge::read(case, limit).outcome,
+        None => judge::read(&Builtins::default(), case, limit).outcome,
     }
 }
 

@@ -8,9 +8,10 @@ use kaori::{
 
 use crate::{
     answer::{LIMIT, outcome},
-    case::Case,
+    builtins::{Builtins, MAX_NAMES},
+    case::{self, Case},
     kinds,
-    rooms::{Judge, Known, Lent, Rooms},
+    rooms::{Judge, Known, Lent, Rooms, SCRATCH},
     rows::{ABSENT, NO_KIND, Outcome, Rows},
 };
 
@@ -73,6 +74,9 @@ impl Coverage {
                     Outcome::Accepted(_) => "scripts: accepted, rows counted",
                     Outcome::Refused(_) => "scripts: refused",
                 });
+                if let (Some(names), Some(case)) = (&lent.names, Case::decode(&lent.input)) {
+                    beside(names, &case).into_iter().for_each(|name| coverage.show(&name));
+                }
                 last = lent.input;
             }
         }
@@ -144,7 +148,11 @@ const OTHERS: [&str; 33] = [
 /// token.
 fn in_rooms(known: &Known, rooms: Rooms) -> Vec<String> {
     if let Some(refusal) = known.turned_away(rooms) {
-        return vec![format!("code {} at the door", refusal.code)];
+        let with_symbols = |numbers: u32| known.turned_away([rooms[0], rooms[1], numbers, rooms[SCRATCH]]);
+        let is_built_in =
+            refusal.code == 4 && with_symbols(known.built_in()).is_none_or(|other| other.code != 4);
+        let what = if is_built_in { ", for the built-in rows" } else { "" };
+        return vec![format!("code {} at the door{what}", refusal.code)];
     }
     let Some(lacking) = known.lacking(rooms) else {
         return vec![match known.outcome() {
@@ -166,6 +174,42 @@ fn in_rooms(known: &Known, rooms: Rooms) -> Vec<String> {
         names.push(format!("{row}, before a symbol row at its token"));
     }
     names
+}
+
+/// What is shown by built-in names beside a case.
+fn beside(names: &Builtins, case: &Case) -> Vec<String> {
+    let Some(words) = names.words() else { return vec!["names: wrong".into()] };
+    let mut shown = vec![match words.len() {
+        0 => "names: none".into(),
+        MAX_NAMES => format!("names: {MAX_NAMES}"),
+        1..=8 => "names: 1 to 8".into(),
+        _ => "names: 9 and more".to_string(),
+    }];
+    let mut show = |is_shown: bool, name: &str| shown.extend(is_shown.then(|| format!("names: {name}")));
+    let pairs = || names.places().windows(2);
+    show(names.rows.len() % 2 == 1, "a number left over");
+    show(pairs().any(|pair| pair[1][0] < pair[0][0]), "a row that goes back");
+    show(pairs().any(|pair| pair[1][0] < pair[0][1] && pair[0][0] < pair[1][1]), "rows that overlap");
+    show(names.text.iter().any(|byte| *byte > 127), "a byte over 127 between them");
+    let spelled = |kind: u8| {
+        let quotes = (kind == kinds::STRING) as u32;
+        let inside = move |token: &case::Token| case::Token {
+            start: token.start + quotes,
+            end: token.end - quotes,
+            ..*token
+        };
+        case.tokens.iter().filter(move |token| token.kind == kind).filter_map(move |token| {
+            case.lexeme(*token).filter(|lexeme| kinds::fits(kind, lexeme))?;
+            str::from_utf8(case.lexeme(inside(token))?).ok()
+        })
+    };
+    show(spelled(kinds::IDENTIFIER).any(|word| words.contains(&word)), "one that the script has");
+    show(spelled(kinds::STRING).any(|word| words.contains(&word)), "one that a string's inside spells");
+    let begins = |word: &str| words.iter().any(|name| *name != word && name.starts_with(word));
+    show(spelled(kinds::IDENTIFIER).any(begins), "one that begins as a name of the script");
+    let begun = |word: &str| words.iter().any(|name| *name != word && word.starts_with(name));
+    show(spelled(kinds::IDENTIFIER).any(begun), "one that a name of the script begins as");
+    shown
 }
 
 fn productions(case: &Case, rows: &Rows) -> Vec<String> {

@@ -1,17 +1,22 @@
-//! Checks 1 to 7 of document 01. Check 4 is of the scratch room alone: document 02, L6.
+//! Checks 1 to 7 of document 01. Check 4 is of the scratch room alone: document 02, L6. After it come those of built-in
+//! names, 18 and another 4: L10.
 use crate::{
+    builtins::Builtins,
     case::{Case, Token},
     kinds::{EOF, fits},
+    rooms::{Rooms, SCRATCH, SYMBOLS, WIDTHS},
     rows::{NO_KIND, Refusal},
 };
 
-/// With scratch enough, as `rows` lends it.
+/// With scratch enough, as `rows` lends it, and no built-in names.
 pub fn refusal(case: &Case, limit: u32) -> Option<Refusal> {
-    refusal_with(case, limit, case.tokens.len())
+    let scratch = WIDTHS[SCRATCH] * case.tokens.len() as u32;
+    refusal_with(&Builtins::default(), case, limit, [0, 0, 0, scratch])
 }
 
-/// With so many rows of scratch.
-pub fn refusal_with(case: &Case, limit: u32, scratch: usize) -> Option<Refusal> {
+/// With these built-in names and in these rooms.
+pub fn refusal_with(names: &Builtins, case: &Case, limit: u32, rooms: Rooms) -> Option<Refusal> {
+    let rows = |room: usize| (rooms[room] / WIDTHS[room]) as usize;
     if !(1..=4_096).contains(&case.tokens.len()) {
         return Some(placeless(1));
     }
@@ -21,7 +26,13 @@ pub fn refusal_with(case: &Case, limit: u32, scratch: usize) -> Option<Refusal> 
     if !(1..=64).contains(&limit) {
         return Some(placeless(3));
     }
-    if scratch < case.tokens.len() {
+    if rows(SCRATCH) < case.tokens.len() {
+        return Some(placeless(4));
+    }
+    if names.words().is_none() {
+        return Some(placeless(18));
+    }
+    if rows(SYMBOLS) < names.places().len() {
         return Some(placeless(4));
     }
     if let Some(offset) = case.text.iter().position(|byte| *byte > 127) {

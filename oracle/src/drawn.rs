@@ -211,7 +211,7 @@ fn dressed(list: &[Word], random: &mut Random) -> Case {
 }
 
 /// A case with a fault that the door sees, or perhaps not.
-fn mangled(random: &mut Random) -> Case {
+pub fn mangled(random: &mut Random) -> Case {
     let size = random.between(1, 20);
     let list = script(random, size);
     let mut case = dressed(&list, random);

@@ -4,6 +4,7 @@ use std::{collections::HashSet, io::Cursor};
 
 use crate::{
     answer::{LIMIT, answer, outcome},
+    beside,
     case::Case,
     corners::{self, NESTINGS},
     drawn::{Cases, exact},
@@ -79,13 +80,13 @@ pub fn file() -> Vec<u8> {
     bytes
 }
 
-/// What `batch` reads, and what it must write: some inputs of `rows`, whole and broken, and the corners of rooms of any
-/// size.
+/// What `batch` reads, and what it must write: some inputs of `rows`, whole and broken, the corners of rooms of any size, and
+/// some of built-in names.
 pub fn batch_files() -> (Vec<u8>, Vec<u8>) {
     let whole = script("a;").encode();
     let plain = [whole.clone(), Vec::new(), [&whole[..], &[0]].concat(), whole[..8].to_vec()];
     let (mut read, mut written, mut judge) = (Vec::new(), Vec::new(), Judge::default());
-    for case in plain.into_iter().chain(tight::corners()) {
+    for case in plain.into_iter().chain(tight::corners()).chain(beside::chosen()) {
         frame::write(&mut read, &case).expect("memory");
         frame::write(&mut written, &judge.answer(&case)).expect("memory");
     }

@@ -13,6 +13,7 @@ use kaori::{
 };
 
 use crate::{
+    builtins::Builtins,
     case::Case,
     kinds::TOKENS,
     rows::{NO_KIND, Outcome, Refusal, Rows, rows},
@@ -27,32 +28,33 @@ pub struct Reading {
 
 static TURN: Mutex<()> = Mutex::new(()); // there is one interner
 
-/// Reads a case that has passed the door.
-pub fn read(case: &Case, limit: u32) -> Reading {
+/// Reads a case that has passed the door, with an interner that is given the built-in names first.
+pub fn read(names: &Builtins, case: &Case, limit: u32) -> Reading {
     let _turn = TURN.lock().unwrap_or_else(PoisonError::into_inner);
 
     let text = text(case);
     let compiler = Compiler::with_limit(limit);
-    let counted = result(case, || counted::Parser::new(text, tokens(case), &compiler).parse());
+    let counted = result(names, case, || counted::Parser::new(text, tokens(case), &compiler).parse());
     let deepest = compiler.deepest();
 
     let outcome = match counted {
         Parsed::Error(error) if error.message == NESTED => refused(case, 11, NO_KIND, &error),
         counted => {
             let compiler = Compiler::default();
-            let original = result(case, || parser::Parser::new(text, tokens(case), &compiler).parse());
+            let original = result(names, case, || parser::Parser::new(text, tokens(case), &compiler).parse());
             agreed(case, original, counted)
         }
     };
     Reading { outcome, deepest }
 }
 
-/// The rows that the reading of a case asks for, in order, up to its end or its refusal: what `read` gives. The case
-/// has passed the door.
-pub fn record(case: &Case, limit: u32, outcome: &Outcome) -> Vec<Asked> {
+/// The rows that the reading of a case asks for, in order, up to its end or its refusal: what `read` gives. Those of the
+/// built-in names stand already. The case has passed the door.
+pub fn record(names: &Builtins, case: &Case, limit: u32, outcome: &Outcome) -> Vec<Asked> {
     let _turn = TURN.lock().unwrap_or_else(PoisonError::into_inner);
-    fresh_interner();
-    recorder::start();
+    let given = words(names);
+    fresh_interner(&given);
+    recorder::start(given.len() as u32);
     let compiler = Compiler::with_limit(limit);
     let parsed = silently(|| recorded::Parser::new(text(case), tokens(case), &compiler).parse());
     let asked = recorder::asked();
@@ -60,7 +62,7 @@ pub fn record(case: &Case, limit: u32, outcome: &Outcome) -> Vec<Asked> {
         (Ok(Ok(_)), Outcome::Accepted(rows)) => {
             let count = |row: Row| asked.iter().filter(|asked| asked.row == row).count();
             let counts = [Row::Node, Row::Link, Row::Symbol].map(count);
-            let written = [rows.nodes.len(), rows.links.len(), rows.symbols.len()];
+            let written = [rows.nodes.len(), rows.links.len(), rows.symbols.len() - given.len()];
             assert_eq!(counts, written, "rows asked for and written: {}", show::case(&case.encode()));
         }
         (Ok(Err(error)), Outcome::Refused(refusal)) => {
@@ -89,10 +91,14 @@ fn tokens(case: &Case) -> Vec<(token::Token, token::Span)> {
     case.tokens.iter().map(|t| (TOKENS[t.kind as usize], span(t.start, t.end))).collect()
 }
 
-fn result(case: &Case, parse: impl FnOnce() -> Result<Ast, Error>) -> Parsed {
-    fresh_interner();
+fn words(names: &Builtins) -> Vec<&str> {
+    names.words().expect("the door lets right names alone through")
+}
+
+fn result(names: &Builtins, case: &Case, parse: impl FnOnce() -> Result<Ast, Error>) -> Parsed {
+    fresh_interner(&words(names));
     match silently(parse) {
-        Ok(Ok(ast)) => Parsed::Rows(rows(case, &ast)),
+        Ok(Ok(ast)) => Parsed::Rows(rows(names, case, &ast)),
         Ok(Err(error)) => Parsed::Error(error),
         Err(message) if message == "not yet implemented" => Parsed::Panic,
         Err(message) => panic!("the parser panicked: {message}"),

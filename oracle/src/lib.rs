@@ -1,5 +1,7 @@
 //! The original Rust parser as the judge: what the program `rows` must print for an input.
 pub mod answer;
+pub mod beside;
+pub mod builtins;
 pub mod case;
 pub mod corners;
 pub mod coverage;

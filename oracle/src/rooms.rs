@@ -1,11 +1,13 @@
-//! Request L6: rooms of any size. How they stand in a frame of the program `batch`, and what its answer is. The answer
-//! comes from the rows that the derived parser records: the first that does not fit is refusal 4, at its token.
+//! Request L6: rooms of any size. How they stand in a frame of the program `batch`, with built-in names (request L10) or
+//! without, and what its answer is. The answer comes from the rows that the derived parser records: the first that does not
+//! fit is refusal 4, at its token.
 use std::fmt::Write;
 
-use kaori::recorder::Asked;
+use kaori::recorder::{Asked, Row};
 
 use crate::{
     answer::answer,
+    builtins::Builtins,
     case::{Case, Token, number},
     door, judge,
     rows::{NO_KIND, NODE_WIDTH, Outcome, Refusal},
@@ -14,7 +16,8 @@ use crate::{
 /// How many numbers the rooms have: of nodes, links, symbols and scratch.
 pub type Rooms = [u32; 4];
 
-/// The place of the scratch room. The others have the places of their rows in `Row`.
+/// The places of the symbol and the scratch room. The others, too, have the places of their rows in `Row`.
+pub const SYMBOLS: usize = Row::Symbol as usize;
 pub const SCRATCH: usize = 3;
 /// The numbers of a row.
 pub const WIDTHS: Rooms = [NODE_WIDTH as u32, 3, 2, 3];
@@ -24,11 +27,18 @@ pub const LARGEST: Rooms = [5_129, 1_538, 1_025, 1_538];
 const BEFORE: u32 = 7;
 
 const MARK: [u8; 2] = *b"RM";
+const NAMES_MARK: [u8; 2] = *b"RN";
+/// The largest built-in text that a frame may have, and the most numbers of rows: 66 rows and a number left over.
+pub const MAX_NAMES_TEXT: usize = 8_192;
+pub const MAX_NAMES_NUMBERS: usize = 133;
+/// The bytes before the built-in text: the mark and seven numbers.
+pub const NAMES_HEAD: usize = 30;
 const BAD: &[u8] = b"bad input\n";
 
-/// An input of `rows`, with a limit and rooms of its own.
+/// An input of `rows`, with a limit and rooms of its own, and perhaps with built-in names.
 #[derive(Clone, PartialEq, Eq, Debug)]
 pub struct Lent {
+    pub names: Option<Builtins>,
     pub limit: u32,
     pub rooms: Rooms,
     pub input: Vec<u8>,
@@ -36,24 +46,42 @@ pub struct Lent {
 
 impl Lent {
     pub fn encode(&self) -> Vec<u8> {
-        let numbers = [self.limit].into_iter().chain(self.rooms);
-        MARK.into_iter().chain(numbers.flat_map(u32::to_le_bytes)).chain(self.input.iter().copied()).collect()
+        let bytes = |numbers: &[u32]| -> Vec<u8> { numbers.iter().flat_map(|n| n.to_le_bytes()).collect() };
+        let head = [&bytes(&[self.limit])[..], &bytes(&self.rooms)].concat();
+        let Some(Builtins { text, rows }) = &self.names else {
+            return [&MARK, &head[..], &self.input].concat();
+        };
+        let sizes = bytes(&[text.len() as u32, rows.len() as u32]);
+        [&NAMES_MARK, &head[..], &sizes, text, &bytes(rows), &self.input].concat()
     }
 
-    /// None: the frame is an input of `rows` and nothing else.
+    /// None: the frame is an input of `rows` and nothing else, or its built-in names are broken, which is a bad input too.
     pub fn decode(frame: &[u8]) -> Option<Lent> {
-        let mut rest = frame.strip_prefix(&MARK)?;
+        let has_names = frame.starts_with(&NAMES_MARK);
+        let mut rest = frame.strip_prefix(if has_names { &NAMES_MARK } else { &MARK })?;
         let limit = number(&mut rest)?;
         let mut rooms = LARGEST;
         for room in &mut rooms {
             *room = number(&mut rest)?.min(*room);
         }
-        Some(Lent { limit, rooms, input: rest.to_vec() })
+        let names = if has_names { Some(names(&mut rest)?) } else { None };
+        Some(Lent { names, limit, rooms, input: rest.to_vec() })
     }
 }
 
-/// What is known of a case and a limit, whatever is lent.
+fn names(rest: &mut &[u8]) -> Option<Builtins> {
+    let [size, count] = [number(rest)? as usize, number(rest)? as usize];
+    if size > MAX_NAMES_TEXT || count > MAX_NAMES_NUMBERS {
+        return None;
+    }
+    let text = rest.split_off(..size)?.to_vec();
+    let rows = (0..count).map(|_| number(rest)).collect::<Option<_>>()?;
+    Some(Builtins { text, rows })
+}
+
+/// What is known of a case, its built-in names and a limit, whatever is lent.
 pub struct Known {
+    names: Builtins,
     case: Case,
     limit: u32,
     /// What comes of it in rooms that are large enough.
@@ -64,12 +92,21 @@ pub struct Known {
 
 impl Known {
     pub fn of(case: Case, limit: u32) -> Known {
-        if let Some(refusal) = door::refusal(&case, limit) {
-            return Known { case, limit, outcome: Outcome::Refused(refusal), asked: Vec::new() };
+        Known::beside(Builtins::default(), case, limit)
+    }
+
+    pub fn beside(names: Builtins, case: Case, limit: u32) -> Known {
+        if let Some(refusal) = door::refusal_with(&names, &case, limit, ample(&names, &case)) {
+            return Known { names, case, limit, outcome: Outcome::Refused(refusal), asked: Vec::new() };
         }
-        let outcome = judge::read(&case, limit).outcome;
-        let asked = judge::record(&case, limit, &outcome);
-        Known { case, limit, outcome, asked }
+        let outcome = judge::read(&names, &case, limit).outcome;
+        let asked = judge::record(&names, &case, limit, &outcome);
+        Known { names, case, limit, outcome, asked }
+    }
+
+    /// The case in these rooms, as `batch` gets it without built-in names.
+    pub fn lent(&self, rooms: Rooms) -> Lent {
+        Lent { names: None, limit: self.limit, rooms, input: self.case.encode() }
     }
 
     pub fn outcome(&self) -> &Outcome {
@@ -80,23 +117,30 @@ impl Known {
         &self.asked
     }
 
-    /// The smallest rooms that the first so many rows fit, with a scratch row for each token.
+    /// What the rows of the built-in names take.
+    pub fn built_in(&self) -> u32 {
+        built_in(&self.names)
+    }
+
+    /// The smallest rooms that the first so many rows fit, behind those of the built-in names, with a scratch row for each
+    /// token.
     pub fn fitting(&self, rows: usize) -> Rooms {
-        let mut rooms = [0, 0, 0, self.ample()[SCRATCH]];
+        let mut rooms = [0, 0, self.built_in(), self.ample()[SCRATCH]];
         for asked in &self.asked[..rows] {
             rooms[asked.row as usize] += WIDTHS[asked.row as usize];
         }
         rooms
     }
 
-    /// Rooms with a row for each token.
+    /// Rooms with a row for each token, and for each built-in name.
     pub fn ample(&self) -> Rooms {
-        WIDTHS.map(|width| width * self.case.tokens.len() as u32)
+        ample(&self.names, &self.case)
     }
 
-    /// The first row that does not fit.
+    /// The first row that does not fit, where those of the built-in names do.
     pub fn lacking(&self, rooms: Rooms) -> Option<Asked> {
         let mut left = rooms;
+        left[SYMBOLS] -= self.built_in();
         self.asked.iter().copied().find(|asked| {
             let room = asked.row as usize;
             let fits = WIDTHS[room] <= left[room];
@@ -105,9 +149,9 @@ impl Known {
         })
     }
 
-    /// The door's refusal, if the scratch room is this large.
+    /// The door's refusal in these rooms.
     pub fn turned_away(&self, rooms: Rooms) -> Option<Refusal> {
-        door::refusal_with(&self.case, self.limit, (rooms[SCRATCH] / WIDTHS[SCRATCH]) as usize)
+        door::refusal_with(&self.names, &self.case, self.limit, rooms)
     }
 
     /// What comes of it in these rooms, if the door lets it in.
@@ -139,6 +183,16 @@ impl Known {
     }
 }
 
+fn built_in(names: &Builtins) -> u32 {
+    WIDTHS[SYMBOLS] * names.places().len() as u32
+}
+
+fn ample(names: &Builtins, case: &Case) -> Rooms {
+    let mut rooms = WIDTHS.map(|width| width * case.tokens.len() as u32);
+    rooms[SYMBOLS] = LARGEST[SYMBOLS].min(rooms[SYMBOLS] + built_in(names)); // no script has a name in each token
+    rooms
+}
+
 fn refused(refusal: &Refusal) -> [u32; 8] {
     let Refusal { code, at, start, end, expected, .. } = *refusal;
     [code, 0, 0, 0, at, start, end, expected]
@@ -167,9 +221,14 @@ impl Judge {
     }
 
     /// None: a broken input.
-    pub fn known(&mut self, Lent { limit, input, .. }: &Lent) -> Option<&Known> {
-        if self.last.as_ref().is_none_or(|(last, known)| last != input || known.limit != *limit) {
-            self.last = Case::decode(input).map(|case| (input.clone(), Known::of(case, *limit)));
+    pub fn known(&mut self, lent: &Lent) -> Option<&Known> {
+        let Lent { limit, input, .. } = lent;
+        let names = lent.names.clone().unwrap_or_default();
+        let is_last =
+            |(last, known): &(Vec<u8>, Known)| last == input && known.limit == *limit && known.names == names;
+        if !self.last.as_ref().is_some_and(is_last) {
+            let known = |case| (input.clone(), Known::beside(names, case, *limit));
+            self.last = Case::decode(input).map(known);
         }
         self.last.as_ref().map(|(_, known)| known)
     }

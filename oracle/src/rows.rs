@@ -11,6 +11,7 @@ use kaori::{
 };
 
 use crate::{
+    builtins::Builtins,
     case::Case,
     kinds::{IDENTIFIER, STRING},
 };
@@ -46,7 +47,7 @@ pub struct Refusal {
 }
 
 /// The rows of an accepted script. The interner has to be as the parser left it.
-pub fn rows(case: &Case, ast: &Ast) -> Rows {
+pub fn rows(names: &Builtins, case: &Case, ast: &Ast) -> Rows {
     let mut writer = Writer { ids: Ids::up_to(ast.last()), rows: Rows::default() };
     for id in writer.ids.all.clone() {
         let (kind, numbers) = writer.fields(ast.node(id));
@@ -59,7 +60,7 @@ pub fn rows(case: &Case, ast: &Ast) -> Rows {
     }
     let (_, others) = writer.rows.nodes.split_last().expect("a root");
     assert!(others.iter().all(|row| row[PARENT] != ABSENT), "a row without a parent");
-    writer.rows.symbols = symbols(case);
+    writer.rows.symbols = symbols(names, case);
     writer.rows
 }
 
@@ -189,10 +190,12 @@ fn named(name: &Spanned<Symbol>) -> [u32; 3] {
     [name.value.0, name.span.start, name.span.end]
 }
 
-/// The first place of each symbol: in an accepted script every identifier and string is interned, in order.
-fn symbols(case: &Case) -> Vec<[u32; 2]> {
-    let mut seen = HashSet::new();
-    let mut places = Vec::new();
+/// The first place of each symbol: in an accepted script every identifier and string is interned, in order. The built-in
+/// names stand before them, with their places in their own text.
+fn symbols(names: &Builtins, case: &Case) -> Vec<[u32; 2]> {
+    let built_in = names.words().expect("right names");
+    let mut seen: HashSet<_> = built_in.iter().map(|word| word.as_bytes()).collect();
+    let mut places = names.places().to_vec();
     for token in &case.tokens {
         let [start, end] = match token.kind {
             IDENTIFIER => [token.start, token.end],
@@ -206,7 +209,8 @@ fn symbols(case: &Case) -> Vec<[u32; 2]> {
 
     let mut interner = INTERNER.lock().unwrap();
     for (number, [start, end]) in places.iter().enumerate() {
-        let word = &case.text[*start as usize..*end as usize];
+        let text = if number < built_in.len() { &names.text } else { &case.text };
+        let word = &text[*start as usize..*end as usize];
         assert_eq!(interner.resolve(Symbol(number as u32)).as_bytes(), word, "symbol {number}");
     }
     let next = interner.get_or_intern("§"); // no script has it: its number is the count

@@ -273,6 +273,12 @@ impl Writer<'_> {
 
 const FEW: [&str; 8] = ["a", "b", "c", "f", "x", "y", "_", "android"];
 
+/// A name of any sort.
+pub fn any_name(random: &mut Random) -> String {
+    let names = random.pick(&[Names::Few, Names::Many]);
+    name(random, names)
+}
+
 fn name(random: &mut Random, names: Names) -> String {
     if names == Names::Few {
         return random.pick(&FEW).to_string();

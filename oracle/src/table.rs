@@ -1,6 +1,7 @@
 //! Tables of cases for antt, in the form of the sample table of crate `grammar`, and what proves them right.
 //! All generated antt text comes from this file.
 use crate::{
+    builtins::Builtins,
     case::Case,
     numbers::Number,
     rooms::{Lent, Rooms},
@@ -19,9 +20,10 @@ pub trait Row: Clone {
     fn shown(&self) -> String;
 }
 
-/// A case with its limit, its rooms and what the original made of it.
+/// A case with its built-in names, its limit, its rooms and what the original made of it.
 #[derive(Clone)]
 pub struct Entry {
+    pub names: Builtins,
     pub case: Case,
     pub limit: u32,
     pub rooms: Rooms,
@@ -55,18 +57,18 @@ cases =
     fn proofs(model: &str) -> String {
         let model = replaced(
             model,
-            "specs.Samples.{Sample, All-right, samples, points, tight}",
+            "specs.Samples.{Sample, All-right, samples, points, tight, named}",
             "specs.Samples.{Sample, All-right}\nuse Rattle.grammar.specs.Cases.{cases}",
         );
         let model = replaced(&model, " 400 script", &format!(" {FUEL} script"));
         let model = replaced(
             &model,
-            "pub samples-right : All-right (samples ++ points ++ tight)",
+            "pub samples-right : All-right (samples ++ points ++ tight ++ named)",
             "pub cases-right : All-right cases",
         );
         replaced(
             &model,
-            "samples-right = all-right (samples ++ points ++ tight) refl",
+            "samples-right = all-right (samples ++ points ++ tight ++ named) refl",
             "cases-right = all-right cases refl",
         )
     }
@@ -76,8 +78,8 @@ cases =
     }
 
     fn shown(&self) -> String {
-        let Entry { limit, rooms, .. } = *self;
-        let case = show::case(&Lent { limit, rooms, input: self.case.encode() }.encode());
+        let Entry { names, case, limit, rooms, .. } = self.clone();
+        let case = show::case(&Lent { names: Some(names), limit, rooms, input: case.encode() }.encode());
         format!("{case}Rust\n         {:?}\n", self.outcome)
     }
 }
@@ -125,7 +127,9 @@ fn replaced(text: &str, old: &str, new: &str) -> String {
     text.replace(old, new)
 }
 
-fn sample(Entry { case, limit, rooms, outcome }: &Entry) -> String {
+fn sample(Entry { names, case, limit, rooms, outcome }: &Entry) -> String {
+    let built_in = [list(names.text.iter().map(|byte| *byte as u32)), list(names.rows.iter().copied())];
+    let names = format!("names = record {{ text = {}; rows = {} }}", built_in[0], built_in[1]);
     let text = list(case.text.iter().map(|byte| *byte as u32));
     let tokens = list(case.tokens.iter().flat_map(|token| [token.kind as u32, token.start, token.end]));
     let outcome = match outcome {
@@ -141,7 +145,9 @@ fn sample(Entry { case, limit, rooms, outcome }: &Entry) -> String {
     };
     let [nodes, links, symbols, _] = rooms;
     let rooms = format!("space = record {{ nodes = {nodes}; links = {links} }}; room = {symbols}");
-    format!("record {{ text = {text}; tokens = {tokens}; limit = {limit}; {rooms}; outcome = {outcome} }}")
+    format!(
+        "record {{ {names}; text = {text}; tokens = {tokens}; limit = {limit}; {rooms}; outcome = {outcome} }}"
+    )
 }
 
 fn list(numbers: impl Iterator<Item = u32>) -> String {

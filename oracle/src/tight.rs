@@ -3,6 +3,7 @@ use std::{array::from_fn, collections::HashSet};
 
 use crate::{
     answer::LIMIT,
+    builtins::Builtins,
     case::Case,
     door,
     drawn::Cases,
@@ -10,7 +11,7 @@ use crate::{
     kinds::EOF,
     list::script,
     random::Random,
-    rooms::{Known, LARGEST, Lent, Rooms, SCRATCH, WIDTHS},
+    rooms::{Known, LARGEST, Lent, Rooms, SCRATCH, SYMBOLS, WIDTHS},
 };
 
 /// What comes of a script in rooms of so many node, link and symbol rows.
@@ -117,7 +118,7 @@ pub fn rooms_of(case: &Case, [nodes, links, symbols]: [u32; 3]) -> Rooms {
 pub fn corners() -> Vec<Vec<u8>> {
     let mut frames = Vec::new();
     let mut add = |limit: u32, rooms: Rooms, case: &Case| {
-        frames.push(Lent { limit, rooms, input: case.encode() }.encode());
+        frames.push(Lent { names: None, limit, rooms, input: case.encode() }.encode());
     };
     for (text, limit, steps) in LADDERS {
         let case = script(text);
@@ -144,7 +145,7 @@ pub fn corners() -> Vec<Vec<u8>> {
     }
     // rooms larger than any; and no input, a broken one, a head that is too short
     add(LIMIT, [LARGEST[0] + 1, LARGEST[1] + 1, LARGEST[2] + 1, u32::MAX], &case);
-    let whole = Lent { limit: LIMIT, rooms: [20, 3, 2, 9], input: case.encode() }.encode();
+    let whole = Lent { names: None, limit: LIMIT, rooms: [20, 3, 2, 9], input: case.encode() }.encode();
     frames.extend([22, 21, 2, whole.len() - 1].map(|length| whole[..length].to_vec()));
     frames
 }
@@ -163,16 +164,16 @@ fn at_door() -> [Case; 3] {
 /// The rooms that tell for a case.
 pub fn settings(known: &Known, random: &mut Random) -> Vec<Rooms> {
     let (asked, ample) = (known.asked(), known.ample());
-    let exact = known.fitting(asked.len());
+    let [least, exact] = [known.fitting(0), known.fitting(asked.len())];
     let with = |base: Rooms, room: usize, numbers: u32| -> Rooms {
         from_fn(|other| if other == room { numbers } else { base[other] })
     };
 
     // a row for each token; the exact need; nothing; numbers left over; anything smaller
-    let mut settings = vec![ample, exact, known.fitting(0)];
+    let mut settings = vec![ample, exact, least];
     settings.push(from_fn(|room| exact[room] + random.below(WIDTHS[room] as usize) as u32));
-    let smaller = from_fn(|room| random.below(exact[room] as usize + 1) as u32);
-    settings.push(with(smaller, SCRATCH, exact[SCRATCH]));
+    let smaller = from_fn(|room| least[room] + random.below((exact[room] - least[room]) as usize + 1) as u32);
+    settings.push(smaller);
     // in each room a row less, and a number less
     for room in (0..SCRATCH).filter(|room| exact[*room] > 0) {
         settings.extend([WIDTHS[room], 1].map(|less| with(exact, room, exact[room] - less)));
@@ -187,6 +188,13 @@ pub fn settings(known: &Known, random: &mut Random) -> Vec<Rooms> {
     }
     // a number of scratch less
     settings.extend(exact[SCRATCH].checked_sub(1).map(|less| with(exact, SCRATCH, less)));
+    // in the symbol room the rows of built-in names alone, and not even these; and no room at all
+    let built_in = known.built_in();
+    if built_in > 0 {
+        let less = random.pick(&[1, WIDTHS[SYMBOLS], built_in]);
+        settings.extend([with(ample, SYMBOLS, built_in), with(ample, SYMBOLS, built_in - less)]);
+        settings.extend(random.once_in(8).then_some([0; 4]));
+    }
     let mut seen = HashSet::new();
     settings.retain(|rooms| seen.insert(*rooms));
     settings
@@ -196,51 +204,49 @@ pub fn settings(known: &Known, random: &mut Random) -> Vec<Rooms> {
 /// of `Cases`.
 pub fn frames(seed: u64) -> impl Iterator<Item = Vec<u8>> + Send {
     let random = move |index| Random::of(!seed, index);
-    let joints = (0..).zip(joints()).flat_map(move |(index, (case, limit))| {
-        let input = case.encode();
-        lent(&Known::of(case, limit), limit, &input, &mut random(!index))
-    });
+    let joints = (0..)
+        .zip(joints())
+        .flat_map(move |(index, (case, limit))| lent(&Known::of(case, limit), &mut random(!index)));
     let cases = Cases::new(seed);
     let drawn = (0..).flat_map(move |index| of_input(cases.get(index), &mut random(index)));
-    corners().into_iter().chain(joints).chain(drawn)
+    corners().into_iter().chain(joints.chain(drawn).map(|lent| lent.encode()))
 }
 
-fn lent(known: &Known, limit: u32, input: &[u8], random: &mut Random) -> Vec<Vec<u8>> {
-    let lent = |rooms| Lent { limit, rooms, input: input.into() }.encode();
-    settings(known, random).into_iter().map(lent).collect()
+/// A case in all rooms that tell.
+pub fn lent(known: &Known, random: &mut Random) -> Vec<Lent> {
+    settings(known, random).into_iter().map(|rooms| known.lent(rooms)).collect()
 }
 
-fn of_input(input: Vec<u8>, random: &mut Random) -> Vec<Vec<u8>> {
+fn of_input(input: Vec<u8>, random: &mut Random) -> Vec<Lent> {
     let Some(case) = Case::decode(&input) else {
         let rooms = LARGEST.map(|largest| random.below(largest as usize) as u32);
-        return vec![Lent { limit: LIMIT, rooms, input }.encode()];
+        return vec![Lent { names: None, limit: LIMIT, rooms, input }];
     };
     let limit = limit(&case, random);
-    lent(&Known::of(case, limit), limit, &input, random)
+    lent(&Known::of(case, limit), random)
 }
 
 /// The usual limit, one near the depth of the case, or rarely one that is refused.
-fn limit(case: &Case, random: &mut Random) -> u32 {
+pub fn limit(case: &Case, random: &mut Random) -> u32 {
     if random.once_in(100) {
         return random.pick(&[0, LIMIT + 1, u32::MAX]);
     }
     if random.once_in(2) || door::refusal(case, LIMIT).is_some() {
         return LIMIT;
     }
-    let depth = judge::read(case, LIMIT).deepest;
+    let depth = judge::read(&Builtins::default(), case, LIMIT).deepest;
     let near = [depth.saturating_sub(1), depth, depth + 1, 1 + random.below(LIMIT as usize) as u32];
     random.pick(&near).clamp(1, LIMIT)
 }
 
 /// The frames that are tried while a case is made smaller: its own rooms, those that tell, and those of every part of
 /// its rows, up to some hundred.
-pub fn tried(Lent { limit, rooms, input }: &Lent) -> Vec<Vec<u8>> {
-    let mut all = vec![*rooms];
-    if let Some(case) = Case::decode(input) {
-        let known = Known::of(case, *limit);
+pub fn tried(lent: &Lent) -> Vec<Vec<u8>> {
+    let mut all = vec![lent.rooms];
+    if let Some(case) = Case::decode(&lent.input) {
+        let known = Known::beside(lent.names.clone().unwrap_or_default(), case, lent.limit);
         all.extend(settings(&known, &mut Random::of(0, 0)));
         all.extend((0..known.asked().len()).take(100).map(|rows| known.fitting(rows)));
     }
-    let lent = |rooms| Lent { limit: *limit, rooms, input: input.clone() }.encode();
-    all.into_iter().map(lent).collect()
+    all.into_iter().map(|rooms| Lent { rooms, ..lent.clone() }.encode()).collect()
 }

@@ -1,5 +1,6 @@
 // Answers a stream of cases, each in a frame, by a stream of frames. A case is an input of the program `rows`, and its answer what that prints. Or a limit and the
-// sizes of rooms stand before such an input; the answer is then what a call in these rooms answers, and all numbers that it leaves in them.
+// sizes of rooms stand before such an input, after the mark 52 4D; the answer is then what a call in these rooms answers, and all numbers that it leaves in them. Or
+// built-in names stand there, too, after the mark 52 4E; the call is then beside these names.
 use frames::Frame;
 use frames::read;
 use frames::write;
@@ -7,7 +8,7 @@ use listing::answer;
 use listing::blank;
 use spelling::display::put;
 use syntax::Numbers;
-use syntax::parse;
+use syntax::parse_with;
 use wire::input::Script;
 use wire::input::fill;
 use wire::input::four;
@@ -62,8 +63,10 @@ fn told(
     line(scratch, out, e)
 }
 
-// The answer to an input of a text of this size and n tokens, in these rooms.
+// The answer to an input of a text of this size and n tokens, beside these built-in names and in these rooms.
 fn called(
+    names: &[u8],
+    rows: &[u32],
     input: &[u8],
     size: usize,
     n: usize,
@@ -81,7 +84,9 @@ fn called(
     let used = 3 * n;
     let mut tokens: [u32; 1536] = [0; 1536];
     fill(input, from, n, &mut tokens);
-    let a = parse(
+    let a = parse_with(
+        names,
+        rows,
         &input[6..from],
         &tokens[..used],
         limit,
@@ -105,7 +110,14 @@ fn sized(case: &[u8], at: usize, most: usize) -> usize
     most
 }
 
-// Where the limit and the four sizes of such a case stand, and its input.
+// The answer to what is no case.
+fn bad(out: &mut [u8; 262144]) -> usize
+    ensures { λ r. ⌜ r ≤ 262144 ⌝ }
+{
+    put(b"bad input\n", out, 0)
+}
+
+// Where the limit and the four sizes of a case that has them stand, and the input of one that has no names.
 const LIMIT: usize = 2;
 
 const NODES: usize = 6;
@@ -118,20 +130,16 @@ const SCRATCH: usize = 18;
 
 const INPUT: usize = 22;
 
-// Its first two bytes.
-const MARK: u8 = 0x52;
-
-const MARK_TOO: u8 = 0x4D;
-
-// The answer to a case with a limit and rooms of its own. Mark 52 4D, the limit, and how many numbers the rooms of nodes, links, symbols and scratch have (4 bytes each,
-// little-endian; at most 512 rows and what can be left over) stand before an input. Each number of the rooms is 7 before the call.
-fn lent(case: &[u8], out: &mut [u8; 262144]) -> usize
-    requires { ⌜ 22 ≤ length (now case) ⌝ }
+// The answer to a case with a limit and rooms of its own, whose input stands from `at` on, beside these built-in names. After the mark stand the limit, and how many
+// numbers the rooms of nodes, links, symbols and scratch have (4 bytes each, little-endian; at most 512 rows and what can be left over). Each number of the rooms is 7
+// before the call.
+fn lent(case: &[u8], at: usize, names: &[u8], rows: &[u32], out: &mut [u8; 262144]) -> usize
+    requires { ⌜ (22 ≤ length (now case)) × (at ≤ length (now case)) ⌝ }
     ensures { λ r. ⌜ r ≤ 262144 ⌝ }
 {
-    let form = scan(&case[INPUT..]);
+    let form = scan(&case[at..]);
     let Script::Sized(size, n) = form else {
-        return put(b"bad input\n", out, 0);
+        return bad(out);
     };
     let limit = four(case, LIMIT);
     let ns = sized(case, NODES, 5129);
@@ -143,7 +151,9 @@ fn lent(case: &[u8], out: &mut [u8; 262144]) -> usize
     let mut symbols: [u32; 1025] = [7; 1025];
     let mut scratch: [u32; 1538] = [7; 1538];
     called(
-        &case[INPUT..],
+        names,
+        rows,
+        &case[at..],
         size,
         n,
         limit,
@@ -155,17 +165,89 @@ fn lent(case: &[u8], out: &mut [u8; 262144]) -> usize
     )
 }
 
+// Where a case with built-in names says how many bytes their text has and how many numbers their rows, and where the text stands; and the most of both.
+const TEXT_SIZE: usize = 22;
+
+const ROWS_SIZE: usize = 26;
+
+const TEXT: usize = 30;
+
+const MOST_BYTES: usize = 8192;
+
+const MOST_NUMBERS: usize = 133;
+
+// Writes the n numbers that stand from a place on into a list.
+fn listed(case: &[u8], from: usize, n: usize, rows: &mut [u32])
+    requires { ⌜ (from + 4 * n ≤ length (now case)) × (n ≤ length (now rows)) ⌝ }
+{
+    let mut i = 0;
+    while i < n {
+        rows[i] = four(case, from + 4 * i);
+        i += 1;
+    }
+}
+
+// The answer to a case with built-in names. After the sizes of the rooms stand those of the names' text and rows, then the text, the numbers of the rows (4 bytes each,
+// little-endian), and an input.
+fn beside(case: &[u8], out: &mut [u8; 262144]) -> usize
+    requires { ⌜ 30 ≤ length (now case) ⌝ }
+    ensures { λ r. ⌜ r ≤ 262144 ⌝ }
+{
+    let size = four(case, TEXT_SIZE) as usize;
+    let n = four(case, ROWS_SIZE) as usize;
+    if MOST_BYTES < size {
+        return bad(out);
+    }
+    if MOST_NUMBERS < n {
+        return bad(out);
+    }
+    let from = TEXT + size;
+    let at = from + 4 * n;
+    if case.len() < at {
+        return bad(out);
+    }
+    let mut rows: [u32; MOST_NUMBERS] = [0; MOST_NUMBERS];
+    listed(case, from, n, &mut rows);
+    lent(case, at, &case[TEXT..from], &rows[..n], out)
+}
+
+// The first byte of a case that is no input of `rows`; the second tells whether it has names.
+const MARK: u8 = 0x52;
+
+const ROOMS: u8 = 0x4D;
+
+const NAMES: u8 = 0x4E;
+
+// The answer to a case with this mark.
+fn marked(case: &[u8], out: &mut [u8; 262144]) -> usize
+    requires { ⌜ 22 ≤ length (now case) ⌝ }
+    ensures { λ r. ⌜ r ≤ 262144 ⌝ }
+{
+    if case[1] == ROOMS {
+        let names: [u8; 0] = [0; 0];
+        let rows: [u32; 0] = [0; 0];
+        return lent(case, INPUT, &names, &rows, out);
+    }
+    if case[1] != NAMES {
+        return bad(out);
+    }
+    if case.len() < TEXT {
+        return bad(out);
+    }
+    beside(case, out)
+}
+
 // Answers one case, and says whether there was one.
 fn turn(case: &mut [u8], out: &mut [u8; 262144]) -> bool {
     let frame = read(case);
     let Frame::Bytes(n) = frame else {
         return false;
     };
-    if n < INPUT || case[0] != MARK || case[1] != MARK_TOO {
+    if n < INPUT || case[0] != MARK {
         let k = answer(&case[..n], out);
         return sent(out, k);
     }
-    let k = lent(&case[..n], out);
+    let k = marked(&case[..n], out);
     sent(out, k)
 }
 

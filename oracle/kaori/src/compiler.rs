@@ -8,10 +8,14 @@ use crate::util::string_interner::{StringInterner, Symbol};
 
 pub static INTERNER: LazyLock<Mutex<StringInterner>> = LazyLock::new(Mutex::default);
 
-/// Empties the interner, also after a panic under its lock.
-pub fn fresh_interner() {
+/// Empties the interner, also after a panic under its lock, and gives it these names.
+pub fn fresh_interner(names: &[&str]) {
     INTERNER.clear_poison();
-    *INTERNER.lock().unwrap() = StringInterner::default();
+    let mut interner = INTERNER.lock().unwrap();
+    *interner = StringInterner::default();
+    for name in names {
+        interner.get_or_intern(name);
+    }
 }
 
 /// The messages of the refusals that the original does not have.

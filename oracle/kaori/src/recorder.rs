@@ -30,9 +30,9 @@ thread_local! {
     static RECORDER: RefCell<Recorder> = RefCell::default();
 }
 
-/// Begins a reading.
-pub fn start() {
-    RECORDER.take();
+/// Begins a reading, with so many symbols whose rows stand already.
+pub fn start(symbols: u32) {
+    RECORDER.replace(Recorder { symbols, ..Recorder::default() });
 }
 
 /// The rows since then.

@@ -1,34 +1,47 @@
-//! compare N [--tight] [--batch] [--seed S] COMMAND..: runs N cases through the original and through COMMAND.
+//! compare N [--tight | --names] [--batch] [--seed S] COMMAND..: runs N cases through the original and through COMMAND.
 use std::{
     process::ExitCode,
     time::{Duration, Instant},
 };
 
 use oracle::{
+    beside,
     drawn::Cases,
     rooms::{Judge, Lent},
     show,
-    shrink::shrunk,
+    shrink::{shrunk, shrunk_names},
     subject::{Answer, PATIENCE, Subject},
     tight,
 };
 
-const USAGE: &str = "compare N [--seed S] COMMAND.. | compare N [--tight] [--seed S] --batch COMMAND..";
+const USAGE: &str =
+    "compare N [--seed S] COMMAND.. | compare N [--tight | --names] [--seed S] --batch COMMAND..";
+
+/// Which cases are run: inputs of `rows`, in rooms of chosen sizes, or beside built-in names.
+#[derive(Clone, Copy, PartialEq)]
+enum Sort {
+    Plain,
+    Tight,
+    Named,
+}
 
 struct Options {
     count: u64,
     seed: u64,
-    tight: bool,
+    sort: Sort,
     subject: Subject,
 }
 
 impl Options {
     fn cases(&self) -> Box<dyn Iterator<Item = Vec<u8>> + Send> {
-        if self.tight {
-            return Box::new(tight::frames(self.seed));
+        match self.sort {
+            Sort::Plain => {
+                let cases = Cases::new(self.seed);
+                Box::new((0..).map(move |index| cases.get(index)))
+            }
+            Sort::Tight => Box::new(tight::frames(self.seed)),
+            Sort::Named => Box::new(beside::frames(self.seed)),
         }
-        let cases = Cases::new(self.seed);
-        Box::new((0..).map(move |index| cases.get(index)))
     }
 }
 
@@ -43,17 +56,23 @@ fn main() -> ExitCode {
 fn options(words: Vec<String>) -> Option<Options> {
     let mut words = words.into_iter().peekable();
     let count = words.next()?.parse().ok()?;
-    let (mut seed, mut batch, mut tight) = (1, false, false);
+    let (mut seed, mut batch, mut sort) = (1, false, Sort::Plain);
     loop {
         match words.peek()?.as_str() {
-            "--batch" => batch = words.next().is_some(),
-            "--tight" => tight = words.next().is_some(),
             "--seed" => seed = words.nth(1)?.parse().ok()?,
-            _ => break,
+            word => {
+                match word {
+                    "--batch" => batch = true,
+                    "--tight" => sort = Sort::Tight,
+                    "--names" => sort = Sort::Named,
+                    _ => break,
+                }
+                words.next();
+            }
         }
     }
     let subject = Subject { words: words.collect(), batch };
-    (batch || !tight).then_some(Options { count, seed, tight, subject })
+    (batch || sort == Sort::Plain).then_some(Options { count, seed, sort, subject })
 }
 
 /// The differences met so far.
@@ -148,11 +167,11 @@ fn differs(case: &[u8], subject: &Subject, judge: &mut Judge) -> bool {
     subject.one(case).as_ref() != Ok(&judge.answer(case))
 }
 
-/// A smaller input makes for other rooms, so for each input all rooms are tried that may tell.
+/// A smaller input, or fewer names, make for other rooms, so for each all rooms are tried that may tell.
 fn shrunk_in_rooms(case: Vec<u8>, lent: Lent, subject: &Subject, judge: &mut Judge) -> Vec<u8> {
     let mut smallest = case;
-    shrunk(lent.input.clone(), |input| {
-        let frames = tight::tried(&Lent { input: input.to_vec(), ..lent });
+    let mut differs = |lent: &Lent| {
+        let frames = tight::tried(lent);
         let (mut compared, mut found) = (0, None);
         let failure = subject.stream(frames.clone().into_iter(), |given| {
             let Some(frame) = frames.get(compared) else { return false };
@@ -167,6 +186,11 @@ fn shrunk_in_rooms(case: Vec<u8>, lent: Lent, subject: &Subject, judge: &mut Jud
         }
         smallest = found.clone().unwrap_or(std::mem::take(&mut smallest));
         found.is_some()
-    });
+    };
+    let with_input = |input: &[u8]| Lent { input: input.to_vec(), ..lent.clone() };
+    let input = shrunk(lent.input.clone(), |input| differs(&with_input(input)));
+    if let Some(names) = lent.names.clone() {
+        shrunk_names(names, |names| differs(&Lent { names: Some(names.clone()), ..with_input(&input) }));
+    }
     smallest
 }

@@ -8,6 +8,8 @@ use std::{
 };
 
 use oracle::{
+    beside::for_case,
+    builtins::Builtins,
     door,
     drawn::small,
     judge,
@@ -20,6 +22,9 @@ use oracle::{
 
 /// Cases in one table.
 const CHUNK: usize = 1_000;
+
+/// The most built-in names of a case.
+const MOST_NAMES: usize = 5;
 
 fn main() -> ExitCode {
     let mut words = env::args().skip(1);
@@ -81,24 +86,26 @@ fn run<R: Row>(rows: &[R], summary: String, grammar: &Path) -> ExitCode {
     ExitCode::from(!different.is_empty() as u8)
 }
 
-/// A case that passes the door, with a limit near its own depth or the usual one, and rooms that tell, every other time
-/// with a row for each token.
+/// A case that passes the door, every other time beside built-in names, with a limit near its own depth or the usual one, and
+/// rooms that tell, every other time with a row for each token and each name.
 fn entry(seed: u64, index: u64) -> Option<Entry> {
     let (case, mut random) = small(seed, index);
     if door::refusal(&case, 64).is_some() {
         return None;
     }
-    let depth = judge::read(&case, 64).deepest as usize;
+    let names =
+        if random.once_in(2) { for_case(&case, MOST_NAMES, &mut random) } else { Builtins::default() };
+    let depth = judge::read(&names, &case, 64).deepest as usize;
     let near = [64, 64, depth.saturating_sub(1), depth, depth + 1, random.between(1, depth.max(1))];
     let limit = random.pick(&near).clamp(1, 64) as u32;
-    let known = Known::of(case.clone(), limit);
+    let known = Known::beside(names.clone(), case.clone(), limit);
     let mut rooms = vec![known.ample()];
     if random.once_in(2) {
         rooms = settings(&known, &mut random);
         rooms.retain(|rooms| known.turned_away(*rooms).is_none());
     }
     let rooms = random.pick(&rooms);
-    Some(Entry { outcome: known.comes(rooms), case, limit, rooms })
+    Some(Entry { outcome: known.comes(rooms), names, case, limit, rooms })
 }
 
 fn codes(entries: &[Entry]) -> String {
@@ -110,7 +117,9 @@ fn codes(entries: &[Entry]) -> String {
         };
         *counts.entry(code).or_insert(0) += 1;
     }
-    let counts: Vec<_> = counts.iter().map(|(code, count)| format!("{count} of code {code}")).collect();
+    let mut counts: Vec<_> = counts.iter().map(|(code, count)| format!("{count} of code {code}")).collect();
+    let named = entries.iter().filter(|entry| !entry.names.places().is_empty()).count();
+    counts.push(format!("{named} beside built-in names"));
     counts.join(", ")
 }
 

@@ -98,7 +98,7 @@ fn original(case: &Case) -> String {
         (oracle::kinds::TOKENS[token.kind as usize], Span { start: token.start, end: token.end })
     };
     let tokens: Vec<_> = case.tokens.iter().map(token).collect();
-    fresh_interner();
+    fresh_interner(&[]);
     let compiler = Compiler::default();
     match silently(|| Parser::new(&text, tokens, &compiler).parse()) {
         Ok(Ok(ast)) => format!("accepts; the last row is {:?}", ast.last()),

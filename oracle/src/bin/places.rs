@@ -1,5 +1,5 @@
-//! places COMMAND: what `COMMAND at screen.kaori ..` prints, and its status, against runs that are written down here.
-//! COMMAND is the script `kaori` of the project: the program alone has no status.
+//! places COMMAND: what `COMMAND at screen.kaori ..` and `COMMAND --names names.txt ..` print, and their status, against
+//! runs that are written down here. COMMAND is the script `kaori` of the project: the program alone has no status.
 use std::{
     fs,
     io::Result,
@@ -81,6 +81,100 @@ const RUNS: &[Run] = &[
     ("a;", &["1", "1", "1"], &[], THREE_WORDS, 2),
 ];
 
+/// The text of names.txt, a script, the words of the command, and the rest as of a run.
+type Named<'a> = (&'a str, &'a str, &'a [&'a str], &'a [&'a str], &'a str, i32);
+
+const STATION: &str = "show\nadvance\n\nbeep\n";
+const TREE: &[&str] = &["tree", "screen.kaori"];
+const CHECK: &[&str] = &["check", "screen.kaori"];
+
+/// Every kind of row that has a name, and a string, a property and names of a list that spell one.
+const SPELLED: &str =
+    "fun show(beep) { let advance = \"show\"; key.show; advance }\nconst beep = 1;\nref shown = beep;\n";
+const SPELLED_TREE: &[&str] = &[
+    "",
+    "line 1: fun show(beep) { let advance = \"show\"; key.show; advance }",
+    "  reads as",
+    "    fun show(beep) {",
+    "      let advance = \"show\";",
+    "      key.show;",
+    "      advance",
+    "    }",
+    "  tree",
+    "    1:1      Function (built-in)              fun show(beep) { let advance = \"show\"; key.show; adv..",
+    "    1:16       Block                          { let advance = \"show\"; key.show; advance }",
+    "    1:18         Variable (built-in)          let advance = \"show\"",
+    "    1:32           String                     \"show\"",
+    "    1:40         PropertyAccess               key.show",
+    "    1:40           Identifier                 key",
+    "    1:50         Identifier (built-in) (tail) advance",
+    "",
+    "line 2: const beep = 1",
+    "  reads as",
+    "    const beep = 1;",
+    "  tree",
+    "    2:1      Constant (built-in)              const beep = 1",
+    "    2:14       Number                         1",
+    "",
+    "line 3: ref shown = beep",
+    "  reads as",
+    "    ref shown = beep;",
+    "  tree",
+    "    3:1      Ref                              ref shown = beep",
+    "    3:13       Identifier (built-in)          beep",
+];
+const SPELLED_AT: &[&str] = &[
+    "    1:50     Identifier (built-in)            advance",
+    "    1:16     Block                            { let advance = \"show\"; key.show; advance }",
+    "    1:1      Function (built-in)              fun show(beep) { let advance = \"show\"; key.show; adv..",
+    "    1:1      Script                           fun show(beep) { let advance = \"show\"; key.show; adv..",
+];
+
+/// `beep(a);`: the built-in rows stand first, and the script's own name follows.
+const ROWS: &[&str] = &[
+    "ok 4 2 4",
+    "0 10 0 4 2 0 4 0 0 0 2",
+    "1 10 5 6 3 5 6 0 0 0 2",
+    "2 15 4 7 0 0 1 0 0 0 3",
+    "3 20 0 0 1 1 4294967295 0 0 0 4294967295",
+    "link 0 1 0 0",
+    "link 1 2 0 0",
+    "sym 0 0 4",
+    "sym 1 5 12",
+    "sym 2 14 18",
+    "sym 3 5 6",
+];
+
+#[rustfmt::skip]
+const NAMED: &[Named] = &[
+    // what is marked and what is not, in the tree and at a place
+    (STATION, SPELLED, TREE, SPELLED_TREE, "", 0),
+    (STATION, SPELLED, &["at", "screen.kaori", "1", "52"], SPELLED_AT, "", 0),
+    // the rows, and the report of a script that is refused
+    (STATION, "beep(a);", &["rows", "screen.kaori"], ROWS, "", 0),
+    (STATION, "let = 1;", CHECK, REFUSED, "", 1),
+    (STATION, "a;", CHECK, &[], "", 0),
+    // no names, and lines that end as they may
+    ("", "a;", CHECK, &[], "", 0),
+    ("\n\r\r\n", "a;", CHECK, &[], "", 0),
+    ("a\r\n\r\nb\rc\n\nd", "a;", CHECK, &[], "", 0),
+    // words that are no command
+    (STATION, "a;", &["show"], &[], "show: no such command; see kaori help", 2),
+    (STATION, "a;", &["check"], &[], "no file is named; see kaori help", 2),
+    (STATION, "a;", &["at", "screen.kaori", "1"], &[], THREE_WORDS, 2),
+];
+
+/// Texts of names.txt, and the line that is wrong: a keyword, blanks, a digit first, a byte past ASCII, two words; a name that
+/// stands above it; and lines that end as they may. The script is refused too, but nothing is said of it.
+#[rustfmt::skip]
+const WRONG: &[(&str, usize)] = &[
+    ("a\nlet", 2), (" a", 1), ("a\nb \nc", 2), ("a\n1b", 2), ("caf\u{e9}", 1), ("a b", 1), ("a\nb\na", 3),
+    ("a\r\n\r\nb\rc\n\nc", 6), ("a\r\r\r\nnil\nnil", 4),
+];
+
+/// So many names, what is said, and the status.
+const COUNTED: &[(usize, &str, i32)] = &[(64, "", 0), (65, "names.txt:65: more than 64 names", 2)];
+
 fn main() -> ExitCode {
     let Some(program) = std::env::args().nth(1) else {
         eprintln!("usage: places COMMAND");
@@ -104,23 +198,52 @@ fn told(said: &Output) -> (String, String, Option<i32>) {
     (text(&said.stdout), text(&said.stderr), said.status.code())
 }
 
+/// Whether a run differs, which is then shown.
+fn differs(mut command: Command, what: &str, lines: &[&str], error: &str, status: i32) -> Result<bool> {
+    let out: String = lines.iter().map(|line| format!("{line}\n")).collect();
+    let error = if error.is_empty() { String::new() } else { format!("kaori: {error}\n") };
+    let expected = (out, error, Some(status));
+    let told = told(&command.output()?);
+    if told == expected {
+        return Ok(false);
+    }
+    println!("{what}\nplaces.rs {expected:?}\nprogram   {told:?}");
+    Ok(true)
+}
+
 fn run(program: &str, folder: &Path) -> Result<ExitCode> {
     let program = fs::canonicalize(program)?;
+    let command = |words: &[&str]| {
+        let mut command = Command::new(&program);
+        command.args(words).current_dir(folder);
+        command
+    };
     let mut differences = 0;
     for (script, place, lines, error, status) in RUNS {
         fs::write(folder.join("screen.kaori"), script)?;
-        let mut command = Command::new(&program);
-        command.args(["at", "screen.kaori"]).args(*place).current_dir(folder);
-        let out: String = lines.iter().map(|line| format!("{line}\n")).collect();
-        let error = if error.is_empty() { String::new() } else { format!("kaori: {error}\n") };
-        let expected = (out, error, Some(*status));
-        let told = told(&command.output()?);
-        if told != expected {
-            println!("\"{}\" at {}", script.escape_default(), place.join(" "));
-            println!("places.rs {expected:?}\nprogram   {told:?}");
-            differences += 1;
-        }
+        let words = [&["at", "screen.kaori"], *place].concat();
+        let what = format!("\"{}\" at {}", script.escape_default(), place.join(" "));
+        differences += differs(command(&words), &what, lines, error, *status)? as usize;
     }
-    println!("{} runs, {differences} differences", RUNS.len());
+    let named = |names: &str, script: &str, words: &[&str], lines: &[&str], error: &str, status: i32| {
+        fs::write(folder.join("names.txt"), names)?;
+        fs::write(folder.join("screen.kaori"), script)?;
+        let words = [&["--names", "names.txt"], words].concat();
+        let what = format!("{:?}, {:?} {}", names, script, words.join(" "));
+        differs(command(&words), &what, lines, error, status)
+    };
+    for (names, script, words, lines, error, status) in NAMED {
+        differences += named(names, script, words, lines, error, *status)? as usize;
+    }
+    for (names, line) in WRONG {
+        let error = format!("names.txt:{line}: not a name, or one that stands above it");
+        differences += named(names, "let = 1;", CHECK, &[], &error, 2)? as usize;
+    }
+    for (count, error, status) in COUNTED {
+        let names: String = (0..*count).map(|i| format!("name{i}\n")).collect();
+        differences += named(&names, "a;", CHECK, &[], error, *status)? as usize;
+    }
+    let runs = RUNS.len() + NAMED.len() + WRONG.len() + COUNTED.len();
+    println!("{runs} runs, {differences} differences");
     Ok(ExitCode::from((differences > 0) as u8))
 }

@@ -32,4 +32,4 @@ called-requires c κs =
     (scanned-sized (sizes .before .before .before .before .before .before .form .given .1) (sizes .before .before .before .before .before .before .before .before .scan .ensures), few _ (sizes .before .before .before .sized .ensures), few _ (sizes .before .before .sized2 .ensures), few _ (sizes .before .sized3 .ensures), few _ (sizes .sized4 .ensures))
 
 pub lent-spec : {M : Type 1} → statement M
-lent-spec = tie.close (tie.spec (λ c. search needs) (λ c. search needs) (λ c. search needs) (λ c κs. search needs) (λ c. search needs) (λ c. search needs) (λ c. search needs) (λ c κs. search needs) (λ c. search needs) (λ c κs. search needs) (λ c κs. search needs) (λ c κs. search needs) (λ c κs. search needs) (λ c κs. search needs) (λ c. search needs) (λ c. search needs) (λ c. search needs) (λ c. search needs) slice-aggregate-called (λ c. search needs) slice-aggregate-called-2 (λ c. search needs) slice-aggregate-called-3 (λ c. search needs) slice-aggregate-called-4 called-requires (λ c. search needs))
+lent-spec = tie.close (tie.spec (λ c. search needs) (λ c. search needs) (λ c. search needs) (λ c κs. search needs) (λ c. search needs) (λ c. search needs) (λ c κs. search needs) (λ c. search needs) (λ c κs. search needs) (λ c κs. search needs) (λ c κs. search needs) (λ c κs. search needs) (λ c κs. search needs) (λ c. search needs) (λ c. search needs) (λ c. search needs) (λ c. search needs) slice-aggregate-called (λ c. search needs) slice-aggregate-called-2 (λ c. search needs) slice-aggregate-called-3 (λ c. search needs) slice-aggregate-called-4 called-requires (λ c. search needs))
