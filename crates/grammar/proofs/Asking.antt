@@ -5,6 +5,7 @@ use mathlib.Core.List.{List}
 use mathlib.Core.Path.{_≡_, refl, ap}
 use native.Mathlib.Omega.{arith}
 use lib.Dec.{T}
+use Rattle.grammar.specs.Edition.{Edition}
 use Rattle.grammar.specs.Handle.{Handle}
 use Rattle.grammar.specs.Kaori.{Table, Form, kaori, Script}
 use Rattle.grammar.specs.Label.{Node, Label}
@@ -25,7 +26,8 @@ module _ (ts : List ℕ) (σ τ : ℕ → ℕ) where
   rule-same Node.Binary a b xs ys x y h = refl
   rule-same Node.LogicalAnd a b xs ys x y h = refl
   rule-same Node.LogicalOr a b xs ys x y h = refl
-  rule-same Node.LogicalNot a b xs ys x y h = refl
+  rule-same (Node.LogicalNot Edition.first) a b xs ys x y h = refl
+  rule-same (Node.LogicalNot Edition.second) a b xs ys x y h = refl
   rule-same Node.Unary a b xs ys x y h = refl
   rule-same Node.Assign a b xs ys x y h = refl
   rule-same Node.Variable a b xs ys x y h = refl
@@ -71,34 +73,34 @@ module _ (ts : List ℕ) (σ τ : ℕ → ℕ) where
   unfolding walk
   bare-same e w = rw e
 
-  module _ {kind : ℕ → ℕ} {n : ℕ} (same : (i : ℕ) → i < n → a-name (kind i) ≡ true → σ i ≡ τ i) where
+  module _ (e : Edition) {kind : ℕ → ℕ} {n : ℕ} (same : (i : ℕ) → i < n → a-name (kind i) ≡ true → σ i ≡ τ i) where
     -- what a node has, and what it asks for itself
-    node-same : (f : Label) {p : Form} {a b : ℕ} {t : Tree Label} → Reads kaori kind (whole p) a b t → T (spoken (node f p)) → b ≤ n → (T (spoken p) → (w : Rows) → walk ts σ t w ≡ walk ts τ t w) → (has-word f ≡ true → σ a ≡ τ a) × ((w : Rows) → walk ts σ t w ≡ walk ts τ t w)
-    node-same f {p} {a} {b} {t} x h l g = pick (speech f x h)
+    node-same : (f : Label) {p : Form} {a b : ℕ} {t : Tree Label} → Reads (kaori e) kind (whole p) a b t → T (spoken (node f p)) → b ≤ n → (T (spoken p) → (w : Rows) → walk ts σ t w ≡ walk ts τ t w) → (has-word f ≡ true → σ a ≡ τ a) × ((w : Rows) → walk ts σ t w ≡ walk ts τ t w)
+    node-same f {p} {a} {b} {t} x h l g = pick (speech e f x h)
       where
         pick : Speech kind f p a b t → (has-word f ≡ true → σ a ≡ τ a) × ((w : Rows) → walk ts σ t w ≡ walk ts τ t w)
-        pick (Speech.word e y) = (λ _. same a (omega (arith, y .ends)) (y .spells), bare-same (y .bare))
-        pick (Speech.wordless e k) = (λ i. absurd (let z : _≡_ {A = ℕ} 0 1 = cc in omega arith), g k)
+        pick (Speech.word i y) = (λ _. same a (omega (arith, y .ends)) (y .spells), bare-same (y .bare))
+        pick (Speech.wordless i k) = (λ j. absurd (let z : _≡_ {A = ℕ} 0 1 = cc in omega arith), g k)
 
-    walk-same : {m : Aim Table Label} {a b : ℕ} {t : Tree Label} → Reads kaori kind m a b t → T (spoken (asked m)) → b ≤ n → (w : Rows) → walk ts σ t w ≡ walk ts τ t w
+    walk-same : {m : Aim Table Label} {a b : ℕ} {t : Tree Label} → Reads (kaori e) kind m a b t → T (spoken (asked m)) → b ≤ n → (w : Rows) → walk ts σ t w ≡ walk ts τ t w
     unfolding walk spoken
     walk-same Reads.nothing h l w = refl
-    walk-same (Reads.taken {x = x} {p = p} e r) h l w = walk-same r (both (not (a-name x)) (spoken p) h .1) l w
-    walk-same (Reads.both {p = p} {q = q} {t = t} {u = u} x y) h l w = let (i, j) = both (spoken p) (spoken q) h in more-same t u (walk-same x i (omega (arith, takes y))) (walk-same y j l) w
+    walk-same (Reads.taken {x = x} {p = p} k r) h l w = walk-same r (both (not (a-name x)) (spoken p) h .1) l w
+    walk-same (Reads.both {p = p} {q = q} {t = t} {u = u} x y) h l w = let (i, j) = both (spoken p) (spoken q) h in more-same t u (walk-same x i (omega (arith, takes e y))) (walk-same y j l) w
     walk-same (Reads.opened x) h l w = walk-same x h l w
-    walk-same (Reads.labelled {f = f} {a = a} {b = b} {t = t} x) h l w = let (i, j) = node-same f x h l (λ k. walk-same x k l) in made-same f a b t i j w
-    walk-same (Reads.chosen {n = m} e x) h l w = walk-same x (spoken-entry m _ e) l w
+    walk-same (Reads.labelled {f = f} {a = a} {b = b} {t = t} x) h l w = let (i, j) = node-same f x h l (λ v. walk-same x v l) in made-same f a b t i j w
+    walk-same (Reads.chosen {n = m} k x) h l w = walk-same x (spoken-entry e m _ k) l w
     walk-same (Reads.first x) h l w = walk-same x h l w
-    walk-same (Reads.link {n = m} {f = f} {b = b} {c = c} {t = t} {u = u} x e y) h l w =
-        let (i, j) = node-same f y (spoken-entry m _ e) l (λ k. walk-same y k l) in
-        made-same f b c (Tree.more t u) i (more-same t u (walk-same x h (omega (arith, takes y))) j) w
-    walk-same (Reads.ended x e) h l w = walk-same x h l w
-    walk-same (Reads.alone x e) h l w = walk-same x h l w
-    walk-same (Reads.joined {n = m} {f = f} {b = b} {c = c} {t = t} {u = u} x e y) h l w =
-        let (i, j) = node-same f y (spoken-entry m _ e) l (λ k. walk-same y k l) in
-        made-same f b c (Tree.more t u) i (more-same t u (walk-same x h (omega (arith, takes y))) j) w
+    walk-same (Reads.link {n = m} {f = f} {b = b} {c = c} {t = t} {u = u} x k y) h l w =
+        let (i, j) = node-same f y (spoken-entry e m _ k) l (λ v. walk-same y v l) in
+        made-same f b c (Tree.more t u) i (more-same t u (walk-same x h (omega (arith, takes e y))) j) w
+    walk-same (Reads.ended x k) h l w = walk-same x h l w
+    walk-same (Reads.alone x k) h l w = walk-same x h l w
+    walk-same (Reads.joined {n = m} {f = f} {b = b} {c = c} {t = t} {u = u} x k y) h l w =
+        let (i, j) = node-same f y (spoken-entry e m _ k) l (λ v. walk-same y v l) in
+        made-same f b c (Tree.more t u) i (more-same t u (walk-same x h (omega (arith, takes e y))) j) w
 
-  -- the rows of a script
-  pub written-same : {kind : ℕ → ℕ} {n : ℕ} {t : Tree Label} → Script kind n t → ((i : ℕ) → i < n → a-name (kind i) ≡ true → σ i ≡ τ i) → written ts σ t ≡ written ts τ t
-  unfolding written unparented spoken has-word
-  written-same x same = ap (λ r. parented (r .rows)) (walk-same same x tt (omega arith) blank)
+-- the rows of a script
+pub written-same : (e : Edition) (ts : List ℕ) (σ τ : ℕ → ℕ) {kind : ℕ → ℕ} {n : ℕ} {t : Tree Label} → Script e kind n t → ((i : ℕ) → i < n → a-name (kind i) ≡ true → σ i ≡ τ i) → written ts σ t ≡ written ts τ t
+unfolding written unparented spoken has-word
+written-same e ts σ τ x same = ap (λ r. parented (r .rows)) (walk-same ts σ τ e same x tt (omega arith) blank)

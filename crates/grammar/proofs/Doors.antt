@@ -2,6 +2,7 @@
 use Prim.Native.Nat.{ℕ, zero, suc, _+_, _*_, _/_, _≤_, _<_}
 use mathlib.Core.Bool.{Bool, true, false}
 use mathlib.Core.List.{List}
+use mathlib.Core.Logic.{_⊎_, inl, inr, ⊎-elim}
 use mathlib.Core.Path.{_≡_, refl, subst}
 use native.Mathlib.Decide.{ℕ-discrete, decLe, decLt}
 use native.Mathlib.Omega.{arith}
@@ -10,7 +11,7 @@ use lib.ListN.{length, getD}
 use Rattle.grammar.specs.Builtin.{Builtins, built, Right-names}
 use Rattle.grammar.specs.Call.{Call}
 use Rattle.grammar.specs.Derivative.{matches}
-use Rattle.grammar.specs.Door.{Whole, Roomy, Right-symbols, Ascii, Sound, Closed, Admitted, First-without, Wrong, Turned-away}
+use Rattle.grammar.specs.Door.{Whole, Roomy, Right-symbols, Right-edition, Ascii, Sound, Closed, Admitted, First-without, Wrong, Turned-away}
 use Rattle.grammar.specs.Kind.{And, Nil, Identifier, Eof}
 use Rattle.grammar.specs.Lexeme.{spelling, pattern, Fits}
 use Rattle.grammar.specs.Pattern.{Pattern, Matches}
@@ -34,6 +35,11 @@ unfoldable pub also : {A B : Type 0} → Dec A → Dec B → Dec (A × B)
 also (yes a) (yes b) = yes (a, b)
 also (yes a) (no z) = no (λ p. z (p .1))
 also (no z) d = no (λ p. z (p .0))
+
+unfoldable pub either : {A B : Type 0} → Dec A → Dec B → Dec (A ⊎ B)
+either (yes a) d = yes (inl a)
+either (no z) (yes b) = yes (inr b)
+either (no z) (no y) = no (⊎-elim z y)
 
 unfoldable pub implies : {A B : Type 0} → Dec A → Dec B → Dec (A → B)
 implies (yes a) (yes b) = yes (λ x. b)
@@ -147,26 +153,28 @@ module _ (c : Call) where
   Asked (suc zero) = Whole (c .tokens)
   Asked (suc (suc zero)) = length (c .text) ≤ 65536
   Asked (suc (suc (suc zero))) = (1 ≤ c .limit) × (c .limit ≤ 64)
-  Asked (suc (suc (suc (suc zero)))) = Roomy c
-  Asked (suc (suc (suc (suc (suc zero))))) = Right-names (c .names)
-  Asked (suc (suc (suc (suc (suc (suc zero)))))) = Right-symbols (c .names) (length (c .rooms .symbols))
-  Asked (suc (suc (suc (suc (suc (suc (suc zero))))))) = Ascii (c .text)
-  Asked (suc (suc (suc (suc (suc (suc (suc (suc zero)))))))) = (i : ℕ) → i < count (c .tokens) → Sound (c .text) (c .tokens) i
-  Asked (suc (suc (suc (suc (suc (suc (suc (suc (suc zero))))))))) = (i : ℕ) → i < count (c .tokens) → Closed (c .tokens) i
-  Asked (suc (suc (suc (suc (suc (suc (suc (suc (suc (suc k)))))))))) = Unit {0}
+  Asked (suc (suc (suc (suc zero)))) = Right-edition (c .edition)
+  Asked (suc (suc (suc (suc (suc zero))))) = Roomy c
+  Asked (suc (suc (suc (suc (suc (suc zero)))))) = Right-names (c .names)
+  Asked (suc (suc (suc (suc (suc (suc (suc zero))))))) = Right-symbols (c .names) (length (c .rooms .symbols))
+  Asked (suc (suc (suc (suc (suc (suc (suc (suc zero)))))))) = Ascii (c .text)
+  Asked (suc (suc (suc (suc (suc (suc (suc (suc (suc zero))))))))) = (i : ℕ) → i < count (c .tokens) → Sound (c .text) (c .tokens) i
+  Asked (suc (suc (suc (suc (suc (suc (suc (suc (suc (suc zero)))))))))) = (i : ℕ) → i < count (c .tokens) → Closed (c .tokens) i
+  Asked (suc (suc (suc (suc (suc (suc (suc (suc (suc (suc (suc k))))))))))) = Unit {0}
 
   unfoldable pub ask : (turn : ℕ) → Dec (Asked turn)
   ask zero = yes tt
   ask (suc zero) = carried (λ p. record { rows = p .0; some = p .1 .0; most = p .1 .1 }) (λ w. (w .rows, (w .some, w .most))) (also (ℕ-discrete (length (c .tokens)) (3 * count (c .tokens))) (also (decLe 1 (count (c .tokens))) (decLe (count (c .tokens)) 4096)))
   ask (suc (suc zero)) = decLe (length (c .text)) 65536
   ask (suc (suc (suc zero))) = also (decLe 1 (c .limit)) (decLe (c .limit) 64)
-  ask (suc (suc (suc (suc zero)))) = decLe (count (c .tokens)) (length (c .rooms .scratch) / scratch-width)
-  ask (suc (suc (suc (suc (suc zero))))) = right-names (c .names)
-  ask (suc (suc (suc (suc (suc (suc zero)))))) = decLe (symbol-width * built (c .names)) (length (c .rooms .symbols))
-  ask (suc (suc (suc (suc (suc (suc (suc zero))))))) = each in-bytes
-  ask (suc (suc (suc (suc (suc (suc (suc (suc zero)))))))) = each in-tokens
-  ask (suc (suc (suc (suc (suc (suc (suc (suc (suc zero))))))))) = each in-ends
-  ask (suc (suc (suc (suc (suc (suc (suc (suc (suc (suc k)))))))))) = yes tt
+  ask (suc (suc (suc (suc zero)))) = either (ℕ-discrete (c .edition) 1) (ℕ-discrete (c .edition) 2)
+  ask (suc (suc (suc (suc (suc zero))))) = decLe (count (c .tokens)) (length (c .rooms .scratch) / scratch-width)
+  ask (suc (suc (suc (suc (suc (suc zero)))))) = right-names (c .names)
+  ask (suc (suc (suc (suc (suc (suc (suc zero))))))) = decLe (symbol-width * built (c .names)) (length (c .rooms .symbols))
+  ask (suc (suc (suc (suc (suc (suc (suc (suc zero)))))))) = each in-bytes
+  ask (suc (suc (suc (suc (suc (suc (suc (suc (suc zero))))))))) = each in-tokens
+  ask (suc (suc (suc (suc (suc (suc (suc (suc (suc (suc zero)))))))))) = each in-ends
+  ask (suc (suc (suc (suc (suc (suc (suc (suc (suc (suc (suc k))))))))))) = yes tt
 
   -- something is wrong exactly where a check asks for what there is not
   pub not-had : {n k at from upto : ℕ} → Wrong c n k at from upto → Asked n → ⊥
@@ -174,6 +182,7 @@ module _ (c : Call) where
   not-had (Wrong.text x) a = omega arith
   not-had (Wrong.no-depth x) a = let l = a .0 in omega arith
   not-had (Wrong.deep x) a = let l = a .1 in omega arith
+  not-had (Wrong.edition x) a = x a
   not-had (Wrong.room x) a = x a
   not-had (Wrong.names x) a = x a
   not-had (Wrong.names-room x) a = omega arith
@@ -189,24 +198,25 @@ module _ (c : Call) where
   find (suc zero) z = (1, 0, 0, 0, Wrong.list z)
   find (suc (suc zero)) z = (2, 0, 0, 0, let l : 65536 < length (c .text) = omega arith in Wrong.text l)
   find (suc (suc (suc zero))) z = (3, 0, 0, 0, elim (ℕ-discrete (c .limit) 0) [ yes e ↦ Wrong.no-depth e | no n ↦ elim (decLt 64 (c .limit)) [ yes l ↦ Wrong.deep l | no m ↦ absurd (z (omega arith, omega arith)) ] ])
-  find (suc (suc (suc (suc zero)))) z = (4, 0, 0, 0, Wrong.room z)
-  find (suc (suc (suc (suc (suc zero))))) z = (18, 0, 0, 0, Wrong.names z)
-  find (suc (suc (suc (suc (suc (suc zero)))))) z = (4, 0, 0, 0, let l : length (c .rooms .symbols) < symbol-width * built (c .names) = omega arith in Wrong.names-room l)
-  find (suc (suc (suc (suc (suc (suc (suc zero))))))) z = elim in-bytes [ all f ↦ absurd (z f) | lacking {i = i} x ↦ (5, 0, i, i + 1, Wrong.byte x) ]
-  find (suc (suc (suc (suc (suc (suc (suc (suc zero)))))))) z = elim in-tokens [ all f ↦ absurd (z f) | lacking {i = i} x ↦ (6, i, start (c .tokens) i, end (c .tokens) i, Wrong.token x) ]
-  find (suc (suc (suc (suc (suc (suc (suc (suc (suc zero))))))))) z = elim in-ends [ all f ↦ absurd (z f) | lacking {i = i} x ↦ (7, i, start (c .tokens) i, end (c .tokens) i, Wrong.eof x) ]
-  find (suc (suc (suc (suc (suc (suc (suc (suc (suc (suc k)))))))))) z = absurd (z tt)
+  find (suc (suc (suc (suc zero)))) z = (21, 0, 0, 0, Wrong.edition z)
+  find (suc (suc (suc (suc (suc zero))))) z = (4, 0, 0, 0, Wrong.room z)
+  find (suc (suc (suc (suc (suc (suc zero)))))) z = (18, 0, 0, 0, Wrong.names z)
+  find (suc (suc (suc (suc (suc (suc (suc zero))))))) z = (4, 0, 0, 0, let l : length (c .rooms .symbols) < symbol-width * built (c .names) = omega arith in Wrong.names-room l)
+  find (suc (suc (suc (suc (suc (suc (suc (suc zero)))))))) z = elim in-bytes [ all f ↦ absurd (z f) | lacking {i = i} x ↦ (5, 0, i, i + 1, Wrong.byte x) ]
+  find (suc (suc (suc (suc (suc (suc (suc (suc (suc zero))))))))) z = elim in-tokens [ all f ↦ absurd (z f) | lacking {i = i} x ↦ (6, i, start (c .tokens) i, end (c .tokens) i, Wrong.token x) ]
+  find (suc (suc (suc (suc (suc (suc (suc (suc (suc (suc zero)))))))))) z = elim in-ends [ all f ↦ absurd (z f) | lacking {i = i} x ↦ (7, i, start (c .tokens) i, end (c .tokens) i, Wrong.eof x) ]
+  find (suc (suc (suc (suc (suc (suc (suc (suc (suc (suc (suc k))))))))))) z = absurd (z tt)
 
   -- what the door says of a call
   pub data Verdict : Type 0 where
     inside : Admitted c → Verdict
     turned : (code at from upto : ℕ) → Turned-away c code at from upto → Verdict
 
-  pub away : {turn code at from upto : ℕ} → First-without Asked 10 turn → Wrong c turn code at from upto → Turned-away c code at from upto
+  pub away : {turn code at from upto : ℕ} → First-without Asked 11 turn → Wrong c turn code at from upto → Turned-away c code at from upto
   away {turn} x w = record { turn = turn; wrong = w; first = λ {t} v. elim (decLt t turn) [ yes h ↦ absurd (not-had v (x .before t h)) | no h ↦ omega arith ] }
 
   unfoldable pub verdict : Verdict
-  verdict = elim (look-through Asked ask 10) [
-    | all f ↦ inside (record { whole = f 1 (omega arith); short = f 2 (omega arith); some-depth = f 3 (omega arith) .0; least-depth = f 3 (omega arith) .1; roomy = f 4 (omega arith); named = f 5 (omega arith); names-fit = f 6 (omega arith); ascii = f 7 (omega arith); sound = f 8 (omega arith); closed = f 9 (omega arith) })
+  verdict = elim (look-through Asked ask 11) [
+    | all f ↦ inside (record { whole = f 1 (omega arith); short = f 2 (omega arith); some-depth = f 3 (omega arith) .0; least-depth = f 3 (omega arith) .1; edition = f 4 (omega arith); roomy = f 5 (omega arith); named = f 6 (omega arith); names-fit = f 7 (omega arith); ascii = f 8 (omega arith); sound = f 9 (omega arith); closed = f 10 (omega arith) })
     | lacking {i = i} x ↦ let f = find i (x .lacks) in turned (f .0) (f .1) (f .2) (f .3) (away x (f .4))
   ]

@@ -10,6 +10,7 @@ use Rattle.grammar.specs.Answer.{Answer}
 use Rattle.grammar.specs.Builtin.{Builtins, built}
 use Rattle.grammar.specs.Call.{Call}
 use Rattle.grammar.specs.Door.{Whole, Right-symbols, Admitted}
+use Rattle.grammar.specs.Edition.{Edition, edition}
 use Rattle.grammar.specs.Handle.{absent}
 use Rattle.grammar.specs.Kaori.{Table, Form, kaori, script, Script}
 use Rattle.grammar.specs.Kind.{Eof}
@@ -99,64 +100,64 @@ code (accepted w ss) = 0
 code (refusal q) = code-of q
 
 -- what comes of a list in larger rooms is what came of it before, the same rows or the same refusal, unless that was a 4
-pub outcome-kept : {names : Builtins} {text ts : List ℕ} {limit : ℕ} {s z : Space} {room larger : ℕ} {r : Outcome} → Larger s z room larger → Comes names text ts limit s room r → (code r ≡ 4 → ⊥) → Comes names text ts limit z larger r
+pub outcome-kept : {e : Edition} {names : Builtins} {text ts : List ℕ} {limit : ℕ} {s z : Space} {room larger : ℕ} {r : Outcome} → Larger s z room larger → Comes e names text ts limit s room r → (code r ≡ 4 → ⊥) → Comes e names text ts limit z larger r
 outcome-kept g (Comes.read x h i j) n = Comes.read x h (omega (arith, i, g)) (omega (arith, j, g))
-outcome-kept {names} {text} {ts} g (Comes.stop x) n = Comes.stop (refusal-kept (omega arith) (keeps names text ts g) alike-self x (λ e. omega arith) (λ e. absurd (n e)))
+outcome-kept {names = names} {text} {ts} g (Comes.stop x) n = Comes.stop (refusal-kept (omega arith) (keeps names text ts g) alike-self x (λ e. omega arith) (λ e. absurd (n e)))
 
-pub success-kept : {names : Builtins} {text ts : List ℕ} {limit : ℕ} {s z : Space} {room larger : ℕ} {w : Rows} {ss : List ℕ} → Larger s z room larger → Comes names text ts limit s room (accepted w ss) → Comes names text ts limit z larger (accepted w ss)
+pub success-kept : {e : Edition} {names : Builtins} {text ts : List ℕ} {limit : ℕ} {s z : Space} {room larger : ℕ} {w : Rows} {ss : List ℕ} → Larger s z room larger → Comes e names text ts limit s room (accepted w ss) → Comes e names text ts limit z larger (accepted w ss)
 success-kept g x = outcome-kept g x (λ e. omega arith)
 
 -- a list succeeds with just what a reading writes that the limit and the rooms let pass: all symbol rows fit where the built-in ones do and each node of a script
 -- has its symbol
-pub passing-comes : (names : Builtins) (text ts : List ℕ) {limit : ℕ} {space : Space} (room : ℕ) → Right-symbols names room → {t : Tree Label} → Passes ts (symbol-in names text ts room) limit space kaori (kind ts) (whole script) 0 0 blank (count ts - 1) t → Comes names text ts limit space room (accepted (written ts (symbol names text ts) t) (symbol-rows names text ts (count ts)))
-passing-comes names text ts room r {t} x = Comes.read (x .reads) (omega (arith, x .deep)) (enough-written ts (symbol-in names text ts room) (symbol names text ts) t (x .fits)) (words-fit names text ts room r (x .reads) (x .named))
+pub passing-comes : (e : Edition) (names : Builtins) (text ts : List ℕ) {limit : ℕ} {space : Space} (room : ℕ) → Right-symbols names room → {t : Tree Label} → Passes ts (symbol-in names text ts room) limit space (kaori e) (kind ts) (whole script) 0 0 blank (count ts - 1) t → Comes e names text ts limit space room (accepted (written ts (symbol names text ts) t) (symbol-rows names text ts (count ts)))
+passing-comes e names text ts room r {t} x = Comes.read (x .reads) (omega (arith, x .deep)) (enough-written ts (symbol-in names text ts room) (symbol names text ts) t (x .fits)) (words-fit e names text ts room r (x .reads) (x .named))
 
 -- succeeding with these rows: a reading within the limit, and its rows fit all three rooms
-pub record Succeeds (names : Builtins) (text ts : List ℕ) (limit : ℕ) (space : Space) (room : ℕ) (w : Rows) (ss : List ℕ) : Type 0 where
+pub record Succeeds (e : Edition) (names : Builtins) (text ts : List ℕ) (limit : ℕ) (space : Space) (room : ℕ) (w : Rows) (ss : List ℕ) : Type 0 where
   pub tree : Tree Label
-  pub reading : Script (kind ts) (count ts - 1) tree
+  pub reading : Script e (kind ts) (count ts - 1) tree
   pub deep : depth tree ≤ limit
   pub fits : Enough space w
   pub symbols-fit : length ss ≤ room
   pub rows-are : w ≡ written ts (symbol names text ts) tree
   pub symbols-are : ss ≡ symbol-rows names text ts (count ts)
 
-pub succeeds : {names : Builtins} {text ts : List ℕ} {limit : ℕ} {space : Space} {room : ℕ} {w : Rows} {ss : List ℕ} → Comes names text ts limit space room (accepted w ss) → Succeeds names text ts limit space room w ss
+pub succeeds : {e : Edition} {names : Builtins} {text ts : List ℕ} {limit : ℕ} {space : Space} {room : ℕ} {w : Rows} {ss : List ℕ} → Comes e names text ts limit space room (accepted w ss) → Succeeds e names text ts limit space room w ss
 succeeds (Comes.read {t = t} x h i j) = record { tree = t; reading = x; deep = h; fits = i; symbols-fit = j; rows-are = refl; symbols-are = refl }
 
-pub success-comes : {names : Builtins} {text ts : List ℕ} {limit : ℕ} {space : Space} {room : ℕ} {w : Rows} {ss : List ℕ} → Succeeds names text ts limit space room w ss → Comes names text ts limit space room (accepted w ss)
+pub success-comes : {e : Edition} {names : Builtins} {text ts : List ℕ} {limit : ℕ} {space : Space} {room : ℕ} {w : Rows} {ss : List ℕ} → Succeeds e names text ts limit space room w ss → Comes e names text ts limit space room (accepted w ss)
 success-comes x = rw (x .rows-are, x .symbols-are) (Comes.read (x .reading) (x .deep) (rw (x .rows-are) at (x .fits)) (rw (x .symbols-are) at (x .symbols-fit)))
 
-module _ (names : Builtins) (text ts : List ℕ) {limit : ℕ} {space : Space} (room : ℕ) {n : ℕ} {t : Tree Label} {q : Refused} where
+module _ (e : Edition) (names : Builtins) (text ts : List ℕ) {limit : ℕ} {space : Space} (room : ℕ) {n : ℕ} {t : Tree Label} {q : Refused} where
   -- where a script is refused by 4, the rows of no reading fit, however deep it is
-  pub short-truly : Whole ts → built names ≤ 64 → Stops names text ts limit space room q → code-of q ≡ 4 → Script (kind ts) n t → Enough space (written ts (symbol names text ts) t) → length (symbol-rows names text ts (count ts)) ≤ room → ⊥
-  short-truly l few x e r i j = script-not-refused names text ts room l few r (omega arith) i j (refusal-kept {l = limit + depth t} (omega arith) keeps-self alike-self x (λ f. omega arith) (λ f. keeps-self))
+  pub short-truly : Whole ts → built names ≤ 64 → Stops e names text ts limit space room q → code-of q ≡ 4 → Script e (kind ts) n t → Enough space (written ts (symbol names text ts) t) → length (symbol-rows names text ts (count ts)) ≤ room → ⊥
+  short-truly l few x c r i j = script-not-refused e names text ts room l few r (omega arith) i j (refusal-kept {l = limit + depth t} (omega arith) keeps-self alike-self x (λ f. omega arith) (λ f. keeps-self))
 
   -- and where it is refused by another code, no reading is within the limit, whatever its rows
-  pub refused-truly : Stops names text ts limit space room q → (code-of q ≡ 4 → ⊥) → Script (kind ts) n t → depth t ≤ limit → ⊥
-  refused-truly x e r h =
+  pub refused-truly : Stops e names text ts limit space room q → (code-of q ≡ 4 → ⊥) → Script e (kind ts) n t → depth t ≤ limit → ⊥
+  refused-truly x c r h =
       let τ : ℕ → ℕ = λ i. 0 in
       let w = then ts τ t blank in
       let z : Space = record { nodes = space .nodes + length (w .nodes); links = space .links + length (w .links) } in
       let g : Keeps space z (symbol-in names text ts room) τ = record { nodes = omega arith; links = omega arith; words = λ i f. omega arith } in
-      read-not-refused {ts = ts} {symbol = τ} {limit = limit} {space = z} {o = 0} {w = blank} (record { reads = r; deep = omega arith; named = named-all (λ i f. omega arith) t; fits = omega arith }) (refusal-kept (omega arith) g alike-self x (λ f. omega arith) (λ f. absurd (e f)))
+      read-not-refused {ts = ts} {symbol = τ} {limit = limit} {space = z} {o = 0} {w = blank} (record { reads = r; deep = omega arith; named = named-all (λ i f. omega arith) t; fits = omega arith }) (refusal-kept (omega arith) g alike-self x (λ f. omega arith) (λ f. absurd (c f)))
 
 -- reading does not depend on the text nor on built-in names: with others, and room for the rows of both, the same refusal comes, or the rows of the same tree
-pub same-refusal : {names others : Builtins} {text other ts : List ℕ} {limit : ℕ} {space : Space} {room room′ : ℕ} {q : Refused} → Whole ts → built names ≤ 64 → built others ≤ 64 → length (symbol-rows names text ts (count ts)) ≤ room → length (symbol-rows others other ts (count ts)) ≤ room′ → Comes names text ts limit space room (refusal q) → Comes others other ts limit space room′ (refusal q)
-same-refusal {names} {others} {text} {other} {ts} {space = space} {room = room} {room′ = room′} l few fewer h i (Comes.stop x) =
-    Comes.stop (refusal-kept (omega arith) (there (symbol-in names text ts room) others other fewer i) alike-self x (λ e. omega arith) (λ e. there (symbol-in others other ts room′) names text few h))
+pub same-refusal : {e : Edition} {names others : Builtins} {text other ts : List ℕ} {limit : ℕ} {space : Space} {room room′ : ℕ} {q : Refused} → Whole ts → built names ≤ 64 → built others ≤ 64 → length (symbol-rows names text ts (count ts)) ≤ room → length (symbol-rows others other ts (count ts)) ≤ room′ → Comes e names text ts limit space room (refusal q) → Comes e others other ts limit space room′ (refusal q)
+same-refusal {names = names} {others} {text} {other} {ts} {space = space} {room = room} {room′ = room′} l few fewer h i (Comes.stop x) =
+    Comes.stop (refusal-kept (omega arith) (there (symbol-in names text ts room) others other fewer i) alike-self x (λ c. omega arith) (λ c. there (symbol-in others other ts room′) names text few h))
   where
     there : (σ : ℕ → ℕ) (ns : Builtins) (u : List ℕ) → built ns ≤ 64 → {n : ℕ} → length (symbol-rows ns u ts (count ts)) ≤ n → Keeps space space σ (symbol-in ns u ts n)
-    there σ ns u f k = record { nodes = omega arith; links = omega arith; words = λ j e. absurd (symbol-there ns u ts l f k j e) }
+    there σ ns u f k = record { nodes = omega arith; links = omega arith; words = λ j a. absurd (symbol-there ns u ts l f k j a) }
 
-pub record Same-tree (names others : Builtins) (text other ts : List ℕ) (limit : ℕ) (space : Space) (room : ℕ) (w : Rows) (ss : List ℕ) : Type 0 where
+pub record Same-tree (e : Edition) (names others : Builtins) (text other ts : List ℕ) (limit : ℕ) (space : Space) (room : ℕ) (w : Rows) (ss : List ℕ) : Type 0 where
   pub tree : Tree Label
   pub rows : w ≡ written ts (symbol names text ts) tree
   pub symbols : ss ≡ symbol-rows names text ts (count ts)
-  pub comes : Comes others other ts limit space room (accepted (written ts (symbol others other ts) tree) (symbol-rows others other ts (count ts)))
+  pub comes : Comes e others other ts limit space room (accepted (written ts (symbol others other ts) tree) (symbol-rows others other ts (count ts)))
 
-pub same-tree : {names others : Builtins} {text other ts : List ℕ} {limit : ℕ} {space : Space} {room room′ : ℕ} {w : Rows} {ss : List ℕ} → length (symbol-rows others other ts (count ts)) ≤ room′ → Comes names text ts limit space room (accepted w ss) → Same-tree names others text other ts limit space room′ w ss
-same-tree {names} {others} {text} {other} {ts} k (Comes.read {t = t} x h i j) = record { tree = t; rows = refl; symbols = refl; comes = Comes.read x h (enough-written ts (symbol names text ts) (symbol others other ts) t (enough-then ts (symbol names text ts) (symbol names text ts) t i)) k }
+pub same-tree : {e : Edition} {names others : Builtins} {text other ts : List ℕ} {limit : ℕ} {space : Space} {room room′ : ℕ} {w : Rows} {ss : List ℕ} → length (symbol-rows others other ts (count ts)) ≤ room′ → Comes e names text ts limit space room (accepted w ss) → Same-tree e names others text other ts limit space room′ w ss
+same-tree {names = names} {others} {text} {other} {ts} k (Comes.read {t = t} x h i j) = record { tree = t; rows = refl; symbols = refl; comes = Comes.read x h (enough-written ts (symbol names text ts) (symbol others other ts) t (enough-then ts (symbol names text ts) (symbol names text ts) t i)) k }
 
 -- rows that the tokens before a pay for
 record Paid (a : ℕ) (w : Rows) : Type 0 where
@@ -174,43 +175,43 @@ spacious h p (Lacks.word i j) = h .words _ j
 spacious h p (Lacks.link i j) = omega (arith, h .links, p .links)
 spacious h p (Lacks.row i j k) = omega (arith, h .nodes, p .nodes)
 
-module _ (ts : List ℕ) (σ : ℕ → ℕ) (space : Space) (kind : ℕ → ℕ) (n : ℕ) (last : kind n ≡ Eof) (room : Spacious (n + 1) space σ) where
+module _ (e : Edition) (ts : List ℕ) (σ : ℕ → ℕ) (space : Space) (kind : ℕ → ℕ) (n : ℕ) (last : kind n ≡ Eof) (room : Spacious (n + 1) space σ) where
   -- what is read up to b is paid for
-  paid-on : {m : Aim Table Label} {a b : ℕ} {w : Rows} {t : Tree Label} → Reads kaori kind m a b t → T (paid (asked m)) → Paid a w → Paid b (then ts σ t w)
-  paid-on {w = w} x h p = let (k, i, g) = pays ts σ x h .pay w in omega arith
+  paid-on : {m : Aim Table Label} {a b : ℕ} {w : Rows} {t : Tree Label} → Reads (kaori e) kind m a b t → T (paid (asked m)) → Paid a w → Paid b (then ts σ t w)
+  paid-on {w = w} x h p = let (k, i, g) = pays e ts σ x h .pay w in omega arith
 
-  within : {m : Aim Table Label} {f : Label} {a b c d : ℕ} {w : Rows} {t : Tree Label} → Reads kaori kind m a b t → T (paid (asked m)) → T (proper (asked m)) → a ≤ n → Paid a w → Lacks σ space f c b (then ts σ t w) d → ⊥
-  within x h i j p l = let e = reading-ends kind n last x i j in let v = paid-on x h p in spacious room (omega arith) l
+  within : {m : Aim Table Label} {f : Label} {a b c d : ℕ} {w : Rows} {t : Tree Label} → Reads (kaori e) kind m a b t → T (paid (asked m)) → T (proper (asked m)) → a ≤ n → Paid a w → Lacks σ space f c b (then ts σ t w) d → ⊥
+  within x h i j p l = let k = reading-ends e kind n last x i j in let v = paid-on x h p in spacious room (omega arith) l
 
-  never : {limit : ℕ} {p : Form} {o a : ℕ} {w : Rows} {q : Refused} → Refuses ts σ limit space kaori kind p o a w q → T (paid p) → T (proper p) → a ≤ n → Paid a w → code-of q ≡ 4 → ⊥
+  never : {limit : ℕ} {p : Form} {o a : ℕ} {w : Rows} {q : Refused} → Refuses ts σ limit space (kaori e) kind p o a w q → T (paid p) → T (proper p) → a ≤ n → Paid a w → code-of q ≡ 4 → ⊥
   unfolding paid proper
-  never (Refuses.missing e) h i j v = λ c. omega arith
-  never (Refuses.past-token {x = x} {p = p} e r) h i j v = never r h (rest x p i) (before kind n last _ x p i j e) (omega arith)
+  never (Refuses.missing k) h i j v = λ c. omega arith
+  never (Refuses.past-token {x = x} {p = p} k r) h i j v = never r h (rest x p i) (before kind n last _ x p i j k) (omega arith)
   never (Refuses.in-first {p = p} {r = r} x) h i j v = never x (both (paid p) (paid r) h .0) (both (proper p) (proper r) i .0) j v
   never (Refuses.in-second {p = p} {r = r} x y) h i j v =
       let (f, g) = both (paid p) (paid r) h in
       let (c, d) = both (proper p) (proper r) i in
-      never y g d (reading-ends kind n last (x .reads) c j) (paid-on (x .reads) f v)
+      never y g d (reading-ends e kind n last (x .reads) c j) (paid-on (x .reads) f v)
   never (Refuses.too-deep d) h i j v = λ c. omega arith
   never (Refuses.inside d x) h i j v = never x h i j v
   never (Refuses.in-node {f = f} {p = p} x) h i j v = never x (paid-node f p h .1) i j v
   never (Refuses.no-room x l) h i j v = λ c. within (Reads.labelled (x .reads)) h i j v l
-  never (Refuses.in-choice {n = m} e x) h i j v = never x (paid-entry m _ e) (proper-entry m _ e) j v
+  never (Refuses.in-choice {n = m} k x) h i j v = never x (paid-entry e m _ k) (proper-entry e m _ k) j v
   never (Refuses.in-start x) h i j v = never x h i j v
-  never (Refuses.in-link {n = m} {f = f} {r = r} x e y) h i j v = never y (paid-node f r (paid-entry m _ e) .1) (proper-link m _ e) (reading-ends kind n last (x .reads) i j) (paid-on (x .reads) h v)
-  never (Refuses.no-room-linked x e y l) h i j v = λ c. within (Reads.link (x .reads) e (y .reads)) h i j v l
+  never (Refuses.in-link {n = m} {f = f} {r = r} x k y) h i j v = never y (paid-node f r (paid-entry e m _ k) .1) (proper-link e m _ k) (reading-ends e kind n last (x .reads) i j) (paid-on (x .reads) h v)
+  never (Refuses.no-room-linked x k y l) h i j v = λ c. within (Reads.link (x .reads) k (y .reads)) h i j v l
   never (Refuses.in-only x) h i j v = never x h i j v
-  never (Refuses.in-joined {n = m} {f = f} {r = r} x e y) h i j v = never y (paid-node f r (paid-entry m _ e) .1) (proper-link m _ e) (reading-ends kind n last (x .reads) i j) (paid-on (x .reads) h v)
-  never (Refuses.no-room-joined x e y l) h i j v = λ c. within (Reads.joined (x .reads) e (y .reads)) h i j v l
-  never (Refuses.stopped {e = e}) h i j v = λ c. omega (arith, leb→le 9 e (both (leb 9 e) (leb e 11) i .0))
+  never (Refuses.in-joined {n = m} {f = f} {r = r} x k y) h i j v = never y (paid-node f r (paid-entry e m _ k) .1) (proper-link e m _ k) (reading-ends e kind n last (x .reads) i j) (paid-on (x .reads) h v)
+  never (Refuses.no-room-joined x k y l) h i j v = λ c. within (Reads.joined (x .reads) k (y .reads)) h i j v l
+  never (Refuses.stopped {e = k}) h i j v = λ c. omega (arith, leb→le 9 k (both (leb 9 k) (leb k 11) i .0))
 
-  script-never : {limit : ℕ} {q : Refused} → Refuses ts σ limit space kaori kind script 0 0 blank q → code-of q ≡ 4 → ⊥
+  script-never : {limit : ℕ} {q : Refused} → Refuses ts σ limit space (kaori e) kind script 0 0 blank q → code-of q ≡ 4 → ⊥
   unfolding paid proper unparented
   script-never (Refuses.in-node x) = never x tt tt (omega arith) (omega arith)
   script-never (Refuses.no-room {b = b} x l) = λ c.
-      let r : Script kind b _ = Reads.labelled (x .reads) in
-      let e = reading-ends kind n last r tt (omega arith) in
-      let f = script-room ts σ r in
+      let r : Script e kind b _ = Reads.labelled (x .reads) in
+      let k = reading-ends e kind n last r tt (omega arith) in
+      let f = script-room e ts σ r in
       spacious room (omega arith) l
 
 -- the rooms have a row for each of n tokens, and the symbol room one for each built-in name, too
@@ -219,29 +220,29 @@ pub record Ample (names : Builtins) (n : ℕ) (space : Space) (room : ℕ) : Typ
   pub links : link-width * n ≤ space .links
   pub symbols : symbol-width * (built names + n) ≤ room
 
-module _ (names : Builtins) (text ts : List ℕ) {space : Space} {room : ℕ} (l : Whole ts) (h : Ample names (count ts) space room) where
+module _ (e : Edition) (names : Builtins) (text ts : List ℕ) {space : Space} {room : ℕ} (l : Whole ts) (h : Ample names (count ts) space room) where
   symbols-enough : length (symbol-rows names text ts (count ts)) ≤ room
   symbols-enough = omega (arith, rows-few names text ts (count ts), h .symbols)
 
   -- a script is never refused by 4 where each room has a row for each token: what was promised before rooms could be small
-  pub ample-never-short : built names ≤ 64 → {limit : ℕ} {q : Refused} → kind ts (count ts - 1) ≡ Eof → Stops names text ts limit space room q → code-of q ≡ 4 → ⊥
+  pub ample-never-short : built names ≤ 64 → {limit : ℕ} {q : Refused} → kind ts (count ts - 1) ≡ Eof → Stops e names text ts limit space room q → code-of q ≡ 4 → ⊥
   ample-never-short few last x =
       let some = l .some in
-      let e : count ts - 1 + 1 ≡ count ts = omega arith in
-      script-never ts (symbol-in names text ts room) space (kind ts) (count ts - 1) last (rw e (record { nodes = h .nodes; links = h .links; words = symbol-there names text ts l few symbols-enough })) x
+      let same : count ts - 1 + 1 ≡ count ts = omega arith in
+      script-never e ts (symbol-in names text ts room) space (kind ts) (count ts - 1) last (rw same (record { nodes = h .nodes; links = h .links; words = symbol-there names text ts l few symbols-enough })) x
 
   -- and has room for the rows
-  pub ample-enough : {t : Tree Label} → Script (kind ts) (count ts - 1) t → Enough space (written ts (symbol names text ts) t) × (length (symbol-rows names text ts (count ts)) ≤ room)
+  pub ample-enough : {t : Tree Label} → Script e (kind ts) (count ts - 1) t → Enough space (written ts (symbol names text ts) t) × (length (symbol-rows names text ts (count ts)) ≤ room)
   unfolding unparented
   ample-enough {t} x =
-      let f = script-room ts (symbol names text ts) x in
+      let f = script-room e ts (symbol names text ts) x in
       let a = written-alike ts (symbol names text ts) t in
       (omega (arith, l .some, h .nodes, h .links, f, a), symbols-enough)
 
 -- of a call whose rooms have a row for each token, and each built-in name: what is let in has a code from 8 where it is refused, as before
 pub ample-codes : {c : Call} {a : Answer} {after : Rooms} → Admitted c → Ample (c .names) (count (c .tokens)) (space-of (c .rooms)) (length (c .rooms .symbols)) → Refused-at c a after → 8 ≤ a .code
 ample-codes {c} {a} d h x =
-    let never : a .code ≡ 4 → ⊥ = ample-never-short (c .names) (c .text) (c .tokens) (d .whole) h (d .named .few) (last-token d) (x .refusal) in
+    let never : a .code ≡ 4 → ⊥ = ample-never-short (edition (c .edition)) (c .names) (c .text) (c .tokens) (d .whole) h (d .named .few) (last-token d) (x .refusal) in
     x .codes .others (omega (arith, never, x .codes .least))
 
 -- rows are written whole: numbers fit exactly where the counts of an answer are no more than the rooms' whole rows, and a number left over in a room is of no use

@@ -5,6 +5,7 @@ use mathlib.Core.List.{List, [], _∷_, _++_, tail}
 use mathlib.Core.Path.{_≡_, refl, sym}
 use native.Mathlib.Omega.{arith}
 use lib.ListN.{length}
+use Rattle.grammar.specs.Edition.{Edition}
 use Rattle.grammar.specs.Handle.{Handle, is-tail, block-list, entry-of}
 use Rattle.grammar.specs.Label.{Node, Label}
 use Rattle.grammar.specs.Parent.{written}
@@ -79,7 +80,8 @@ module _ (ts : List ℕ) (σ τ : ℕ → ℕ) where
   as-many Node.Binary a b x y u v m k = refl
   as-many Node.LogicalAnd a b x y u v m k = refl
   as-many Node.LogicalOr a b x y u v m k = refl
-  as-many Node.LogicalNot a b x y u v m k = refl
+  as-many (Node.LogicalNot Edition.first) a b x y u v m k = refl
+  as-many (Node.LogicalNot Edition.second) a b x y u v m k = refl
   as-many Node.Unary a b x y u v m k = refl
   as-many Node.Assign a b x y u v m k = refl
   as-many Node.Variable a b x y u v m k = refl

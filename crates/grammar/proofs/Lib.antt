@@ -35,6 +35,12 @@ pub mod Calls
 pub mod Demands
 pub mod Larger
 pub mod Builtins
+-- the two editions
+pub mod Follow
+pub mod Tallies
+pub mod Operands
+pub mod Later
+pub mod Editions
 -- samples
 pub mod Reader
 pub mod Doors

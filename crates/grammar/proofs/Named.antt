@@ -18,10 +18,11 @@ pub naming-right : Naming-right
 unfolding parented-below parent named-below named-by naming layout linked-nodes linked-entries
 naming-right = record {
   names = refl;
-  operators = refl;
-  signs = refl;
-  booleans = refl;
-  no-kind = (refl, refl);
+  operators = λ e. refl;
+  signs = λ e. refl;
+  booleans = λ e. refl;
+  no-kind = λ e. (refl, refl);
+  returns = (refl, refl);
   no-row = λ t. let h = t .some in omega arith;
   unnamed = λ t. let h : _≡_ {A = ℕ} 0 1 = t .once 0 (omega arith) in omega arith;
   twice = λ t. let h : _≡_ {A = ℕ} 2 1 = t .once 0 (omega arith) in omega arith;

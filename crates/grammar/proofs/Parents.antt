@@ -9,6 +9,7 @@ use lib.Dec.{T, leb, eqb, leb→le}
 use borrow.Author.Tests.{eqb-true, eqb-false, ne-eqb}
 use lib.ListN.{length, getD, take, drop, replicate, length-replicate, length-append, length-take, length-drop}
 use lib.Seq.{drop-append-le, drop-at, getD-take, getD-drop, take-at, getD-at}
+use Rattle.grammar.specs.Edition.{Edition}
 use Rattle.grammar.specs.Handle.{absent}
 use Rattle.grammar.specs.Layout.{Slot, below, child, option, symbol, name, nodes, names, entries, layouts, layout}
 use Rattle.grammar.specs.Naming.{naming, height, named-by, named-below, times, Rising, One-tree}
@@ -99,9 +100,9 @@ all-narrow : List (List Slot) → Bool
 all-narrow [] = true
 all-narrow (ss ∷ sss) = leb (width ss) 6 && all-narrow sss
 
-narrow : (k : ℕ) → width (layout k) ≤ 6
+narrow : (k : ℕ) → width (layout Edition.second k) ≤ 6
 unfolding layout all-narrow
-narrow k = pick layouts k tt
+narrow k = pick (layouts Edition.second) k tt
   where
     pick : (sss : List (List Slot)) (i : ℕ) → T (all-narrow sss) → width (getD sss i []) ≤ 6
     pick [] i t = omega arith
@@ -125,7 +126,7 @@ module _ (v w : Rows) (i : ℕ) (e : own v i ≡ own w i) where
   unfolding named-by
   named-own l =
       let k = getD (w .nodes) (node-width * i) 0 in
-      rw (l, kind-own) (naming-alike (w .links) (layout k) (record { at = λ m h. fields-own .at m (omega (arith, narrow k)) }))
+      rw (l, kind-own) (naming-alike (w .links) (layout Edition.second k) (record { at = λ m h. fields-own .at m (omega (arith, narrow k)) }))
 
 -- parents put in: each row's own numbers stay
 module _ (w : Rows) where

@@ -1,14 +1,15 @@
 -- The rows and lists that a row's slots hold, each by its place among the row's numbers: what a row names, in a form that code by kinds can be held against.
-use Prim.Native.Nat.{ℕ, suc, _+_, _*_, _≤_, _<_}
+use Prim.Native.Nat.{ℕ, zero, suc, _+_, _*_, _≤_, _<_}
 use native.Mathlib.Decide.{decLt, ℕ-discrete}
 use native.Mathlib.Omega.{arith}
 use mathlib.Core.Bool.{Bool, true, false, _||_}
-use mathlib.Core.List.{List, [], _∷_, _++_}
+use mathlib.Core.List.{List, [], _∷_, _++_, map}
 use mathlib.Core.Logic.{_⊎_, inl, inr}
-use mathlib.Core.Path.{_≡_, refl, ap, _∙_}
+use mathlib.Core.Path.{_≡_, refl, sym, ap, _∙_}
 use lib.Dec.{T}
 use lib.ListN.{getD, drop, List·getD-eq-default}
 use lib.Seq.{getD-drop, drop-drop}
+use Rattle.grammar.specs.Edition.{Edition}
 use Rattle.grammar.specs.Layout.{Slot, layout, layouts}
 use Rattle.grammar.specs.Naming.{linked-nodes, linked-entries, naming}
 use Rattle.grammar.specs.Pattern.{among}
@@ -84,18 +85,38 @@ module _ (ls xs : List ℕ) where
   naming-pieces (Slot.names ∷ ss) i = ap (naming ls ss) (past-two xs i) ∙ naming-pieces ss (suc (suc i))
   naming-pieces (Slot.entries ∷ ss) i = after-list true i (ap (naming ls ss) (past-two xs i) ∙ naming-pieces ss (suc (suc i)))
 
+-- the pieces of each kind are the same in both editions
+all-pieces : List (List Slot) → List (List Piece)
+all-pieces = map (λ ss. pieces ss 0)
+
+pieces-at : (sss : List (List Slot)) (k : ℕ) → getD (all-pieces sss) k [] ≡ pieces (getD sss k []) 0
+unfolding all-pieces pieces
+pieces-at [] k = refl
+pieces-at (ss ∷ sss) zero = refl
+pieces-at (ss ∷ sss) (suc k) = pieces-at sss k
+
+pieces-alike : (e : Edition) → all-pieces (layouts e) ≡ all-pieces (layouts Edition.second)
+unfolding all-pieces pieces
+pieces-alike Edition.first = refl
+pieces-alike Edition.second = refl
+
+-- so by the layout of either edition a row names the same rows
+pub named-alike : (e : Edition) (ls : List ℕ) (k : ℕ) (xs : List ℕ) → naming ls (layout e k) xs ≡ naming ls (layout Edition.second k) xs
+unfolding layout
+named-alike e ls k xs = naming-pieces ls xs (layout e k) 0 ∙ ap (rows ls xs) (sym (pieces-at (layouts e) k) ∙ ap (λ (ps : List (List Piece)). getD ps k []) (pieces-alike e) ∙ pieces-at (layouts Edition.second) k) ∙ sym (naming-pieces ls xs (layout Edition.second k) 0)
+
 -- the pieces of a kind where code is split by kinds: what the arms of the kinds by themselves leave over, in their order, and the ranges between
 abbrev pub Left : ℕ → Type 0
 Left k = (((((((((Unit {0} × (k ≡ 1 → ⊥)) × ((k ≡ 6) ⊎ (k ≡ 22) → ⊥)) × ((k ≡ 4) ⊎ ((k ≡ 16) ⊎ (k ≡ 23)) → ⊥)) × (k ≡ 5 → ⊥)) × (k ≡ 15 → ⊥)) × (k ≡ 17 → ⊥)) × (k ≡ 18 → ⊥)) × (k ≡ 19 → ⊥)) × (k ≡ 20 → ⊥)) × (k ≡ 21 → ⊥)
 
-pub left-pair : {k : ℕ} → Left k → 1 ≤ k → k < 4 → pieces (layout k) 0 ≡ single 0 ∷ single 1 ∷ []
+pub left-pair : {k : ℕ} → Left k → 1 ≤ k → k < 4 → pieces (layout Edition.second k) 0 ≡ single 0 ∷ single 1 ∷ []
 unfolding layout pieces
 left-pair {k} r h l = elim (ℕ-discrete k 2) [ yes e ↦ rw e refl | no y ↦ let e : k ≡ 3 = omega (arith, one) in rw e refl ]
   where
     one : k ≡ 1 → ⊥
     one = r .0 .0 .0 .0 .0 .0 .0 .0 .0 .1
 
-pub left-binding : {k : ℕ} → Left k → 4 ≤ k → k < 10 → pieces (layout k) 0 ≡ single 3 ∷ []
+pub left-binding : {k : ℕ} → Left k → 4 ≤ k → k < 10 → pieces (layout Edition.second k) 0 ≡ single 3 ∷ []
 unfolding layout pieces
 left-binding {k} r h l =
     elim (ℕ-discrete k 7) [
@@ -124,18 +145,18 @@ none-are : (ps : List Piece) → T (none ps) → ps ≡ []
 none-are [] t = refl
 none-are (p ∷ ps) t = absurd t
 
-pub left-none : {k : ℕ} → Left k → 10 ≤ k → pieces (layout k) 0 ≡ []
+pub left-none : {k : ℕ} → Left k → 10 ≤ k → pieces (layout Edition.second k) 0 ≡ []
 unfolding layout pieces
-left-none {k} r l = none-are _ (elim (decLt k 27) [ yes z ↦ rw (not-among k parents others) at (within (λ j. among parents j || none (pieces (layout j) 0)) 10 17 k tt l (omega arith)) | no z ↦ rw (List·getD-eq-default layouts [] {n = k} (omega arith)) tt ])
+left-none {k} r l = none-are _ (elim (decLt k 27) [ yes z ↦ rw (not-among k parents others) at (within (λ j. among parents j || none (pieces (layout Edition.second j) 0)) 10 17 k tt l (omega arith)) | no z ↦ rw (List·getD-eq-default (layouts Edition.second) [] {n = k} (omega arith)) tt ])
   where
     others : None k parents
     others = (r .0 .0 .0 .0 .0 .1, ((λ e. r .0 .0 .0 .0 .0 .0 .0 .1 (inr (inl e))), (r .0 .0 .0 .0 .1, (r .0 .0 .0 .1, (r .0 .0 .1, (r .0 .1, (r .1, ((λ e. r .0 .0 .0 .0 .0 .0 .0 .0 .1 (inr e)), ((λ e. r .0 .0 .0 .0 .0 .0 .0 .1 (inr (inr e))), tt)))))))))
 
-pub none-below : {k : ℕ} → k < 1 → pieces (layout k) 0 ≡ []
+pub none-below : {k : ℕ} → k < 1 → pieces (layout Edition.second k) 0 ≡ []
 unfolding layout pieces
 none-below {k} h = let e : k ≡ 0 = omega arith in rw e refl
 
 -- names and literals
-pub none-of-leaf : {k : ℕ} → 10 ≤ k → k ≤ 14 → pieces (layout k) 0 ≡ []
+pub none-of-leaf : {k : ℕ} → 10 ≤ k → k ≤ 14 → pieces (layout Edition.second k) 0 ≡ []
 unfolding layout pieces
-none-of-leaf {k} l h = none-are _ (within (λ j. none (pieces (layout j) 0)) 10 5 k tt l (omega arith))
+none-of-leaf {k} l h = none-are _ (within (λ j. none (pieces (layout Edition.second j) 0)) 10 5 k tt l (omega arith))

@@ -6,6 +6,7 @@ use mathlib.Core.Path.{_≡_}
 use native.Mathlib.Omega.{arith}
 use lib.Dec.{leb, T, leb→le, le→leb}
 use lib.ListN.{length, getD, length-append}
+use Rattle.grammar.specs.Edition.{Edition}
 use Rattle.grammar.specs.Handle.{Handle, link, head, is-tail, block-list}
 use Rattle.grammar.specs.Kaori.{Table, Form, above, rules, kaori, Script}
 use Rattle.grammar.specs.Label.{Node, Label}
@@ -58,35 +59,38 @@ unfolding above paid
 paid-above zero = tt
 paid-above (suc n) = paid-above n
 
-pub paid-tables : (n : Table) → T (each paid (rules n .0) (rules n .1))
+pub paid-tables : (e : Edition) (n : Table) → T (each paid (rules e n .0) (rules e n .1))
 unfolding rules paid spare above
-paid-tables Table.statement = tt
-paid-tables Table.may-end = tt
-paid-tables Table.must-end = tt
-paid-tables Table.bindings = tt
-paid-tables Table.path-name = tt
-paid-tables Table.otherwise = tt
-paid-tables Table.branch = tt
-paid-tables Table.operand = tt
-paid-tables Table.body = tt
-paid-tables Table.value = tt
-paid-tables (Table.comma z) = tt
-paid-tables Table.script-items = tt
-paid-tables Table.block-items = tt
-paid-tables Table.arguments = tt
-paid-tables Table.entries = tt
-paid-tables (Table.names z) = tt
-paid-tables Table.assigned = tt
-paid-tables Table.dots = tt
-paid-tables Table.calls = tt
-paid-tables (Table.operators n) = each-mapped paid _ (getD levels n []) empty (λ x. all (leb 1 (suc (spare (above n)))) (paid (above n)) (le→leb 1 (suc (spare (above n))) (omega arith)) (paid-above n)) tt
+paid-tables e Table.statement = tt
+paid-tables Edition.first Table.returned = tt
+paid-tables Edition.second Table.returned = tt
+paid-tables e Table.may-end = tt
+paid-tables e Table.must-end = tt
+paid-tables e Table.bindings = tt
+paid-tables e Table.path-name = tt
+paid-tables e Table.otherwise = tt
+paid-tables e Table.branch = tt
+paid-tables Edition.first Table.operand = tt
+paid-tables Edition.second Table.operand = tt
+paid-tables e Table.body = tt
+paid-tables e Table.value = tt
+paid-tables e (Table.comma z) = tt
+paid-tables e Table.script-items = tt
+paid-tables e Table.block-items = tt
+paid-tables e Table.arguments = tt
+paid-tables e Table.entries = tt
+paid-tables e (Table.names z) = tt
+paid-tables e Table.assigned = tt
+paid-tables e Table.dots = tt
+paid-tables e Table.calls = tt
+paid-tables e (Table.operators n) = each-mapped paid _ (getD levels n []) empty (λ x. all (leb 1 (suc (spare (above n)))) (paid (above n)) (le→leb 1 (suc (spare (above n))) (omega arith)) (paid-above n)) tt
 
 pub paid-node : (f : Label) (p : Form) → T (paid (node f p)) → (cost f ≤ spare p) × T (paid p)
 unfolding paid
 paid-node f p h = let (u, v) = both (leb (cost f) (spare p)) (paid p) h in (leb→le _ _ u, v)
 
-pub paid-entry : (n : Table) (x : ℕ) {p : Form} → kaori n x ≡ p → T (paid p)
-paid-entry n x e = rw e at (in-tables (λ n. paid) paid-tables n x)
+pub paid-entry : (e : Edition) (n : Table) (x : ℕ) {p : Form} → kaori e n x ≡ p → T (paid p)
+paid-entry e n x k = rw k at (in-tables e (λ n. paid) (paid-tables e) n x)
 
 abbrev pub handles : Walked → ℕ
 handles r = length (r .first) + length (r .rest)
@@ -120,7 +124,8 @@ unfolding rule lists
 modest ts σ Node.Binary a b xs ys x y = omega arith
 modest ts σ Node.LogicalAnd a b xs ys x y = omega arith
 modest ts σ Node.LogicalOr a b xs ys x y = omega arith
-modest ts σ Node.LogicalNot a b xs ys x y = omega arith
+modest ts σ (Node.LogicalNot Edition.first) a b xs ys x y = omega arith
+modest ts σ (Node.LogicalNot Edition.second) a b xs ys x y = omega arith
 modest ts σ Node.Unary a b xs ys x y = omega arith
 modest ts σ Node.Assign a b xs ys x y = omega arith
 modest ts σ Node.Variable a b xs ys x y = omega arith
@@ -179,21 +184,6 @@ module _ (ts : List ℕ) (symbol : ℕ → ℕ) where
   pays-link : {a s b z c : ℕ} {f : Label} {t u : Tree Label} → Pays a s b t → Pays b z c u → cost f ≤ z → Pays a s c (made f b c (more t u))
   pays-link {f = f} g h i = less (pays-node f _ _ (omega arith) (pays-both g h)) (omega arith)
 
-  -- a reading pays for what it writes
-  pub pays : {kind : ℕ → ℕ} {m : Aim Table Label} {a b : ℕ} {t : Tree Label} → Reads kaori kind m a b t → T (paid (asked m)) → Pays a (spare (asked m)) b t
-  unfolding paid spare walk
-  pays Reads.nothing h = record { pay = λ w. (0, omega arith, omega arith) }
-  pays (Reads.taken e x) h = less (pays x h) (omega arith)
-  pays (Reads.both {p = p} {q = q} x y) h = let (u, v) = both (paid p) (paid q) h in pays-both (pays x u) (pays y v)
-  pays (Reads.opened x) h = record { pay = pays x h .pay }
-  pays (Reads.labelled {f = f} {p = p} x) h = let (u, v) = paid-node f p h in pays-node f _ _ u (pays x v)
-  pays (Reads.chosen {n = n} e x) h = less (pays x (paid-entry n _ e)) (omega arith)
-  pays (Reads.first x) h = pays x h
-  pays (Reads.link {n = n} {f = f} {q = q} l e x) h = let (u, v) = paid-node f q (paid-entry n _ e) in pays-link (pays l h) (pays x v) u
-  pays (Reads.ended l e) h = pays l h
-  pays (Reads.alone x e) h = pays x h
-  pays (Reads.joined {n = n} {f = f} {q = q} x e y) h = let (u, v) = paid-node f q (paid-entry n _ e) in pays-link (pays x h) (pays y v) u
-
   -- and links are never taken back
   pub links-grow : (t : Tree Label) (w : Rows) → length (w .links) ≤ length (walk ts symbol t w .rows .links)
   links-grow t w = tree-grows ts symbol t w .links
@@ -203,14 +193,30 @@ module _ (ts : List ℕ) (symbol : ℕ → ℕ) where
     pub nodes : length (v .nodes) ≤ length (w .nodes) + node-width * (b - a)
     pub links : length (v .links) ≤ length (w .links) + link-width * (b - a)
 
-  pub reading-rows : {kind : ℕ → ℕ} {m : Aim Table Label} {a b : ℕ} {t : Tree Label} → Reads kaori kind m a b t → T (paid (asked m)) → (w : Rows) → Within a b w (walk ts symbol t w .rows)
-  reading-rows x h w = let (k, i, g) = pays x h .pay w in omega arith
-
   -- the rows of a script whose Eof stands at n fit rooms of n + 1 rows
   pub record Room (n : ℕ) (w : Rows) : Type 0 where
     pub nodes : length (w .nodes) ≤ node-width * (n + 1)
     pub links : length (w .links) ≤ 3 * (n + 1)
 
-  pub script-room : {kind : ℕ → ℕ} {n : ℕ} {t : Tree Label} → Script kind n t → Room n (unparented ts symbol t)
+module _ (e : Edition) (ts : List ℕ) (symbol : ℕ → ℕ) where
+  -- a reading pays for what it writes
+  pub pays : {kind : ℕ → ℕ} {m : Aim Table Label} {a b : ℕ} {t : Tree Label} → Reads (kaori e) kind m a b t → T (paid (asked m)) → Pays ts symbol a (spare (asked m)) b t
+  unfolding paid spare walk
+  pays Reads.nothing h = record { pay = λ w. (0, omega arith, omega arith) }
+  pays (Reads.taken k x) h = less ts symbol (pays x h) (omega arith)
+  pays (Reads.both {p = p} {q = q} x y) h = let (u, v) = both (paid p) (paid q) h in pays-both ts symbol (pays x u) (pays y v)
+  pays (Reads.opened x) h = record { pay = pays x h .pay }
+  pays (Reads.labelled {f = f} {p = p} x) h = let (u, v) = paid-node f p h in pays-node ts symbol f _ _ u (pays x v)
+  pays (Reads.chosen {n = n} k x) h = less ts symbol (pays x (paid-entry e n _ k)) (omega arith)
+  pays (Reads.first x) h = pays x h
+  pays (Reads.link {n = n} {f = f} {q = q} l k x) h = let (u, v) = paid-node f q (paid-entry e n _ k) in pays-link ts symbol (pays l h) (pays x v) u
+  pays (Reads.ended l k) h = pays l h
+  pays (Reads.alone x k) h = pays x h
+  pays (Reads.joined {n = n} {f = f} {q = q} x k y) h = let (u, v) = paid-node f q (paid-entry e n _ k) in pays-link ts symbol (pays x h) (pays y v) u
+
+  pub reading-rows : {kind : ℕ → ℕ} {m : Aim Table Label} {a b : ℕ} {t : Tree Label} → Reads (kaori e) kind m a b t → T (paid (asked m)) → (w : Rows) → Within ts symbol a b w (walk ts symbol t w .rows)
+  reading-rows x h w = let (k, i, g) = pays x h .pay w in omega arith
+
+  pub script-room : {kind : ℕ → ℕ} {n : ℕ} {t : Tree Label} → Script e kind n t → Room ts symbol n (unparented ts symbol t)
   unfolding unparented walk spare paid
-  script-room (Reads.labelled {b = b} x) = let (k, i, g) = pays x tt .pay blank in let h = labelled Label.Script 0 b g in omega arith
+  script-room (Reads.labelled {b = b} x) = let (k, i, g) = pays x tt .pay blank in let h = labelled ts symbol Label.Script 0 b g in omega arith

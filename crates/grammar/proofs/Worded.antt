@@ -11,6 +11,7 @@ use lib.Dec.{eqb, T}
 use lib.ListN.{length}
 use Rattle.grammar.specs.Builtin.{Builtins}
 use Rattle.grammar.specs.Door.{Right-symbols}
+use Rattle.grammar.specs.Edition.{Edition}
 use Rattle.grammar.specs.Handle.{absent}
 use Rattle.grammar.specs.Kaori.{Table, Form, above, rules, kaori, Script}
 use Rattle.grammar.specs.Kind.{StringLiteral, Identifier, Eof}
@@ -64,37 +65,40 @@ spoken (chain p n) = spoken p
 spoken (once p n) = spoken p
 spoken (refusal e) = true
 
-spoken-tables : (n : Table) → T (each spoken (rules n .0) (rules n .1))
+spoken-tables : (e : Edition) (n : Table) → T (each spoken (rules e n .0) (rules e n .1))
 unfolding rules spoken above has-word
-spoken-tables Table.statement = tt
-spoken-tables Table.may-end = tt
-spoken-tables Table.must-end = tt
-spoken-tables Table.bindings = tt
-spoken-tables Table.path-name = tt
-spoken-tables Table.otherwise = tt
-spoken-tables Table.branch = tt
-spoken-tables Table.operand = tt
-spoken-tables Table.body = tt
-spoken-tables Table.value = tt
-spoken-tables (Table.comma z) = tt
-spoken-tables Table.script-items = tt
-spoken-tables Table.block-items = tt
-spoken-tables Table.arguments = tt
-spoken-tables Table.entries = tt
-spoken-tables (Table.names z) = tt
-spoken-tables Table.assigned = tt
-spoken-tables Table.dots = tt
-spoken-tables Table.calls = tt
-spoken-tables (Table.operators zero) = tt
-spoken-tables (Table.operators (suc zero)) = tt
-spoken-tables (Table.operators (suc (suc zero))) = tt
-spoken-tables (Table.operators (suc (suc (suc zero)))) = tt
-spoken-tables (Table.operators (suc (suc (suc (suc zero))))) = tt
-spoken-tables (Table.operators (suc (suc (suc (suc (suc zero)))))) = tt
-spoken-tables (Table.operators (suc (suc (suc (suc (suc (suc n))))))) = tt
+spoken-tables e Table.statement = tt
+spoken-tables Edition.first Table.returned = tt
+spoken-tables Edition.second Table.returned = tt
+spoken-tables e Table.may-end = tt
+spoken-tables e Table.must-end = tt
+spoken-tables e Table.bindings = tt
+spoken-tables e Table.path-name = tt
+spoken-tables e Table.otherwise = tt
+spoken-tables e Table.branch = tt
+spoken-tables Edition.first Table.operand = tt
+spoken-tables Edition.second Table.operand = tt
+spoken-tables e Table.body = tt
+spoken-tables e Table.value = tt
+spoken-tables e (Table.comma z) = tt
+spoken-tables e Table.script-items = tt
+spoken-tables e Table.block-items = tt
+spoken-tables e Table.arguments = tt
+spoken-tables e Table.entries = tt
+spoken-tables e (Table.names z) = tt
+spoken-tables e Table.assigned = tt
+spoken-tables e Table.dots = tt
+spoken-tables e Table.calls = tt
+spoken-tables e (Table.operators zero) = tt
+spoken-tables e (Table.operators (suc zero)) = tt
+spoken-tables e (Table.operators (suc (suc zero))) = tt
+spoken-tables e (Table.operators (suc (suc (suc zero)))) = tt
+spoken-tables e (Table.operators (suc (suc (suc (suc zero))))) = tt
+spoken-tables e (Table.operators (suc (suc (suc (suc (suc zero)))))) = tt
+spoken-tables e (Table.operators (suc (suc (suc (suc (suc (suc n))))))) = tt
 
-pub spoken-entry : (n : Table) (x : ℕ) {p : Form} → kaori n x ≡ p → T (spoken p)
-spoken-entry n x e = rw e at (in-tables (λ n. spoken) spoken-tables n x)
+pub spoken-entry : (e : Edition) (n : Table) (x : ℕ) {p : Form} → kaori e n x ≡ p → T (spoken p)
+spoken-entry e n x h = rw h at (in-tables e (λ n. spoken) (spoken-tables e) n x)
 
 -- one token that has a word, and no more
 pub record One-word (kind : ℕ → ℕ) (a b : ℕ) (t : Tree Label) : Type 0 where
@@ -107,36 +111,36 @@ pub data Speech (kind : ℕ → ℕ) (f : Label) (p : Form) (a b : ℕ) (t : Tre
   word : has-word f ≡ true → One-word kind a b t → Speech kind f p a b t
   wordless : has-word f ≡ false → T (spoken p) → Speech kind f p a b t
 
-module _ {kind : ℕ → ℕ} where
-  nothing-taken : {p : Form} {a b : ℕ} {t : Tree Label} → Reads kaori kind (whole p) a b t → T (is-empty p) → (b ≡ a) × (t ≡ none)
+module _ (e : Edition) {kind : ℕ → ℕ} where
+  nothing-taken : {p : Form} {a b : ℕ} {t : Tree Label} → Reads (kaori e) kind (whole p) a b t → T (is-empty p) → (b ≡ a) × (t ≡ none)
   nothing-taken Reads.nothing h = (refl, refl)
-  nothing-taken (Reads.taken e x) h = absurd h
+  nothing-taken (Reads.taken k x) h = absurd h
   nothing-taken (Reads.both x y) h = absurd h
   nothing-taken (Reads.opened x) h = absurd h
   nothing-taken (Reads.labelled x) h = absurd h
-  nothing-taken (Reads.chosen e x) h = absurd h
-  nothing-taken (Reads.ended l e) h = absurd h
-  nothing-taken (Reads.alone x e) h = absurd h
-  nothing-taken (Reads.joined x e y) h = absurd h
+  nothing-taken (Reads.chosen k x) h = absurd h
+  nothing-taken (Reads.ended l k) h = absurd h
+  nothing-taken (Reads.alone x k) h = absurd h
+  nothing-taken (Reads.joined x k y) h = absurd h
 
-  one-word : {p : Form} {a b : ℕ} {t : Tree Label} → Reads kaori kind (whole p) a b t → T (alone p) → One-word kind a b t
+  one-word : {p : Form} {a b : ℕ} {t : Tree Label} → Reads (kaori e) kind (whole p) a b t → T (alone p) → One-word kind a b t
   one-word Reads.nothing h = absurd h
-  one-word (Reads.taken {x = x} {p = p} e y) h = let (u, v) = both (a-name x) (is-empty p) h in let (i, j) = nothing-taken y v in record { ends = i; bare = j; spells = rw e (as-true (a-name x) u) }
+  one-word (Reads.taken {x = x} {p = p} k y) h = let (u, v) = both (a-name x) (is-empty p) h in let (i, j) = nothing-taken y v in record { ends = i; bare = j; spells = rw k (as-true (a-name x) u) }
   one-word (Reads.both x y) h = absurd h
   one-word (Reads.opened x) h = absurd h
   one-word (Reads.labelled x) h = absurd h
-  one-word (Reads.chosen e x) h = absurd h
-  one-word (Reads.ended l e) h = absurd h
-  one-word (Reads.alone x e) h = absurd h
-  one-word (Reads.joined x e y) h = absurd h
+  one-word (Reads.chosen k x) h = absurd h
+  one-word (Reads.ended l k) h = absurd h
+  one-word (Reads.alone x k) h = absurd h
+  one-word (Reads.joined x k y) h = absurd h
 
-  pub speech : (f : Label) {p : Form} {a b : ℕ} {t : Tree Label} → Reads kaori kind (whole p) a b t → T (spoken (node f p)) → Speech kind f p a b t
+  pub speech : (f : Label) {p : Form} {a b : ℕ} {t : Tree Label} → Reads (kaori e) kind (whole p) a b t → T (spoken (node f p)) → Speech kind f p a b t
   unfolding spoken
   speech f {p} {a} {b} {t} x h = pick (has-word f) refl h
     where
       pick : (c : Bool) → has-word f ≡ c → T (cond c (alone p) (spoken p)) → Speech kind f p a b t
-      pick true e k = Speech.word e (one-word x k)
-      pick false e k = Speech.wordless e k
+      pick true i k = Speech.word i (one-word x k)
+      pick false i k = Speech.wordless i k
 
 -- the words of the tokens from a up to b have their symbols
 pub record Told (kind symbol : ℕ → ℕ) (a b : ℕ) : Type 0 where
@@ -153,31 +157,31 @@ module _ {kind symbol : ℕ → ℕ} where
   told-word {a} e w = record { there = λ i l k n. let z : i ≡ a = omega arith in rw z w }
 
   -- a node's one token, or its parts
-  told-node : (f : Label) {p : Form} {a b : ℕ} {t : Tree Label} → Reads kaori kind (whole p) a b t → Worded symbol f a → T (spoken (node f p)) → (T (spoken p) → Told kind symbol a b) → Told kind symbol a b
-  told-node f {p} {a} {b} {t} x w h g = pick (speech f x h)
+  told-node : (e : Edition) (f : Label) {p : Form} {a b : ℕ} {t : Tree Label} → Reads (kaori e) kind (whole p) a b t → Worded symbol f a → T (spoken (node f p)) → (T (spoken p) → Told kind symbol a b) → Told kind symbol a b
+  told-node e f {p} {a} {b} {t} x w h g = pick (speech e f x h)
     where
       pick : Speech kind f p a b t → Told kind symbol a b
-      pick (Speech.word e y) = told-word (y .ends) (w e)
-      pick (Speech.wordless e k) = g k
+      pick (Speech.word i y) = told-word (y .ends) (w i)
+      pick (Speech.wordless i k) = g k
 
-  pub told : {m : Aim Table Label} {a b : ℕ} {t : Tree Label} → Reads kaori kind m a b t → T (spoken (asked m)) → Named symbol t → Told kind symbol a b
+  pub told : (e : Edition) {m : Aim Table Label} {a b : ℕ} {t : Tree Label} → Reads (kaori e) kind m a b t → T (spoken (asked m)) → Named symbol t → Told kind symbol a b
   unfolding spoken Named
-  told Reads.nothing h n = record { there = λ i l k. absurd (omega arith) }
-  told (Reads.taken {x = x} {p = p} e r) h n = let (u, v) = both (not (a-name x)) (spoken p) h in told-both (told-token e u) (told r v n)
-  told (Reads.both {p = p} {q = q} x y) h n = let (u, v) = both (spoken p) (spoken q) h in told-both (told x u (n .0)) (told y v (n .1))
-  told (Reads.opened x) h n = told x h n
-  told (Reads.labelled {f = f} x) h n = told-node f x (n .1) h (λ v. told x v (n .0))
-  told (Reads.chosen {n = m} e x) h n = told x (spoken-entry m _ e) n
-  told (Reads.first x) h n = told x h n
-  told (Reads.link {n = m} {f = f} l e x) h n = told-both (told l h (n .0 .0)) (told-node f x (n .1) (spoken-entry m _ e) (λ v. told x v (n .0 .1)))
-  told (Reads.ended l e) h n = told l h n
-  told (Reads.alone x e) h n = told x h n
-  told (Reads.joined {n = m} {f = f} x e y) h n = told-both (told x h (n .0 .0)) (told-node f y (n .1) (spoken-entry m _ e) (λ v. told y v (n .0 .1)))
+  told e Reads.nothing h n = record { there = λ i l k. absurd (omega arith) }
+  told e (Reads.taken {x = x} {p = p} k r) h n = let (u, v) = both (not (a-name x)) (spoken p) h in told-both (told-token k u) (told e r v n)
+  told e (Reads.both {p = p} {q = q} x y) h n = let (u, v) = both (spoken p) (spoken q) h in told-both (told e x u (n .0)) (told e y v (n .1))
+  told e (Reads.opened x) h n = told e x h n
+  told e (Reads.labelled {f = f} x) h n = told-node e f x (n .1) h (λ v. told e x v (n .0))
+  told e (Reads.chosen {n = m} k x) h n = told e x (spoken-entry e m _ k) n
+  told e (Reads.first x) h n = told e x h n
+  told e (Reads.link {n = m} {f = f} l k x) h n = told-both (told e l h (n .0 .0)) (told-node e f x (n .1) (spoken-entry e m _ k) (λ v. told e x v (n .0 .1)))
+  told e (Reads.ended l k) h n = told e l h n
+  told e (Reads.alone x k) h n = told e x h n
+  told e (Reads.joined {n = m} {f = f} x k y) h n = told-both (told e x h (n .0 .0)) (told-node e f y (n .1) (spoken-entry e m _ k) (λ v. told e y v (n .0 .1)))
 
 -- in a script that is read no word lacks its symbol
-pub script-told : {kind : ℕ → ℕ} (symbol : ℕ → ℕ) {n : ℕ} {t : Tree Label} → Script kind n t → Named symbol t → (i : ℕ) → i < n → (kind i ≡ Identifier) ⊎ (kind i ≡ StringLiteral) → symbol i ≡ absent → ⊥
+pub script-told : (e : Edition) {kind : ℕ → ℕ} (symbol : ℕ → ℕ) {n : ℕ} {t : Tree Label} → Script e kind n t → Named symbol t → (i : ℕ) → i < n → (kind i ≡ Identifier) ⊎ (kind i ≡ StringLiteral) → symbol i ≡ absent → ⊥
 unfolding spoken has-word
-script-told symbol x w i h k = told x tt w .there i (omega arith) h (⊎-elim (λ e. rw e refl) (λ e. rw e refl) k)
+script-told e symbol x w i h k = told e x tt w .there i (omega arith) h (⊎-elim (λ z. rw z refl) (λ z. rw z refl) k)
 
 module _ (names : Builtins) (text ts : List ℕ) (room : ℕ) where
   rows-fit : Right-symbols names room → (n : ℕ) → ((i : ℕ) → i < n → is-name ts i ≡ true → length (symbol-rows names text ts (suc i)) ≤ room) → length (symbol-rows names text ts n) ≤ room
@@ -189,10 +193,10 @@ module _ (names : Builtins) (text ts : List ℕ) (room : ℕ) where
       pick true e k = h n (omega arith) e
       pick false e k = rw (rows-same names text ts n e) k
 
-  -- so a script whose nodes have their symbols has room for all rows of the list, if it has it for the built-in ones
-  pub words-fit : Right-symbols names room → {t : Tree Label} → Script (kind ts) (count ts - 1) t → Named (symbol-in names text ts room) t → length (symbol-rows names text ts (count ts)) ≤ room
-  unfolding spoken has-word
-  words-fit r x w = rows-fit r (count ts) (λ i h e. elim (decLt i (count ts - 1)) [
-    | yes k ↦ has-row names text ts room i (told x tt w .there i (omega arith) k e) e
-    | no k ↦ absurd (let z : i ≡ count ts - 1 = omega arith in let y : a-name Eof ≡ true = rw (z, ends-at-eof x) at e in let o : _≡_ {A = ℕ} 0 1 = cc in omega arith)
-  ])
+-- so a script whose nodes have their symbols has room for all rows of the list, if it has it for the built-in ones
+pub words-fit : (e : Edition) (names : Builtins) (text ts : List ℕ) (room : ℕ) → Right-symbols names room → {t : Tree Label} → Script e (kind ts) (count ts - 1) t → Named (symbol-in names text ts room) t → length (symbol-rows names text ts (count ts)) ≤ room
+unfolding spoken has-word
+words-fit e names text ts room r x w = rows-fit names text ts room r (count ts) (λ i h n. elim (decLt i (count ts - 1)) [
+  | yes k ↦ has-row names text ts room i (told e x tt w .there i (omega arith) k n) n
+  | no k ↦ absurd (let z : i ≡ count ts - 1 = omega arith in let y : a-name Eof ≡ true = rw (z, ends-at-eof e x) at n in let o : _≡_ {A = ℕ} 0 1 = cc in omega arith)
+])

@@ -8,6 +8,7 @@ use lib.Dec.{eqb, T, eqb→eq}
 use borrow.Author.Tests.{eq-eqb}
 use lib.ListN.{length, getD}
 use Rattle.grammar.specs.Builtin.{Builtins}
+use Rattle.grammar.specs.Edition.{Edition}
 use Rattle.grammar.specs.Handle.{Handle}
 use Rattle.grammar.specs.Kaori.{Table, Form, above, rules, kaori}
 use Rattle.grammar.specs.Kind.{Identifier}
@@ -62,47 +63,50 @@ unfolding above named
 named-above zero = tt
 named-above (suc n) = named-above n
 
-named-tables : (n : Table) → T (each named (rules n .0) (rules n .1))
+named-tables : (e : Edition) (n : Table) → T (each named (rules e n .0) (rules e n .1))
 unfolding rules named spells above
-named-tables Table.statement = tt
-named-tables Table.bindings = tt
-named-tables Table.path-name = tt
-named-tables Table.otherwise = tt
-named-tables Table.branch = tt
-named-tables Table.operand = tt
-named-tables Table.body = tt
-named-tables Table.value = tt
-named-tables (Table.comma z) = tt
-named-tables Table.script-items = tt
-named-tables Table.block-items = tt
-named-tables Table.arguments = tt
-named-tables Table.entries = tt
-named-tables (Table.names z) = tt
-named-tables Table.may-end = tt
-named-tables Table.must-end = tt
-named-tables Table.assigned = tt
-named-tables Table.dots = tt
-named-tables Table.calls = tt
-named-tables (Table.operators n) = each-mapped named _ (getD levels n []) empty (λ x. named-above n) tt
+named-tables e Table.statement = tt
+named-tables Edition.first Table.returned = tt
+named-tables Edition.second Table.returned = tt
+named-tables e Table.bindings = tt
+named-tables e Table.path-name = tt
+named-tables e Table.otherwise = tt
+named-tables e Table.branch = tt
+named-tables Edition.first Table.operand = tt
+named-tables Edition.second Table.operand = tt
+named-tables e Table.body = tt
+named-tables e Table.value = tt
+named-tables e (Table.comma z) = tt
+named-tables e Table.script-items = tt
+named-tables e Table.block-items = tt
+named-tables e Table.arguments = tt
+named-tables e Table.entries = tt
+named-tables e (Table.names z) = tt
+named-tables e Table.may-end = tt
+named-tables e Table.must-end = tt
+named-tables e Table.assigned = tt
+named-tables e Table.dots = tt
+named-tables e Table.calls = tt
+named-tables e (Table.operators n) = each-mapped named _ (getD levels n []) empty (λ x. named-above n) tt
 
-named-entry : (n : Table) (x : ℕ) {p : Form} → kaori n x ≡ p → T (named p)
-named-entry n x e = rw e at (in-tables (λ n. named) named-tables n x)
+named-entry : (e : Edition) (n : Table) (x : ℕ) {p : Form} → kaori e n x ≡ p → T (named p)
+named-entry e n x k = rw k at (in-tables e (λ n. named) (named-tables e) n x)
 
 named-node : (f : Label) (p : Form) → T (named (node f p)) → T (leads f p) × T (named p)
 unfolding named
 named-node f p h = both (leads f p) (named p) h
 
-stands : {kind : ℕ → ℕ} {a b : ℕ} {p : Form} {t : Tree Label} → Reads kaori kind (whole p) a b t → T (spells p) → (kind a ≡ Identifier) × (suc a ≤ b)
+stands : (e : Edition) {kind : ℕ → ℕ} {a b : ℕ} {p : Form} {t : Tree Label} → Reads (kaori e) kind (whole p) a b t → T (spells p) → (kind a ≡ Identifier) × (suc a ≤ b)
 unfolding spells
-stands Reads.nothing h = absurd h
-stands (Reads.taken {x = x} e y) h = (e ∙ eqb→eq x Identifier h, omega (arith, takes y))
-stands (Reads.both x y) h = absurd h
-stands (Reads.opened x) h = absurd h
-stands (Reads.labelled x) h = absurd h
-stands (Reads.chosen e x) h = absurd h
-stands (Reads.ended l e) h = absurd h
-stands (Reads.alone x e) h = absurd h
-stands (Reads.joined x e y) h = absurd h
+stands e Reads.nothing h = absurd h
+stands e (Reads.taken {x = x} k y) h = (k ∙ eqb→eq x Identifier h, omega (arith, takes e y))
+stands e (Reads.both x y) h = absurd h
+stands e (Reads.opened x) h = absurd h
+stands e (Reads.labelled x) h = absurd h
+stands e (Reads.chosen k x) h = absurd h
+stands e (Reads.ended l k) h = absurd h
+stands e (Reads.alone x k) h = absurd h
+stands e (Reads.joined x k y) h = absurd h
 
 module _ (names : Builtins) (text ts : List ℕ) (n : ℕ) where
   -- a name's symbol is one of the rows of the first n tokens
@@ -132,38 +136,39 @@ module _ (names : Builtins) (text ts : List ℕ) (n : ℕ) where
   unfolding put
   put-handed k (writes s e fs) w = record { first = (tt, tt); rest = tt }
 
-  make-handed : (f : Label) {p : Form} {a b : ℕ} {t : Tree Label} → T (leads f p) → Reads kaori (kind ts) (whole p) a b t → b ≤ n → (w : Rows) (xs ys : List Handle) → All-have xs → All-have ys → Handed (make ts (symbol names text ts) f a b w xs ys)
+module _ (e : Edition) (names : Builtins) (text ts : List ℕ) (n : ℕ) where
+  make-handed : (f : Label) {p : Form} {a b : ℕ} {t : Tree Label} → T (leads f p) → Reads (kaori e) (kind ts) (whole p) a b t → b ≤ n → (w : Rows) (xs ys : List Handle) → All-have names text ts n xs → All-have names text ts n ys → Handed names text ts n (make ts (symbol names text ts) f a b w xs ys)
   unfolding make
-  make-handed (Label.Row k) l x m w xs ys h i = put-handed _ _ w
-  make-handed Label.Script l x m w xs ys h i = put-handed _ _ w
+  make-handed (Label.Row k) l x m w xs ys h i = put-handed names text ts n _ _ w
+  make-handed Label.Script l x m w xs ys h i = put-handed names text ts n _ _ w
   make-handed Label.Ended l x m w xs ys h i = record { first = (tt, tt); rest = tt }
-  make-handed Label.Item l x m w xs ys h i = record { first = append xs ys h i; rest = tt }
+  make-handed Label.Item l x m w xs ys h i = record { first = append names text ts n xs ys h i; rest = tt }
   make-handed Label.Entry l x m w [] ys h i = record { first = tt; rest = tt }
   make-handed Label.Entry l x m w (y ∷ xs) ys h i = record { first = (tt, tt); rest = tt }
   make-handed Label.Name {a = a} l x m w xs ys h i =
-      let (k, j) = stands x l in
+      let (k, j) = stands e x l in
       record { first = (omega (arith, name-has-row names text ts a (rw (eq-eqb (kind ts a) Identifier k)), rows-grow names text ts (suc a) n (omega arith)), tt); rest = tt }
 
   -- what a reading of some of the first n tokens hands up
-  pub names-have-rows : {m : Aim Table Label} {a b : ℕ} {t : Tree Label} → Reads kaori (kind ts) m a b t → T (named (asked m)) → b ≤ n → (w : Rows) → Handed (walk ts (symbol names text ts) t w)
+  pub names-have-rows : {m : Aim Table Label} {a b : ℕ} {t : Tree Label} → Reads (kaori e) (kind ts) m a b t → T (named (asked m)) → b ≤ n → (w : Rows) → Handed names text ts n (walk ts (symbol names text ts) t w)
   unfolding walk named
   names-have-rows Reads.nothing h l w = record { first = tt; rest = tt }
-  names-have-rows (Reads.taken e x) h l w = names-have-rows x h l w
+  names-have-rows (Reads.taken k x) h l w = names-have-rows x h l w
   names-have-rows (Reads.both {p = p} {q = q} {t = t} x y) h l w =
       let (i, j) = both (named p) (named q) h in
-      record { first = all-handed (names-have-rows x i (omega (arith, takes y)) w); rest = all-handed (names-have-rows y j l (walk ts (symbol names text ts) t w .rows)) }
+      record { first = all-handed names text ts n (names-have-rows x i (omega (arith, takes e y)) w); rest = all-handed names text ts n (names-have-rows y j l (walk ts (symbol names text ts) t w .rows)) }
   names-have-rows (Reads.opened x) h l w = names-have-rows x h l w
   names-have-rows (Reads.labelled {f = f} {p = p} x) h l w =
       let (i, j) = named-node f p h in
       let r = names-have-rows x j l w in
       make-handed f i x l _ _ _ (r .first) (r .rest)
-  names-have-rows (Reads.chosen {n = k} e x) h l w = names-have-rows x (named-entry k _ e) l w
+  names-have-rows (Reads.chosen {n = m} k x) h l w = names-have-rows x (named-entry e m _ k) l w
   names-have-rows (Reads.first x) h l w = names-have-rows x h l w
-  names-have-rows (Reads.link {n = k} {f = f} {q = q} {t = t} x e y) h l w =
-      let (i, j) = named-node f q (named-entry k _ e) in
-      make-handed f i y l _ _ _ (all-handed (names-have-rows x h (omega (arith, takes y)) w)) (all-handed (names-have-rows y j l (walk ts (symbol names text ts) t w .rows)))
-  names-have-rows (Reads.ended x e) h l w = names-have-rows x h l w
-  names-have-rows (Reads.alone x e) h l w = names-have-rows x h l w
-  names-have-rows (Reads.joined {n = k} {f = f} {q = q} {t = t} x e y) h l w =
-      let (i, j) = named-node f q (named-entry k _ e) in
-      make-handed f i y l _ _ _ (all-handed (names-have-rows x h (omega (arith, takes y)) w)) (all-handed (names-have-rows y j l (walk ts (symbol names text ts) t w .rows)))
+  names-have-rows (Reads.link {n = m} {f = f} {q = q} {t = t} x k y) h l w =
+      let (i, j) = named-node f q (named-entry e m _ k) in
+      make-handed f i y l _ _ _ (all-handed names text ts n (names-have-rows x h (omega (arith, takes e y)) w)) (all-handed names text ts n (names-have-rows y j l (walk ts (symbol names text ts) t w .rows)))
+  names-have-rows (Reads.ended x k) h l w = names-have-rows x h l w
+  names-have-rows (Reads.alone x k) h l w = names-have-rows x h l w
+  names-have-rows (Reads.joined {n = m} {f = f} {q = q} {t = t} x k y) h l w =
+      let (i, j) = named-node f q (named-entry e m _ k) in
+      make-handed f i y l _ _ _ (all-handed names text ts n (names-have-rows x h (omega (arith, takes e y)) w)) (all-handed names text ts n (names-have-rows y j l (walk ts (symbol names text ts) t w .rows)))

@@ -1,4 +1,5 @@
 -- in the order of reading
+pub mod Edition
 pub mod Kind
 pub mod Label
 pub mod Operator

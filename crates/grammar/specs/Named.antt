@@ -3,8 +3,9 @@ use Prim.Native.Nat.{ℕ, zero, suc}
 use mathlib.Core.List.{List, [], _∷_, _++_}
 use mathlib.Core.Path.{_≡_}
 use lib.ListN.{length}
+use Rattle.grammar.specs.Edition.{Edition}
 use Rattle.grammar.specs.Kind.{False, True}
-use Rattle.grammar.specs.Layout.{below, child, layout}
+use Rattle.grammar.specs.Layout.{below, child, option, layout}
 use Rattle.grammar.specs.Naming.{height, named-by, One-tree}
 use Rattle.grammar.specs.Operator.{binary-operators, unary-operators}
 use Rattle.grammar.specs.Parent.{parented, Parents}
@@ -52,10 +53,12 @@ rows ns ls = record { nodes = ns; links = ls }
 pub record Naming-right : Type 0 where
   pub names : names-from all-kinds 0 (height all-kinds) ≡ all-names
   -- a number that is no row is below the count of what it may say: operators, signs, Booleans; kind 0 and kinds over 26 have no numbers
-  pub operators : layout 1 ≡ below (length binary-operators) ∷ child ∷ child ∷ []
-  pub signs : layout 5 ≡ below (length unary-operators) ∷ child ∷ []
-  pub booleans : layout 13 ≡ below (length (False ∷ True ∷ [])) ∷ []
-  pub no-kind : (layout 0 ≡ []) × (layout 27 ≡ [])
+  pub operators : (e : Edition) → layout e 1 ≡ below (length binary-operators) ∷ child ∷ child ∷ []
+  pub signs : (e : Edition) → layout e 5 ≡ below (length unary-operators) ∷ child ∷ []
+  pub booleans : (e : Edition) → layout e 13 ≡ below (length (False ∷ True ∷ [])) ∷ []
+  pub no-kind : (e : Edition) → (layout e 0 ≡ []) × (layout e 27 ≡ [])
+  -- a Return's child is absent in edition 2 alone
+  pub returns : (layout Edition.first 23 ≡ child ∷ []) × (layout Edition.second 23 ≡ option ∷ [])
   -- what is not one tree: no row; a row that is not named; one that is named twice; one that names itself; one that an earlier row names; names that fall
   pub no-row : One-tree (rows [] []) → ⊥
   pub unnamed : One-tree (rows (row 10 0 1 0 0 1 0 0 0 4294967295 ++ row 20 0 0 0 0 4294967295 0 0 0 4294967295) []) → ⊥

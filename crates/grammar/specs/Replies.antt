@@ -22,9 +22,12 @@ rooms ns ls ss xs = record { nodes = ns; links = ls; symbols = ss; scratch = xs 
 abbrev pub numbers : (code nodes links symbols at start end expected : ℕ) → Answer
 numbers code ns ls ss at s e expected = record { code = code; nodes = ns; links = ls; symbols = ss; at = at; start = s; end = e; expected = expected }
 
--- beside built-in names, and beside none
+-- in an edition; in edition 1; and there beside no built-in names
+abbrev pub in-edition : (edition : ℕ) (names : Builtins) (text : List ℕ) (limit : ℕ) (tokens : List ℕ) (before : Rooms) (answer : Answer) (after : Rooms) → Reply
+in-edition n names text limit ts before a after = record { call = record { names = names; text = text; tokens = ts; edition = n; limit = limit; rooms = before }; answer = a; after = after }
+
 abbrev pub beside : (names : Builtins) (text : List ℕ) (limit : ℕ) (tokens : List ℕ) (before : Rooms) (answer : Answer) (after : Rooms) → Reply
-beside names text limit ts before a after = record { call = record { names = names; text = text; tokens = ts; limit = limit; rooms = before }; answer = a; after = after }
+beside = in-edition 1
 
 abbrev pub reply : (text : List ℕ) (limit : ℕ) (tokens : List ℕ) (before : Rooms) (answer : Answer) (after : Rooms) → Reply
 reply = beside none
@@ -54,6 +57,21 @@ replies =
     (numbers 3 0 0 0 0 0 0 255) (rooms (replicate 5 7) (replicate 4 8) (replicate 3 9) (replicate 2 6)) ∷
     reply (bytes "a") 65 (43 ∷ 0 ∷ 1 ∷ 44 ∷ 1 ∷ 1 ∷ []) (rooms (replicate 5 7) (replicate 4 8) (replicate 3 9) (replicate 2 6))
     (numbers 3 0 0 0 0 0 0 255) (rooms (replicate 5 7) (replicate 4 8) (replicate 3 9) (replicate 2 6)) ∷
+    -- 21: an edition below 1; one over 2
+    in-edition 0 none (bytes "a;") 64 (43 ∷ 0 ∷ 1 ∷ 41 ∷ 1 ∷ 2 ∷ 44 ∷ 2 ∷ 2 ∷ []) (rooms (replicate 35 7) (replicate 11 8) (replicate 7 9) (replicate 10 6))
+    (numbers 21 0 0 0 0 0 0 255) (rooms (replicate 35 7) (replicate 11 8) (replicate 7 9) (replicate 10 6)) ∷
+    in-edition 3 none (bytes "a;") 64 (43 ∷ 0 ∷ 1 ∷ 41 ∷ 1 ∷ 2 ∷ 44 ∷ 2 ∷ 2 ∷ []) (rooms (replicate 35 7) (replicate 11 8) (replicate 7 9) (replicate 10 6))
+    (numbers 21 0 0 0 0 0 0 255) (rooms (replicate 35 7) (replicate 11 8) (replicate 7 9) (replicate 10 6)) ∷
+    -- 3 comes before 21; 21 comes before 4, where the scratch room is too small by a number, and before 18, here with the largest number
+    in-edition 3 none (bytes "a;") 0 (43 ∷ 0 ∷ 1 ∷ 41 ∷ 1 ∷ 2 ∷ 44 ∷ 2 ∷ 2 ∷ []) (rooms (replicate 35 7) (replicate 11 8) (replicate 7 9) (replicate 10 6))
+    (numbers 3 0 0 0 0 0 0 255) (rooms (replicate 35 7) (replicate 11 8) (replicate 7 9) (replicate 10 6)) ∷
+    in-edition 0 none (bytes "a;") 64 (43 ∷ 0 ∷ 1 ∷ 41 ∷ 1 ∷ 2 ∷ 44 ∷ 2 ∷ 2 ∷ []) (rooms (replicate 35 7) (replicate 11 8) (replicate 7 9) (replicate 8 6))
+    (numbers 21 0 0 0 0 0 0 255) (rooms (replicate 35 7) (replicate 11 8) (replicate 7 9) (replicate 8 6)) ∷
+    in-edition 4294967295 (record { text = bytes "ab ab"; rows = (0 ∷ 2 ∷ 3 ∷ 5 ∷ []) }) (bytes "a;") 64 (43 ∷ 0 ∷ 1 ∷ 41 ∷ 1 ∷ 2 ∷ 44 ∷ 2 ∷ 2 ∷ []) (rooms (replicate 35 7) (replicate 11 8) (replicate 7 9) (replicate 10 6))
+    (numbers 21 0 0 0 0 0 0 255) (rooms (replicate 35 7) (replicate 11 8) (replicate 7 9) (replicate 10 6)) ∷
+    -- 4: edition 2 is let in to that check
+    in-edition 2 none (bytes "a;") 64 (43 ∷ 0 ∷ 1 ∷ 41 ∷ 1 ∷ 2 ∷ 44 ∷ 2 ∷ 2 ∷ []) (rooms (replicate 35 7) (replicate 11 8) (replicate 7 9) (replicate 8 6))
+    (numbers 4 0 0 0 0 0 0 255) (rooms (replicate 35 7) (replicate 11 8) (replicate 7 9) (replicate 8 6)) ∷
     -- 4: the scratch room is too small by a number, and a byte is over 127; 4,096 tokens
     reply (97 ∷ 200 ∷ []) 64 (43 ∷ 0 ∷ 1 ∷ 44 ∷ 1 ∷ 1 ∷ []) (rooms (replicate 20 7) (replicate 6 8) (replicate 4 9) (replicate 5 6))
     (numbers 4 0 0 0 0 0 0 255) (rooms (replicate 20 7) (replicate 6 8) (replicate 4 9) (replicate 5 6)) ∷
@@ -157,4 +175,9 @@ replies =
     -- 0: the built-in rows come first; a byte over 127 outside the names, and a number left over
     beside (record { text = 200 ∷ 97 ∷ 98 ∷ []; rows = (1 ∷ 3 ∷ 2 ∷ 3 ∷ 5 ∷ []) }) (bytes "b;") 64 (43 ∷ 0 ∷ 1 ∷ 41 ∷ 1 ∷ 2 ∷ 44 ∷ 2 ∷ 2 ∷ []) (rooms (replicate 30 7) (replicate 9 8) (replicate 9 9) (replicate 9 6))
     (numbers 0 2 1 2 0 0 0 255) (rooms (row 10 0 1 1 0 1 0 0 0 1 ++ row 20 0 0 0 1 4294967295 0 0 0 4294967295 ++ replicate 10 0) (0 ∷ 0 ∷ 0 ∷ replicate 6 0) (1 ∷ 3 ∷ 2 ∷ 3 ∷ replicate 5 0) (replicate 9 0)) ∷
+    -- 0 in edition 2: before `}` a `return` has an absent child and its own token's span, and is the tail. In edition 1 it asks for an expression, one opening deeper: 11
+    in-edition 2 none (bytes "{return}") 1 (20 ∷ 0 ∷ 1 ∷ 35 ∷ 1 ∷ 7 ∷ 21 ∷ 7 ∷ 8 ∷ 44 ∷ 8 ∷ 8 ∷ []) (rooms (replicate 45 7) (replicate 14 8) (replicate 9 9) (replicate 13 6))
+    (numbers 0 3 1 0 0 0 0 255) (rooms (row 23 1 7 4294967295 0 0 0 0 0 1 ++ row 20 0 8 0 0 0 0 0 0 2 ++ row 20 0 0 0 1 4294967295 0 0 0 4294967295 ++ replicate 15 0) (1 ∷ 0 ∷ 0 ∷ replicate 11 0) (replicate 9 0) (replicate 13 0)) ∷
+    in-edition 1 none (bytes "{return}") 1 (20 ∷ 0 ∷ 1 ∷ 35 ∷ 1 ∷ 7 ∷ 21 ∷ 7 ∷ 8 ∷ 44 ∷ 8 ∷ 8 ∷ []) (rooms (replicate 45 7) (replicate 14 8) (replicate 9 9) (replicate 13 6))
+    (numbers 11 0 0 0 2 7 8 255) (rooms (replicate 45 0) (replicate 14 0) (replicate 9 0) (replicate 13 0)) ∷
     []
