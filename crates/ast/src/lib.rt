@@ -8,6 +8,7 @@ pub mod room;
 ghost use mathlib.Core.List.{_∷_, []};
 ghost use Prim.Native.Nat.{_<_};
 ghost use Rattle.grammar.specs.Handle.{absent};
+ghost use Rattle.grammar.specs.Edition.{Edition};
 ghost use Rattle.grammar.specs.Label.{Node as Form, number-of};
 ghost use Rattle.ast.specs.Inserted.{Tried};
 
@@ -93,9 +94,10 @@ pub fn logical_or(nodes: &mut [u32], n: usize, left: u32, right: u32, start: u32
     insert(nodes, n, 3, start, end, left, right, 0, 0, 0, 0)
 }
 
+// Of either edition: the kind is one, and the span is the caller's.
 pub fn logical_not(nodes: &mut [u32], n: usize, expression: u32, start: u32, end: u32) -> Node
     requires { ⌜ n < absent ⌝ }
-    ensures { λ r. ⌜ Tried n (number-of Form.LogicalNot) start end (expression ∷ []) (now (nodes .entry)) (now (nodes .exit)) r ⌝ }
+    ensures { λ r. ⌜ Tried n (number-of (Form.LogicalNot Edition.first)) start end (expression ∷ []) (now (nodes .entry)) (now (nodes .exit)) r ⌝ }
 {
     insert(nodes, n, 4, start, end, expression, 0, 0, 0, 0, 0)
 }

@@ -7,6 +7,7 @@ use mathlib.Core.List.{List, [], _∷_}
 use mathlib.Core.Path.{_≡_, refl, sym, ap, _∙_}
 use lib.ListN.{length, getD, drop, length-append, List·getD-append, List·getD-eq-default}
 use lib.Seq.{getD-append-add, getD-drop}
+use Rattle.grammar.specs.Edition.{Edition}
 use Rattle.grammar.specs.Handle.{absent}
 use Rattle.grammar.specs.Layout.{layout}
 use Rattle.grammar.specs.Room.{node-width, link-width}
@@ -118,43 +119,43 @@ module _ {ns : List ℕ} (row : ℕ) (room : Inside ns row) where
       let e : node-width * row + (3 + j) ≡ node-width * row + 3 + j = omega arith in
       n .there (omega arith) ∙ ap (λ (k : ℕ). getD ns k 0) e ∙ sym (getD-drop (node-width * row + 3) ns j 0)
 
-  pub by-kind : {k : ℕ} {r : Children} → Number ns (node-width * row + 0) k → r ≡ placed (layout k) (after ns row) → Below ns row r
+  pub by-kind : {k : ℕ} {r : Children} → Number ns (node-width * row + 0) k → r ≡ placed (layout Edition.second k) (after ns row) → Below ns row r
   by-kind n e =
       let z : node-width * row + 0 ≡ node-width * row = omega arith in
-      record { inside = λ h. e ∙ ap (λ (j : ℕ). placed (layout j) (after ns row)) (n .there (omega arith) ∙ ap (λ (i : ℕ). getD ns i 0) z); outside = λ h. absurd (omega arith) }
+      record { inside = λ h. e ∙ ap (λ (j : ℕ). placed (layout Edition.second j) (after ns row)) (n .there (omega arith) ∙ ap (λ (i : ℕ). getD ns i 0) z); outside = λ h. absurd (omega arith) }
 
 pub no-room : {ns : List ℕ} {row : ℕ} {r : Children} → length ns < node-width * row + node-width → r ≡ nothing → Below ns row r
 no-room l e = record { inside = λ h. absurd (omega arith); outside = λ h. e }
 
 -- from the pieces of a kind
 module _ (xs : List ℕ) (k : ℕ) where
-  by-pieces : (ps : List Piece) → pieces (layout k) 0 ≡ ps → arranged xs ps ≡ placed (layout k) xs
-  by-pieces ps e = sym (placed-pieces xs (layout k) 0 ∙ ap (arranged xs) e)
+  by-pieces : (ps : List Piece) → pieces (layout Edition.second k) 0 ≡ ps → arranged xs ps ≡ placed (layout Edition.second k) xs
+  by-pieces ps e = sym (placed-pieces xs (layout Edition.second k) 0 ∙ ap (arranged xs) e)
 
-  pub no-piece : pieces (layout k) 0 ≡ [] → nothing ≡ placed (layout k) xs
+  pub no-piece : pieces (layout Edition.second k) 0 ≡ [] → nothing ≡ placed (layout Edition.second k) xs
   unfolding arranged
   no-piece e = by-pieces [] e
 
-  pub one-row : (i : ℕ) → pieces (layout k) 0 ≡ single i ∷ [] → {a : ℕ} → a ≡ getD xs i 0 → three a absent absent ≡ placed (layout k) xs
+  pub one-row : (i : ℕ) → pieces (layout Edition.second k) 0 ≡ single i ∷ [] → {a : ℕ} → a ≡ getD xs i 0 → three a absent absent ≡ placed (layout Edition.second k) xs
   unfolding arranged one-more
   one-row i e f = rw f (by-pieces (single i ∷ []) e)
 
-  pub two-rows : (i j : ℕ) → pieces (layout k) 0 ≡ single i ∷ single j ∷ [] → {a b : ℕ} → a ≡ getD xs i 0 → b ≡ getD xs j 0 → three a b absent ≡ placed (layout k) xs
+  pub two-rows : (i j : ℕ) → pieces (layout Edition.second k) 0 ≡ single i ∷ single j ∷ [] → {a b : ℕ} → a ≡ getD xs i 0 → b ≡ getD xs j 0 → three a b absent ≡ placed (layout Edition.second k) xs
   unfolding arranged one-more
   two-rows i j e f g = rw (f, g) (by-pieces (single i ∷ single j ∷ []) e)
 
-  pub three-rows : (h i j : ℕ) → pieces (layout k) 0 ≡ single h ∷ single i ∷ single j ∷ [] → {a b c : ℕ} → a ≡ getD xs h 0 → b ≡ getD xs i 0 → c ≡ getD xs j 0 → three a b c ≡ placed (layout k) xs
+  pub three-rows : (h i j : ℕ) → pieces (layout Edition.second k) 0 ≡ single h ∷ single i ∷ single j ∷ [] → {a b c : ℕ} → a ≡ getD xs h 0 → b ≡ getD xs i 0 → c ≡ getD xs j 0 → three a b c ≡ placed (layout Edition.second k) xs
   unfolding arranged one-more
   three-rows h i j e f g l = rw (f, g, l) (by-pieces (single h ∷ single i ∷ single j ∷ []) e)
 
-  pub row-list : (i j : ℕ) → pieces (layout k) 0 ≡ single i ∷ list false j ∷ [] → {a b c : ℕ} → a ≡ getD xs i 0 → b ≡ getD xs j 0 → c ≡ getD xs (suc j) 0 → record { first = a; from = b; count = c; each = 1; second = absent; third = absent } ≡ placed (layout k) xs
+  pub row-list : (i j : ℕ) → pieces (layout Edition.second k) 0 ≡ single i ∷ list false j ∷ [] → {a b c : ℕ} → a ≡ getD xs i 0 → b ≡ getD xs j 0 → c ≡ getD xs (suc j) 0 → record { first = a; from = b; count = c; each = 1; second = absent; third = absent } ≡ placed (layout Edition.second k) xs
   unfolding arranged one-more listing
   row-list i j e f g l = rw (f, g, l) (by-pieces (single i ∷ list false j ∷ []) e)
 
-  pub list-row : (i j : ℕ) → pieces (layout k) 0 ≡ list false i ∷ single j ∷ [] → {a b c : ℕ} → a ≡ getD xs i 0 → b ≡ getD xs (suc i) 0 → c ≡ getD xs j 0 → record { first = absent; from = a; count = b; each = 1; second = c; third = absent } ≡ placed (layout k) xs
+  pub list-row : (i j : ℕ) → pieces (layout Edition.second k) 0 ≡ list false i ∷ single j ∷ [] → {a b c : ℕ} → a ≡ getD xs i 0 → b ≡ getD xs (suc i) 0 → c ≡ getD xs j 0 → record { first = absent; from = a; count = b; each = 1; second = c; third = absent } ≡ placed (layout Edition.second k) xs
   unfolding arranged one-more listing
   list-row i j e f g l = rw (f, g, l) (by-pieces (list false i ∷ single j ∷ []) e)
 
-  pub entry-list : (i : ℕ) → pieces (layout k) 0 ≡ list true i ∷ [] → {a b : ℕ} → a ≡ getD xs i 0 → b ≡ getD xs (suc i) 0 → record { first = absent; from = a; count = b; each = 2; second = absent; third = absent } ≡ placed (layout k) xs
+  pub entry-list : (i : ℕ) → pieces (layout Edition.second k) 0 ≡ list true i ∷ [] → {a b : ℕ} → a ≡ getD xs i 0 → b ≡ getD xs (suc i) 0 → record { first = absent; from = a; count = b; each = 2; second = absent; third = absent } ≡ placed (layout Edition.second k) xs
   unfolding arranged listing
   entry-list i e f g = rw (f, g) (by-pieces (list true i ∷ []) e)

@@ -7,6 +7,7 @@ use mathlib.Core.List.{List, [], _∷_, _++_}
 use mathlib.Core.Path.{_≡_, refl, sym, ap, _∙_}
 use lib.Dec.{T, eqb}
 use lib.ListN.{length, getD, drop, length-drop, List·getD-eq-default}
+use Rattle.grammar.specs.Edition.{Edition}
 use Rattle.grammar.specs.Handle.{absent}
 use Rattle.grammar.specs.Layout.{layout, layouts}
 use Rattle.grammar.specs.Naming.{linked-nodes, linked-entries, naming, named-by}
@@ -62,9 +63,9 @@ fits (list t i ∷ single a ∷ []) = true
 fits (list t i ∷ single a ∷ p ∷ ps) = false
 fits (list t i ∷ list u j ∷ ps) = false
 
-layouts-fit : (k : ℕ) → T (fits (pieces (layout k) 0))
+layouts-fit : (k : ℕ) → T (fits (pieces (layout Edition.second k) 0))
 unfolding layout pieces
-layouts-fit k = elim (decLt k 27) [ yes z ↦ within (λ j. fits (pieces (layout j) 0)) 0 27 k tt (omega arith) (omega arith) | no z ↦ rw (List·getD-eq-default layouts [] {n = k} (omega arith)) tt ]
+layouts-fit k = elim (decLt k 27) [ yes z ↦ within (λ j. fits (pieces (layout Edition.second j) 0)) 0 27 k tt (omega arith) (omega arith) | no z ↦ rw (List·getD-eq-default (layouts Edition.second) [] {n = k} (omega arith)) tt ]
 
 -- a list in its room, with what stands after it
 list-present : (ls : List ℕ) (t : Bool) (f n : ℕ) (ys zs : List ℕ) → link-width * (f + n) ≤ length ls → present ys ≡ present zs → present (held (each-of t) n (drop (link-width * f) ls) ++ ys) ≡ present (linked t n (drop (link-width * f) ls) ++ zs)
@@ -87,8 +88,8 @@ module _ (ls xs : List ℕ) where
   arranged-rows (list t i ∷ single a ∷ p ∷ ps) e h = absurd e
   arranged-rows (list t i ∷ list u j ∷ ps) e h = absurd e
 
-  placed-rows : (k : ℕ) → link-width * (placed (layout k) xs .from + placed (layout k) xs .count) ≤ length ls → present (children ls (placed (layout k) xs)) ≡ present (naming ls (layout k) xs)
-  placed-rows k = rw (placed-pieces xs (layout k) 0, naming-pieces ls xs (layout k) 0) (arranged-rows (pieces (layout k) 0) (layouts-fit k))
+  placed-rows : (k : ℕ) → link-width * (placed (layout Edition.second k) xs .from + placed (layout Edition.second k) xs .count) ≤ length ls → present (children ls (placed (layout Edition.second k) xs)) ≡ present (naming ls (layout Edition.second k) xs)
+  placed-rows k = rw (placed-pieces xs (layout Edition.second k) 0, naming-pieces ls xs (layout Edition.second k) 0) (arranged-rows (pieces (layout Edition.second k) 0) (layouts-fit k))
 
 -- whatever `below` and `child` may answer: the children at all places are the rows that the row names, in order, absent ones left out
 pub all-named : (w : Rows) {row : ℕ} {r : Children} → Below (w .nodes) row r → node-width * row + node-width ≤ length (w .nodes) → link-width * (r .from + r .count) ≤ length (w .links) →

@@ -6,6 +6,7 @@ use mathlib.Core.List.{List, [], _∷_, _++_}
 use mathlib.Core.Path.{_≡_}
 use lib.Dec.{eqb}
 use lib.ListN.{length, getD, drop}
+use Rattle.grammar.specs.Edition.{Edition}
 use Rattle.grammar.specs.Handle.{absent}
 use Rattle.grammar.specs.Layout.{Slot, below, child, option, symbol, name, nodes, names, entries, layout}
 use Rattle.grammar.specs.Room.{node-width, link-width}
@@ -43,9 +44,10 @@ placed (nodes ∷ ss) xs = listing 1 (getD xs 0 0) (getD xs 1 0) (placed ss (dro
 placed (names ∷ ss) xs = placed ss (drop 2 xs)
 placed (entries ∷ ss) xs = listing 2 (getD xs 0 0) (getD xs 1 0) (placed ss (drop 2 xs))
 
--- a row that stands wholly in the room has the children of its kind's slots, read off what follows its kind and span; another has none
+-- a row that stands wholly in the room has the children of its kind's slots, read off what follows its kind and span; another has none. By the layout of either edition
+-- they are the same: a child and one that may be absent are read alike
 pub record Below (room : List ℕ) (row : ℕ) (r : Children) : Type 0 where
-  pub inside : node-width * row + node-width ≤ length room → r ≡ placed (layout (getD room (node-width * row) 0)) (drop (node-width * row + 3) room)
+  pub inside : node-width * row + node-width ≤ length room → r ≡ placed (layout Edition.second (getD room (node-width * row) 0)) (drop (node-width * row + 3) room)
   pub outside : length room < node-width * row + node-width → r ≡ nothing
 
 -- the children that a link row holds, and that so many do: none, one or two each. A number that is not in the room is absent

@@ -8,6 +8,7 @@ use lib.Dec.{eqb, ltb, leb, leb→le}
 use borrow.Author.Tests.{eqb-true, eqb-false, ltb-true, lt-ltb, ne-eqb}
 use lib.ListN.{length, getD, set, drop, length-set}
 use lib.Seq.{getD-set-same, getD-set-other, getD-drop}
+use Rattle.grammar.specs.Edition.{Edition}
 use Rattle.grammar.specs.Layout.{layout}
 use Rattle.grammar.specs.Naming.{linked-nodes, linked-entries, named-by, times}
 use Rattle.grammar.specs.Room.{node-width, own-width, link-width}
@@ -137,41 +138,41 @@ module _ (ns ls : List ℕ) (row : ℕ) where
   abbrev pub All-claimed : List ℕ → Type 0
   All-claimed after = after ≡ claims row (named-by (rows ns ls) row) ns
 
-  by-pieces : (ps : List Piece) → pieces (layout kind) 0 ≡ ps → named-by (rows ns ls) row ≡ piece-rows ls (drop (node-width * row + 3) ns) ps
+  by-pieces : (ps : List Piece) → pieces (layout Edition.second kind) 0 ≡ ps → named-by (rows ns ls) row ≡ piece-rows ls (drop (node-width * row + 3) ns) ps
   unfolding named-by
-  by-pieces ps e = naming-pieces ls (drop (node-width * row + 3) ns) (layout kind) 0 ∙ ap (piece-rows ls (drop (node-width * row + 3) ns)) e
+  by-pieces ps e = naming-pieces ls (drop (node-width * row + 3) ns) (layout Edition.second kind) 0 ∙ ap (piece-rows ls (drop (node-width * row + 3) ns)) e
 
   module _ {after : List ℕ} where
-    pub names-none : pieces (layout kind) 0 ≡ [] → after ≡ ns → All-claimed after
+    pub names-none : pieces (layout Edition.second kind) 0 ≡ [] → after ≡ ns → All-claimed after
     unfolding piece-rows claims
     names-none e h = rw (by-pieces [] e) h
 
-    pub names-one : (i : ℕ) → pieces (layout kind) 0 ≡ single i ∷ [] → after ≡ claim row (at i) ns → All-claimed after
+    pub names-one : (i : ℕ) → pieces (layout Edition.second kind) 0 ≡ single i ∷ [] → after ≡ claim row (at i) ns → All-claimed after
     unfolding piece-rows claims
     names-one i e h = rw (by-pieces (single i ∷ []) e, field ns row i) h
 
-    pub names-two : (i j : ℕ) → pieces (layout kind) 0 ≡ single i ∷ single j ∷ [] → after ≡ claims row (at i ∷ at j ∷ []) ns → All-claimed after
+    pub names-two : (i j : ℕ) → pieces (layout Edition.second kind) 0 ≡ single i ∷ single j ∷ [] → after ≡ claims row (at i ∷ at j ∷ []) ns → All-claimed after
     unfolding piece-rows
     names-two i j e h = rw (by-pieces (single i ∷ single j ∷ []) e, field ns row i, field ns row j) h
 
-    pub names-three : (i j k : ℕ) → pieces (layout kind) 0 ≡ single i ∷ single j ∷ single k ∷ [] → {between : List ℕ} → between ≡ claims row (at i ∷ at j ∷ []) ns → after ≡ claim row (at k) between → All-claimed after
+    pub names-three : (i j k : ℕ) → pieces (layout Edition.second kind) 0 ≡ single i ∷ single j ∷ single k ∷ [] → {between : List ℕ} → between ≡ claims row (at i ∷ at j ∷ []) ns → after ≡ claim row (at k) between → All-claimed after
     unfolding piece-rows claims
     names-three i j k e g h = rw (by-pieces (single i ∷ single j ∷ single k ∷ []) e, field ns row i, field ns row j, field ns row k) (h ∙ ap (claim row (at k)) g)
 
-    pub names-row-list : (i j : ℕ) → pieces (layout kind) 0 ≡ single i ∷ list false j ∷ [] → {between : List ℕ} → between ≡ claim row (at i) ns → after ≡ claims row (linked-nodes (at (suc j)) (list-at j)) between → All-claimed after
+    pub names-row-list : (i j : ℕ) → pieces (layout Edition.second kind) 0 ≡ single i ∷ list false j ∷ [] → {between : List ℕ} → between ≡ claim row (at i) ns → after ≡ claims row (linked-nodes (at (suc j)) (list-at j)) between → All-claimed after
     unfolding piece-rows claims
     names-row-list i j e g h = rw (by-pieces (single i ∷ list false j ∷ []) e, field ns row i, field ns row j, field ns row (suc j), append-nil (linked-nodes (at (suc j)) (list-at j))) (h ∙ ap (claims row (linked-nodes (at (suc j)) (list-at j))) g)
 
-    pub names-list-row : (i j : ℕ) → pieces (layout kind) 0 ≡ list false i ∷ single j ∷ [] → {between : List ℕ} → between ≡ claims row (linked-nodes (at (suc i)) (list-at i)) ns → after ≡ claim row (at j) between → All-claimed after
+    pub names-list-row : (i j : ℕ) → pieces (layout Edition.second kind) 0 ≡ list false i ∷ single j ∷ [] → {between : List ℕ} → between ≡ claims row (linked-nodes (at (suc i)) (list-at i)) ns → after ≡ claim row (at j) between → All-claimed after
     unfolding piece-rows claims
     names-list-row i j e g h = rw (by-pieces (list false i ∷ single j ∷ []) e, field ns row i, field ns row (suc i), field ns row j, claims-append row (linked-nodes (at (suc i)) (list-at i)) (at j ∷ []) ns) (h ∙ ap (claim row (at j)) g)
 
-    pub names-entries : (i : ℕ) → pieces (layout kind) 0 ≡ list true i ∷ [] → after ≡ claims row (linked-entries (at (suc i)) (list-at i)) ns → All-claimed after
+    pub names-entries : (i : ℕ) → pieces (layout Edition.second kind) 0 ≡ list true i ∷ [] → after ≡ claims row (linked-entries (at (suc i)) (list-at i)) ns → All-claimed after
     unfolding piece-rows
     names-entries i e h = rw (by-pieces (list true i ∷ []) e, field ns row i, field ns row (suc i), append-nil (linked-entries (at (suc i)) (list-at i))) h
 
 -- what a name or a literal names
-pub leaf-none : (k : ℕ) {leaf : Bool} → leaf ≡ (leb 10 k && leb k 14) → leaf ≡ true → pieces (layout k) 0 ≡ []
+pub leaf-none : (k : ℕ) {leaf : Bool} → leaf ≡ (leb 10 k && leb k 14) → leaf ≡ true → pieces (layout Edition.second k) 0 ≡ []
 leaf-none k e t =
     let z : (leb 10 k && leb k 14) ≡ true = sym e ∙ t in
     let (u, v) = both (leb 10 k) (leb k 14) (rw z tt) in

@@ -20,6 +20,7 @@ use Rattle.grammar.proofs.Trees.{grows}
 use Rattle.names.specs.Resolved.{names-of}
 use Rattle.reading.specs.Reading.{Reading}
 use Rattle.reading.specs.State.{State, written, Within}
+use Rattle.reading.specs.declared.Terms.{Terms}
 
 -- what is written so far is whole rows
 whole-rows : {ts : List ℕ} {s : State} → Within ts s → Whole (written s)
@@ -41,7 +42,7 @@ tail-row (Known.ended i) e = absurd (false≢true e)
 tail-row Known.other e = absurd (false≢true e)
 
 -- a tail has a row
-pub tail-present : {ts : List ℕ} {limit o : ℕ} {g : Aim Table Label} {s s′ : State} {hs ys : List Handle} → s′ .cursor .nodes < absent → Within ts s → Reading ts limit g o s hs ys s′ →
+pub tail-present : {ts : List ℕ} {terms : Terms} {o : ℕ} {g : Aim Table Label} {s s′ : State} {hs ys : List Handle} → s′ .cursor .nodes < absent → Within ts s → Reading ts terms g o s hs ys s′ →
     is-tail (last hs) ≡ true → row (last hs) ≡ absent → ⊥
 unfolding Aligned
 tail-present {ts} {s = s} {s′ = s′} {hs = hs} i w r e z =
@@ -56,6 +57,6 @@ row-link (Handle.ended i) f = refl
 row-link Handle.other f = absurd (omega (arith, f .least))
 
 -- a statement's link is its row
-pub statement-link : {ts : List ℕ} {limit o : ℕ} {s s′ : State} {h : Handle} → Within ts s → Reading ts limit (whole (choice statement)) o s (h ∷ []) [] s′ → link h ≡ row h ∷ 0 ∷ 0 ∷ []
+pub statement-link : {ts : List ℕ} {terms : Terms} {o : ℕ} {s s′ : State} {h : Handle} → Within ts s → Reading ts terms (whole (choice statement)) o s (h ∷ []) [] s′ → link h ≡ row h ∷ 0 ∷ 0 ∷ []
 unfolding ok shape table
-statement-link {ts} {s = s} {h = h} w r = row-link h (rw (r .rows) at (grows ts (names-of ts (s .scratch)) (r .reads) tt (whole-rows w) .first))
+statement-link {ts} {s = s} {h = h} w r = row-link h (rw (r .rows) at (grows _ ts (names-of ts (s .scratch)) (r .reads) tt (whole-rows w) .first))

@@ -11,6 +11,7 @@ use lib.Seq.{take-take, take-at, length-take-le}
 use borrow.Author.Tests.{eqb-true, eqb-false, ne-eqb}
 use Rattle.ast.specs.Written.{Written}
 use Rattle.ast.specs.declared.Node.{Node}
+use Rattle.grammar.specs.Edition.{Edition}
 use Rattle.grammar.specs.Handle.{Handle, absent, row, link, last, is-tail, block-tail, block-list}
 use Rattle.grammar.specs.Kaori.{Form, Table, statement, block-items, may-end, must-end, assignment, semicolon, rules, look, kaori}
 use Rattle.grammar.specs.Kind.{LeftBrace, RightBrace, Function, While, If, Semicolon}
@@ -24,11 +25,12 @@ use Rattle.grammar.proofs.Room.{links-length}
 use Rattle.grammar.proofs.Tables.{Unlisted, keyed, unkeyed}
 use Rattle.reading.specs.Answers.{next, node-of, tail-of, Answer-case, Answered, Listed, Fill-case, Fills, Stated, State-case, States}
 use Rattle.reading.specs.Parts.{forms, form-of, ending, Ends, Ended, Untailed}
-use Rattle.reading.specs.Reading.{refusal, Success, Refusing}
+use Rattle.reading.specs.Reading.{tables, refusal, Success, Refusing}
 use Rattle.reading.specs.State.{State, state, held, Ready, Opened}
 use Rattle.reading.specs.declared.Cursor.{Cursor}
 use Rattle.reading.specs.declared.Read.{Read}
 use Rattle.reading.specs.declared.Refusal.{Refusal}
+use Rattle.reading.specs.declared.Terms.{Terms}
 use Rattle.reading.proofs.Laws.{plain, Made, unwritten, nothing, chosen, ended, alone, joined, taken, ready-next, ready-on}
 use Rattle.reading.proofs.Listings.{pushed, links-append, Statements, listing-none, none-items, listing-more, more-items}
 use Rattle.reading.proofs.Refusals as Refuses
@@ -51,9 +53,9 @@ unfolding ending
 unlisted-ending x u = simp (ne-eqb x LeftBrace (u .1 .0), ne-eqb x If (u .1 .1 .0), ne-eqb x Function (u .1 .1 .1 .0), ne-eqb x While (u .1 .1 .1 .1 .0))
 
 -- what a statement is that starts with a token of kind x
-pub statement-form : (x : ℕ) → kaori statement x ≡ once (form-of x) (ending x)
+pub statement-form : (e : Edition) (x : ℕ) → kaori e statement x ≡ once (form-of x) (ending x)
 unfolding kaori rules form-of ending
-statement-form x = ended-look ending forms assignment x (unlisted-ending x)
+statement-form e x = ended-look ending forms assignment x (unlisted-ending x)
 
 -- what may end a statement
 ending-is : (x : ℕ) → (ending x ≡ may-end) ⊎ (ending x ≡ must-end)
@@ -69,37 +71,37 @@ ending-is x = go (eqb x LeftBrace) (eqb x If) (eqb x Function) (eqb x While)
     go false false false false = inr refl
 
 -- what the end's table has for the token after the form: y is its kind, x that of the statement's first
-module _ (y x : ℕ) where
-  taken-end : y ≡ Semicolon → kaori (ending x) y ≡ semicolon
+module _ (e : Edition) (y x : ℕ) where
+  taken-end : y ≡ Semicolon → kaori e (ending x) y ≡ semicolon
   unfolding kaori rules
-  taken-end e = ap (kaori (ending x)) e ∙ ⊎-elim (λ z. ap (λ t. kaori t Semicolon) z) (λ z. ap (λ t. kaori t Semicolon) z) (ending-is x)
+  taken-end h = ap (kaori e (ending x)) h ∙ ⊎-elim (λ z. ap (λ t. kaori e t Semicolon) z) (λ z. ap (λ t. kaori e t Semicolon) z) (ending-is x)
 
-  no-end : (y ≡ Semicolon → ⊥) → (y ≡ RightBrace) ⊎ (ending x ≡ may-end) → kaori (ending x) y ≡ empty
+  no-end : (y ≡ Semicolon → ⊥) → (y ≡ RightBrace) ⊎ (ending x ≡ may-end) → kaori e (ending x) y ≡ empty
   unfolding rules
-  no-end n h = ⊎-elim may (λ z. ⊎-elim (brace z) may h) (ending-is x)
+  no-end n i = ⊎-elim may (λ z. ⊎-elim (brace z) may i) (ending-is x)
     where
-      may : ending x ≡ may-end → kaori (ending x) y ≡ empty
-      may z = ap (λ t. kaori t y) z ∙ unkeyed may-end y refl n
+      may : ending x ≡ may-end → kaori e (ending x) y ≡ empty
+      may z = ap (λ t. kaori e t y) z ∙ unkeyed _ may-end y refl n
 
-      brace : ending x ≡ must-end → y ≡ RightBrace → kaori (ending x) y ≡ empty
-      brace z e = ap (λ t. kaori t y) z ∙ keyed must-end y refl e
+      brace : ending x ≡ must-end → y ≡ RightBrace → kaori e (ending x) y ≡ empty
+      brace z h = ap (λ t. kaori e t y) z ∙ keyed _ must-end y refl h
 
-  lacking-end : (y ≡ RightBrace → ⊥) → ending x ≡ must-end → kaori (ending x) y ≡ semicolon
+  lacking-end : (y ≡ RightBrace → ⊥) → ending x ≡ must-end → kaori e (ending x) y ≡ semicolon
   unfolding rules
-  lacking-end n z = ap (λ t. kaori t y) z ∙ unkeyed must-end y refl n
+  lacking-end n z = ap (λ t. kaori e t y) z ∙ unkeyed _ must-end y refl n
 
 -- a statement's form was read, and then its end; or it was refused
-module _ {ts : List ℕ} {limit o : ℕ} {s : State} {ns ls ss : List ℕ} where
-  states-refused : {q : Refusal} → Refusing ts limit (choice statement) o s (refusal q) → States ts limit o s ns ls ss (Read.Refused q)
+module _ {ts : List ℕ} {terms : Terms} {o : ℕ} {s : State} {ns ls ss : List ℕ} where
+  states-refused : {q : Refusal} → Refusing ts terms (choice statement) o s (refusal q) → States ts terms o s ns ls ss (Read.Refused q)
   unfolding State-case
   states-refused h = record { says = h }
 
-  ended-by : {n m : Node} {c d : Cursor} → Ready ts limit o s → Success ts limit (whole (form-of (kind ts (s .cursor .at)))) o s (node-of n ∷ []) (state ns ls ss c) →
-      (kind ts (c .at) ≡ Semicolon) × (m ≡ record { id = n .id; start = 0; end = absent }) × (d ≡ next c) → States ts limit o s ns ls ss (Read.Node m d)
+  ended-by : {n m : Node} {c d : Cursor} → Ready ts terms o s → Success ts terms (whole (form-of (kind ts (s .cursor .at)))) o s (node-of n ∷ []) (state ns ls ss c) →
+      (kind ts (c .at) ≡ Semicolon) × (m ≡ record { id = n .id; start = 0; end = absent }) × (d ≡ next c) → States ts terms o s ns ls ss (Read.Node m d)
   unfolding State-case make has-word
   ended-by {n} {c = c} r z (k, em, ed) =
       let made : Made ts Label.Ended (c .at) (state ns ls ss (next c)) (node-of n ∷ []) [] (Handle.ended (n .id) ∷ []) (state ns ls ss (next c)) = unwritten (λ h e. plain refl h) refl in
-      let v = chosen (statement-form (kind ts (s .cursor .at))) (joined (z .reading) (taken-end (kind ts (c .at)) (kind ts (s .cursor .at)) k) (taken k (nothing (r .deep))) made) in
+      let v = chosen (statement-form _ (kind ts (s .cursor .at))) (joined (z .reading) (taken-end _ (kind ts (c .at)) (kind ts (s .cursor .at)) k) (taken k (nothing (r .deep))) made) in
       rw (em, ed)
       (record {
         says = record {
@@ -111,25 +113,25 @@ module _ {ts : List ℕ} {limit o : ℕ} {s : State} {ns ls ss : List ℕ} where
         };
       })
 
-  alone-by : {n m : Node} {c d : Cursor} → Success ts limit (whole (form-of (kind ts (s .cursor .at)))) o s (node-of n ∷ []) (state ns ls ss c) →
+  alone-by : {n m : Node} {c d : Cursor} → Success ts terms (whole (form-of (kind ts (s .cursor .at)))) o s (node-of n ∷ []) (state ns ls ss c) →
       (kind ts (c .at) ≡ Semicolon → ⊥) × ((kind ts (c .at) ≡ RightBrace) ⊎ (ending (kind ts (s .cursor .at)) ≡ may-end)) × (m ≡ record { id = n .id; start = 0; end = n .id }) × (d ≡ c) →
-      States ts limit o s ns ls ss (Read.Node m d)
+      States ts terms o s ns ls ss (Read.Node m d)
   unfolding State-case
   alone-by {n} {c = c} z (k, b, em, ed) =
-      let v = chosen (statement-form (kind ts (s .cursor .at))) (alone (no-end (kind ts (c .at)) (kind ts (s .cursor .at)) k b) (z .reading)) in
+      let v = chosen (statement-form _ (kind ts (s .cursor .at))) (alone (no-end _ (kind ts (c .at)) (kind ts (s .cursor .at)) k b) (z .reading)) in
       rw (em, ed) (record { says = record { handle = node-of n; row-is = refl; start-is = refl; tail-is = refl; success = record { reading = v; within = z .within; past = z .past } } })
 
-  pub statement-ends : {n : Node} {c : Cursor} {x : ℕ} (r : Read) → Ready ts limit o s →
-      Success ts limit (whole (form-of (kind ts (s .cursor .at)))) o s (node-of n ∷ []) (state ns ls ss c) → x ≡ kind ts (s .cursor .at) → Ended ts n c x r → States ts limit o s ns ls ss r
+  pub statement-ends : {n : Node} {c : Cursor} {x : ℕ} (r : Read) → Ready ts terms o s →
+      Success ts terms (whole (form-of (kind ts (s .cursor .at)))) o s (node-of n ∷ []) (state ns ls ss c) → x ≡ kind ts (s .cursor .at) → Ended ts n c x r → States ts terms o s ns ls ss r
   unfolding Ends
   statement-ends (Read.Node m d) i z e w = ⊎-elim (ended-by i z) (alone-by z) ((rw e at w) .says)
   statement-ends {c = c} (Read.Refused q) i z e w =
       let (k, b, y, v) = (rw e at w) .says in
-      rw v (states-refused (Refuses.in-choice (statement-form (kind ts (s .cursor .at))) (after-once (z .reading) (lacking-end (kind ts (c .at)) (kind ts (s .cursor .at)) b y) (Refuses.missing k))))
+      rw v (states-refused (Refuses.in-choice (statement-form _ (kind ts (s .cursor .at))) (after-once (z .reading) (lacking-end _ (kind ts (c .at)) (kind ts (s .cursor .at)) b y) (Refuses.missing k))))
 
-  pub statement-refused : {r : Read} {q : Refusal} → r ≡ Read.Refused q → Answered ts limit node-of (whole (form-of (kind ts (s .cursor .at)))) o s ns ls ss r → States ts limit o s ns ls ss r
+  pub statement-refused : {r : Read} {q : Refusal} → r ≡ Read.Refused q → Answered ts terms node-of (whole (form-of (kind ts (s .cursor .at)))) o s ns ls ss r → States ts terms o s ns ls ss r
   unfolding Answer-case
-  statement-refused {q = q} e a = rw e (states-refused (Refuses.in-choice (statement-form (kind ts (s .cursor .at))) (Refuses.in-only ((rw e at a) .says))))
+  statement-refused {q = q} e a = rw e (states-refused (Refuses.in-choice (statement-form _ (kind ts (s .cursor .at))) (Refuses.in-only ((rw e at a) .says))))
 
 -- a block's tail: after one more item, and what is left of the items without it
 last-more : (hs : List Handle) (h : Handle) → last (hs ++ (h ∷ [])) ≡ h
@@ -167,7 +169,7 @@ shorter n ss xs hs h i e =
     sym (take-take (3 * (n - 1)) (3 * n) ss (omega arith)) ∙ ap (take (3 * (n - 1))) split ∙ take-at (xs ++ links-of hs) (links-of (h ∷ [])) (3 * (n - 1)) m
 
 -- a block's items are read: a tail is held no more
-module _ {ts : List ℕ} {limit o : ℕ} {s : State} {ns ls ss : List ℕ} {c : Cursor} {tail : ℕ} (l : Listed ts limit (begun empty block-items) o s (state ns ls ss c))
+module _ {ts : List ℕ} {terms : Terms} {o : ℕ} {s : State} {ns ls ss : List ℕ} {c : Cursor} {tail : ℕ} (l : Listed ts terms (begun empty block-items) o s (state ns ls ss c))
     (t : tail ≡ row (block-tail (l .items))) where
   pub tail-held : (tail ≡ absent → ⊥) → 1 ≤ c .held
   unfolding block-tail
@@ -177,11 +179,11 @@ module _ {ts : List ℕ} {limit o : ℕ} {s : State} {ns ls ss : List ℕ} {c : 
       go [] e k = absurd (n e)
       go (h ∷ hs) e k = omega arith
 
-  pub block-ends : {r : Read} → Ready ts limit o s → kaori block-items (kind ts (c .at)) ≡ empty → Untailed tail c r → Fills ts limit o s ns ls ss r
+  pub block-ends : {r : Read} → Ready ts terms o s → tables terms block-items (kind ts (c .at)) ≡ empty → Untailed tail c r → Fills ts terms o s ns ls ss r
   unfolding Fill-case block-tail
   block-ends {r} i e u = go (is-tail (last (l .items))) refl
     where
-      go : (b : Bool) → is-tail (last (l .items)) ≡ b → Fills ts limit o s ns ls ss r
+      go : (b : Bool) → is-tail (last (l .items)) ≡ b → Fills ts terms o s ns ls ss r
       go false z =
           let y = no-tail (l .items) z in
           let a : tail ≡ absent = t ∙ rw z in
@@ -232,13 +234,13 @@ module _ {ts : List ℕ} {limit o : ℕ} {s : State} {ns ls ss : List ℕ} {c : 
           })
 
 -- what the loop over a block's statements keeps: at its start, and after one more
-module _ {ts : List ℕ} {limit o : ℕ} {s : State} where
-  pub statements-none : Opened ts limit o s → Statements ts limit o s s absent
+module _ {ts : List ℕ} {terms : Terms} {o : ℕ} {s : State} where
+  pub statements-none : Opened ts terms o s → Statements ts terms o s s absent
   statements-none r = record { listing = listing-none List-table.block r; last = sym (ap (λ k. row (block-tail k)) (none-items List-table.block r) ∙ tail-none) }
 
-  pub statements-more : {s₁ : State} {tail : ℕ} {n : Node} {ns ls ss ss′ : List ℕ} {c : Cursor} → Statements ts limit o s s₁ tail →
-      kaori block-items (kind ts (s₁ .cursor .at)) ≡ node Label.Item (choice statement) → Stated ts limit o s₁ n (state ns ls ss c) →
-      Written (3 * c .held) (3 * (c .held + 1)) (n .id ∷ 0 ∷ 0 ∷ []) ss ss′ → Statements ts limit o s (state ns ls ss′ (pushed c)) (n .end)
+  pub statements-more : {s₁ : State} {tail : ℕ} {n : Node} {ns ls ss ss′ : List ℕ} {c : Cursor} → Statements ts terms o s s₁ tail →
+      tables terms block-items (kind ts (s₁ .cursor .at)) ≡ node Label.Item (choice statement) → Stated ts terms o s₁ n (state ns ls ss c) →
+      Written (3 * c .held) (3 * (c .held + 1)) (n .id ∷ 0 ∷ 0 ∷ []) ss ss′ → Statements ts terms o s (state ns ls ss′ (pushed c)) (n .end)
   statements-more {n = n} x e z w =
       let l = x .listing in
       let f : n .id ∷ 0 ∷ 0 ∷ [] ≡ link (z .handle) = sym (statement-link (l .listed .within) (z .success .reading) ∙ ap (λ i. i ∷ 0 ∷ 0 ∷ []) (z .row-is)) in

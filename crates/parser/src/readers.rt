@@ -5,6 +5,7 @@ use ast::room::push;
 use reading::Cursor;
 use reading::Read;
 use reading::Refusal;
+use reading::Terms;
 use reading::codes;
 use reading::leaves::identifier;
 use reading::leaves::property_access;
@@ -16,27 +17,31 @@ use reading::lists::gather;
 use reading::lists::import;
 use reading::lists::name;
 use reading::lists::names;
+use reading::pieces::bare;
 use reading::pieces::bound;
 use reading::pieces::joined;
+use reading::pieces::lone;
 use reading::pieces::made;
 use reading::pieces::made_list;
 use reading::pieces::no_room;
 use reading::pieces::semicolon;
 use reading::pieces::untailed;
+use token::editions;
 use token::kinds;
 use token::list::kind_at;
 use token::ops::level_of;
 use token::ops::sign_of;
 ghost use mathlib.Core.Path.{_≡_};
 ghost use Prim.Native.Nat.{_+_, _≤_};
+ghost use Rattle.grammar.specs.Edition.{Edition, edition};
 ghost use Rattle.grammar.specs.Kaori as form;
 ghost use Rattle.grammar.specs.Kind.{LeftParen, RightParen, RightBrace};
 ghost use Rattle.grammar.specs.Label.{Label};
 ghost use Rattle.grammar.specs.Phrase.{part, node, choice, chain, empty, whole};
 ghost use Rattle.grammar.specs.Token.{kind};
 ghost use Rattle.reading.specs.Answers.{node-of, entry-of};
-ghost use Rattle.reading.specs.Clauses.{ready, opened, answered, lists, fills, states, called, onward};
-ghost use Rattle.reading.specs.Parts.{Binder, Sign, Other, form-of, binding-node};
+ghost use Rattle.reading.specs.Clauses.{ready, opened, answered, lists, fills, states, called, all-called, onward};
+ghost use Rattle.reading.specs.Parts.{Binder, Sign, Other, form-of, binding-node, head-form, chained-form};
 
 // A statement: its row, and at its node's end the row once more if it may be a tail, or else absent; the node's start is 0.
 // It asks for a list that the door lets in, a cursor at a token of it, room in each room for a row of each token, no more rows so far than tokens before the
@@ -47,16 +52,16 @@ pub fn statement(
     nodes: &mut [u32],
     links: &mut [u32],
     scratch: &mut [u32],
-    limit: u32,
+    terms: Terms,
     depth: u32,
     cur: Cursor,
 ) -> Read
-    requires { ⌜ ready tokens nodes links scratch limit depth cur ⌝ }
-    ensures { λ r. ⌜ states tokens nodes links scratch limit depth cur r ⌝ }
+    requires { ⌜ ready tokens nodes links scratch terms depth cur ⌝ }
+    ensures { λ r. ⌜ states tokens nodes links scratch terms depth cur r ⌝ }
 {
     let at = cur.at;
     let kind = kind_at(tokens, at);
-    let read = form(tokens, nodes, links, scratch, limit, depth, cur);
+    let read = form(tokens, nodes, links, scratch, terms, depth, cur);
     let Read::Node(node, end) = read else {
         return read;
     };
@@ -69,39 +74,39 @@ fn form(
     nodes: &mut [u32],
     links: &mut [u32],
     scratch: &mut [u32],
-    limit: u32,
+    terms: Terms,
     depth: u32,
     cur: Cursor,
 ) -> Read
-    requires { ⌜ ready tokens nodes links scratch limit depth cur ⌝ }
-    ensures { λ r. ⌜ answered node-of (whole (form-of (kind (now (tokens .entry)) (cur .at)))) tokens nodes links scratch limit depth cur r ⌝ }
+    requires { ⌜ ready tokens nodes links scratch terms depth cur ⌝ }
+    ensures { λ r. ⌜ answered node-of (whole (form-of (kind (now (tokens .entry)) (cur .at)))) tokens nodes links scratch terms depth cur r ⌝ }
 {
     let at = cur.at;
     let kind = kind_at(tokens, at);
     match kind {
-        kinds::LEFT_BRACE => block(tokens, nodes, links, scratch, limit, depth, cur),
-        kinds::LET..=kinds::REF => bind(tokens, nodes, links, scratch, limit, depth, cur, kind),
-        kinds::FUNCTION => function(tokens, nodes, links, scratch, limit, depth, cur),
+        kinds::LEFT_BRACE => block(tokens, nodes, links, scratch, terms, depth, cur),
+        kinds::LET..=kinds::REF => bind(tokens, nodes, links, scratch, terms, depth, cur, kind),
+        kinds::FUNCTION => fun_(tokens, nodes, links, scratch, terms, depth, cur),
         kinds::FOR => Read::Refused(Refusal {
             code: codes::STARTS_WITH_FOR,
             at: at,
             expected: codes::NO_KIND,
         }),
-        kinds::WHILE => while_(tokens, nodes, links, scratch, limit, depth, cur),
+        kinds::WHILE => while_(tokens, nodes, links, scratch, terms, depth, cur),
         kinds::BREAK..=kinds::CONTINUE => single(
             tokens,
             nodes,
             links,
             scratch,
-            limit,
+            terms,
             depth,
             cur,
             kind,
         ),
-        kinds::IF => if_(tokens, nodes, links, scratch, limit, depth, cur),
-        kinds::RETURN => return_(tokens, nodes, links, scratch, limit, depth, cur),
-        kinds::IMPORT => import(tokens, nodes, links, scratch, limit, depth, cur),
-        _ => assign(tokens, nodes, links, scratch, limit, depth, cur),
+        kinds::IF => if_(tokens, nodes, links, scratch, terms, depth, cur),
+        kinds::RETURN => return_(tokens, nodes, links, scratch, terms, depth, cur),
+        kinds::IMPORT => import(tokens, nodes, links, scratch, terms, depth, cur),
+        _ => assign(tokens, nodes, links, scratch, terms, depth, cur),
     }
 }
 
@@ -111,14 +116,14 @@ fn assign(
     nodes: &mut [u32],
     links: &mut [u32],
     scratch: &mut [u32],
-    limit: u32,
+    terms: Terms,
     depth: u32,
     cur: Cursor,
 ) -> Read
-    requires { ⌜ ready tokens nodes links scratch limit depth cur ⌝ }
-    ensures { λ r. ⌜ answered node-of (whole form.assignment) tokens nodes links scratch limit depth cur r ⌝ }
+    requires { ⌜ ready tokens nodes links scratch terms depth cur ⌝ }
+    ensures { λ r. ⌜ answered node-of (whole form.assignment) tokens nodes links scratch terms depth cur r ⌝ }
 {
-    let read = expression(tokens, nodes, links, scratch, limit, depth, cur);
+    let read = expression(tokens, nodes, links, scratch, terms, depth, cur);
     let Read::Node(left, middle) = read else {
         return read;
     };
@@ -132,7 +137,7 @@ fn assign(
         links: middle.links,
         nodes: middle.nodes,
     };
-    let turn = expression(tokens, nodes, links, scratch, limit, depth, next);
+    let turn = expression(tokens, nodes, links, scratch, terms, depth, next);
     let Read::Node(right, end) = turn else {
         return turn;
     };
@@ -146,18 +151,24 @@ fn return_(
     nodes: &mut [u32],
     links: &mut [u32],
     scratch: &mut [u32],
-    limit: u32,
+    terms: Terms,
     depth: u32,
     cur: Cursor,
 ) -> Read
-    requires { ⌜ ready tokens nodes links scratch limit depth cur ⌝ }
-    ensures { λ r. ⌜ answered node-of (whole form.return) tokens nodes links scratch limit depth cur r ⌝ }
+    requires { ⌜ ready tokens nodes links scratch terms depth cur ⌝ }
+    ensures { λ r. ⌜ answered node-of (whole form.return) tokens nodes links scratch terms depth cur r ⌝ }
 {
     let read = consume(tokens, cur, kinds::RETURN);
     let Read::Node(lead, next) = read else {
         return read;
     };
-    let read = expression(tokens, nodes, links, scratch, limit, depth, next);
+    let at = next.at;
+    if bare(terms.edition, kind_at(tokens, at)) {
+        let n = next.nodes;
+        let node = ast::return_(nodes, n, ABSENT, lead.start, lead.end);
+        return made(node, next);
+    }
+    let read = expression(tokens, nodes, links, scratch, terms, depth, next);
     let Read::Node(child, end) = read else {
         return read;
     };
@@ -171,14 +182,14 @@ fn block(
     nodes: &mut [u32],
     links: &mut [u32],
     scratch: &mut [u32],
-    limit: u32,
+    terms: Terms,
     depth: u32,
     cur: Cursor,
 ) -> Read
-    requires { ⌜ ready tokens nodes links scratch limit depth cur ⌝ }
-    ensures { λ r. ⌜ answered node-of (whole form.block) tokens nodes links scratch limit depth cur r ⌝ }
+    requires { ⌜ ready tokens nodes links scratch terms depth cur ⌝ }
+    ensures { λ r. ⌜ answered node-of (whole form.block) tokens nodes links scratch terms depth cur r ⌝ }
 {
-    if limit <= depth {
+    if terms.limit <= depth {
         return Read::Refused(Refusal {
             code: codes::TOO_DEEP,
             at: cur.at,
@@ -189,7 +200,7 @@ fn block(
     let Read::Node(open, next) = read else {
         return read;
     };
-    let read = items(tokens, nodes, links, scratch, limit, depth + 1, next);
+    let read = items(tokens, nodes, links, scratch, terms, depth + 1, next);
     let Read::Node(tail, last) = read else {
         return read;
     };
@@ -220,12 +231,12 @@ fn items(
     nodes: &mut [u32],
     links: &mut [u32],
     scratch: &mut [u32],
-    limit: u32,
+    terms: Terms,
     depth: u32,
     cur: Cursor,
 ) -> Read
-    requires { ⌜ opened tokens nodes links scratch limit depth cur ⌝ }
-    ensures { λ r. ⌜ fills tokens nodes links scratch limit depth cur r ⌝ }
+    requires { ⌜ opened tokens nodes links scratch terms depth cur ⌝ }
+    ensures { λ r. ⌜ fills tokens nodes links scratch terms depth cur r ⌝ }
 {
     let mut now = cur;
     let mut tail = ABSENT;
@@ -236,7 +247,7 @@ fn items(
             kinds::RIGHT_BRACE | kinds::EOF => break 'list,
             _ => {}
         }
-        let read = statement(tokens, nodes, links, scratch, limit, depth, now);
+        let read = statement(tokens, nodes, links, scratch, terms, depth, now);
         let Read::Node(item, end) = read else {
             return read;
         };
@@ -258,14 +269,14 @@ fn if_(
     nodes: &mut [u32],
     links: &mut [u32],
     scratch: &mut [u32],
-    limit: u32,
+    terms: Terms,
     depth: u32,
     cur: Cursor,
 ) -> Read
-    requires { ⌜ ready tokens nodes links scratch limit depth cur ⌝ }
-    ensures { λ r. ⌜ answered node-of (whole form.conditional) tokens nodes links scratch limit depth cur r ⌝ }
+    requires { ⌜ ready tokens nodes links scratch terms depth cur ⌝ }
+    ensures { λ r. ⌜ answered node-of (whole form.conditional) tokens nodes links scratch terms depth cur r ⌝ }
 {
-    if limit <= depth {
+    if terms.limit <= depth {
         return Read::Refused(Refusal {
             code: codes::TOO_DEEP,
             at: cur.at,
@@ -276,11 +287,11 @@ fn if_(
     let Read::Node(lead, next) = read else {
         return read;
     };
-    let read = expression(tokens, nodes, links, scratch, limit, depth + 1, next);
+    let read = expression(tokens, nodes, links, scratch, terms, depth + 1, next);
     let Read::Node(condition, middle) = read else {
         return read;
     };
-    let read = block(tokens, nodes, links, scratch, limit, depth + 1, middle);
+    let read = block(tokens, nodes, links, scratch, terms, depth + 1, middle);
     let Read::Node(then, end) = read else {
         return read;
     };
@@ -304,7 +315,7 @@ fn if_(
         links: end.links,
         nodes: end.nodes,
     };
-    let read = else_(tokens, nodes, links, scratch, limit, depth + 1, further);
+    let read = else_(tokens, nodes, links, scratch, terms, depth + 1, further);
     let Read::Node(other, last) = read else {
         return read;
     };
@@ -327,18 +338,18 @@ fn else_(
     nodes: &mut [u32],
     links: &mut [u32],
     scratch: &mut [u32],
-    limit: u32,
+    terms: Terms,
     depth: u32,
     cur: Cursor,
 ) -> Read
-    requires { ⌜ ready tokens nodes links scratch limit depth cur ⌝ }
-    ensures { λ r. ⌜ answered node-of (whole (choice form.branch)) tokens nodes links scratch limit depth cur r ⌝ }
+    requires { ⌜ ready tokens nodes links scratch terms depth cur ⌝ }
+    ensures { λ r. ⌜ answered node-of (whole (choice form.branch)) tokens nodes links scratch terms depth cur r ⌝ }
 {
     let at = cur.at;
     let kind = kind_at(tokens, at);
     match kind {
-        kinds::IF => if_(tokens, nodes, links, scratch, limit, depth, cur),
-        _ => block(tokens, nodes, links, scratch, limit, depth, cur),
+        kinds::IF => if_(tokens, nodes, links, scratch, terms, depth, cur),
+        _ => block(tokens, nodes, links, scratch, terms, depth, cur),
     }
 }
 
@@ -347,22 +358,22 @@ fn while_(
     nodes: &mut [u32],
     links: &mut [u32],
     scratch: &mut [u32],
-    limit: u32,
+    terms: Terms,
     depth: u32,
     cur: Cursor,
 ) -> Read
-    requires { ⌜ ready tokens nodes links scratch limit depth cur ⌝ }
-    ensures { λ r. ⌜ answered node-of (whole form.while-loop) tokens nodes links scratch limit depth cur r ⌝ }
+    requires { ⌜ ready tokens nodes links scratch terms depth cur ⌝ }
+    ensures { λ r. ⌜ answered node-of (whole form.while-loop) tokens nodes links scratch terms depth cur r ⌝ }
 {
     let read = consume(tokens, cur, kinds::WHILE);
     let Read::Node(lead, next) = read else {
         return read;
     };
-    let read = expression(tokens, nodes, links, scratch, limit, depth, next);
+    let read = expression(tokens, nodes, links, scratch, terms, depth, next);
     let Read::Node(condition, middle) = read else {
         return read;
     };
-    let read = block(tokens, nodes, links, scratch, limit, depth, middle);
+    let read = block(tokens, nodes, links, scratch, terms, depth, middle);
     let Read::Node(body, end) = read else {
         return read;
     };
@@ -371,23 +382,23 @@ fn while_(
     made(node, end)
 }
 
-fn function(
+fn fun_(
     tokens: &[u32],
     nodes: &mut [u32],
     links: &mut [u32],
     scratch: &mut [u32],
-    limit: u32,
+    terms: Terms,
     depth: u32,
     cur: Cursor,
 ) -> Read
-    requires { ⌜ ready tokens nodes links scratch limit depth cur ⌝ }
-    ensures { λ r. ⌜ answered node-of (whole form.function) tokens nodes links scratch limit depth cur r ⌝ }
+    requires { ⌜ ready tokens nodes links scratch terms depth cur ⌝ }
+    ensures { λ r. ⌜ answered node-of (whole form.function) tokens nodes links scratch terms depth cur r ⌝ }
 {
     let read = consume(tokens, cur, kinds::FUNCTION);
     let Read::Node(lead, next) = read else {
         return read;
     };
-    let read = name(tokens, nodes, links, scratch, limit, depth, next);
+    let read = name(tokens, nodes, links, scratch, terms, depth, next);
     let Read::Node(word, named) = read else {
         return read;
     };
@@ -396,7 +407,7 @@ fn function(
         return read;
     };
     let closer = kinds::RIGHT_PAREN;
-    let read = names(tokens, nodes, links, scratch, limit, depth, open, closer);
+    let read = names(tokens, nodes, links, scratch, terms, depth, open, closer);
     let Read::Node(_, listed) = read else {
         return read;
     };
@@ -404,7 +415,7 @@ fn function(
     let Read::Node(_, close) = read else {
         return read;
     };
-    let read = block(tokens, nodes, links, scratch, limit, depth, close);
+    let read = block(tokens, nodes, links, scratch, terms, depth, close);
     let Read::Node(body, end) = read else {
         return read;
     };
@@ -434,20 +445,20 @@ fn bind(
     nodes: &mut [u32],
     links: &mut [u32],
     scratch: &mut [u32],
-    limit: u32,
+    terms: Terms,
     depth: u32,
     cur: Cursor,
     kind: u32,
 ) -> Read
     requires { ⌜ Binder kind ⌝ }
-    requires { ⌜ ready tokens nodes links scratch limit depth cur ⌝ }
-    ensures { λ r. ⌜ answered node-of (whole (form.binding (binding-node kind) kind)) tokens nodes links scratch limit depth cur r ⌝ }
+    requires { ⌜ ready tokens nodes links scratch terms depth cur ⌝ }
+    ensures { λ r. ⌜ answered node-of (whole (form.binding (binding-node kind) kind)) tokens nodes links scratch terms depth cur r ⌝ }
 {
     let read = consume(tokens, cur, kind);
     let Read::Node(lead, next) = read else {
         return read;
     };
-    let read = name(tokens, nodes, links, scratch, limit, depth, next);
+    let read = name(tokens, nodes, links, scratch, terms, depth, next);
     let Read::Node(word, named) = read else {
         return read;
     };
@@ -455,7 +466,7 @@ fn bind(
     let Read::Node(_, middle) = read else {
         return read;
     };
-    let read = expression(tokens, nodes, links, scratch, limit, depth, middle);
+    let read = expression(tokens, nodes, links, scratch, terms, depth, middle);
     let Read::Node(right, end) = read else {
         return read;
     };
@@ -470,21 +481,21 @@ fn expression(
     nodes: &mut [u32],
     links: &mut [u32],
     scratch: &mut [u32],
-    limit: u32,
+    terms: Terms,
     depth: u32,
     cur: Cursor,
 ) -> Read
-    requires { ⌜ ready tokens nodes links scratch limit depth cur ⌝ }
-    ensures { λ r. ⌜ answered node-of (whole form.expression) tokens nodes links scratch limit depth cur r ⌝ }
+    requires { ⌜ ready tokens nodes links scratch terms depth cur ⌝ }
+    ensures { λ r. ⌜ answered node-of (whole form.expression) tokens nodes links scratch terms depth cur r ⌝ }
 {
-    if limit <= depth {
+    if terms.limit <= depth {
         return Read::Refused(Refusal {
             code: codes::TOO_DEEP,
             at: cur.at,
             expected: codes::NO_KIND,
         });
     }
-    binary(tokens, nodes, links, scratch, limit, depth + 1, cur, 6)
+    binary(tokens, nodes, links, scratch, terms, depth + 1, cur, 6)
 }
 
 // The levels of binary operators below one, counted from the tightest: an operand, and each operator after it that binds tighter, with its right operand.
@@ -493,16 +504,16 @@ fn binary(
     nodes: &mut [u32],
     links: &mut [u32],
     scratch: &mut [u32],
-    limit: u32,
+    terms: Terms,
     depth: u32,
     cur: Cursor,
     level: u32,
 ) -> Read
     requires { ⌜ level ≤ 6 ⌝ }
-    requires { ⌜ ready tokens nodes links scratch limit depth cur ⌝ }
-    ensures { λ r. ⌜ answered node-of (whole (form.above level)) tokens nodes links scratch limit depth cur r ⌝ }
+    requires { ⌜ ready tokens nodes links scratch terms depth cur ⌝ }
+    ensures { λ r. ⌜ answered node-of (whole (form.above level)) tokens nodes links scratch terms depth cur r ⌝ }
 {
-    let read = prefix(tokens, nodes, links, scratch, limit, depth, cur);
+    let read = prefix(tokens, nodes, links, scratch, terms, depth, cur);
     let Read::Node(first, past) = read else {
         return read;
     };
@@ -521,7 +532,7 @@ fn binary(
             links: now.links,
             nodes: now.nodes,
         };
-        let turn = binary(tokens, nodes, links, scratch, limit, depth, next, tier);
+        let turn = binary(tokens, nodes, links, scratch, terms, depth, next, tier);
         let Read::Node(right, end) = turn else {
             return turn;
         };
@@ -546,33 +557,46 @@ fn prefix(
     nodes: &mut [u32],
     links: &mut [u32],
     scratch: &mut [u32],
-    limit: u32,
+    terms: Terms,
     depth: u32,
     cur: Cursor,
 ) -> Read
-    requires { ⌜ ready tokens nodes links scratch limit depth cur ⌝ }
-    ensures { λ r. ⌜ answered node-of (whole (choice form.operand)) tokens nodes links scratch limit depth cur r ⌝ }
+    requires { ⌜ ready tokens nodes links scratch terms depth cur ⌝ }
+    ensures { λ r. ⌜ answered node-of (whole (choice form.operand)) tokens nodes links scratch terms depth cur r ⌝ }
 {
     let at = cur.at;
     let kind = kind_at(tokens, at);
     match kind {
-        kinds::PLUS => plus(tokens, nodes, links, scratch, limit, depth, cur),
+        kinds::PLUS => plus(tokens, nodes, links, scratch, terms, depth, cur),
         kinds::MINUS | kinds::CARET => unary(
             tokens,
             nodes,
             links,
             scratch,
-            limit,
+            terms,
             depth,
             cur,
             kind,
         ),
-        kinds::LEFT_PAREN => group(tokens, nodes, links, scratch, limit, depth, cur),
-        kinds::NOT => not_(tokens, nodes, links, scratch, limit, depth, cur),
-        kinds::NUMBER_LITERAL => single(tokens, nodes, links, scratch, limit, depth, cur, kind),
-        kinds::STRING_LITERAL => string(tokens, nodes, links, scratch, limit, depth, cur),
-        kinds::IDENTIFIER => chained(tokens, nodes, links, scratch, limit, depth, cur),
-        _ => primary(tokens, nodes, links, scratch, limit, depth, cur),
+        kinds::LEFT_PAREN | kinds::IDENTIFIER => chained(
+            tokens,
+            nodes,
+            links,
+            scratch,
+            terms,
+            depth,
+            cur,
+            kind,
+        ),
+        kinds::NOT => {
+            if terms.edition == editions::SECOND {
+                return deny(tokens, nodes, links, scratch, terms, depth, cur);
+            }
+            not_(tokens, nodes, links, scratch, terms, depth, cur)
+        }
+        kinds::NUMBER_LITERAL => single(tokens, nodes, links, scratch, terms, depth, cur, kind),
+        kinds::STRING_LITERAL => string(tokens, nodes, links, scratch, terms, depth, cur),
+        _ => primary(tokens, nodes, links, scratch, terms, depth, cur),
     }
 }
 
@@ -582,14 +606,14 @@ fn plus(
     nodes: &mut [u32],
     links: &mut [u32],
     scratch: &mut [u32],
-    limit: u32,
+    terms: Terms,
     depth: u32,
     cur: Cursor,
 ) -> Read
-    requires { ⌜ ready tokens nodes links scratch limit depth cur ⌝ }
-    ensures { λ r. ⌜ answered node-of (whole form.plus) tokens nodes links scratch limit depth cur r ⌝ }
+    requires { ⌜ ready tokens nodes links scratch terms depth cur ⌝ }
+    ensures { λ r. ⌜ answered node-of (whole form.plus) tokens nodes links scratch terms depth cur r ⌝ }
 {
-    if limit <= depth {
+    if terms.limit <= depth {
         return Read::Refused(Refusal {
             code: codes::TOO_DEEP,
             at: cur.at,
@@ -600,7 +624,7 @@ fn plus(
     let Read::Node(_, next) = read else {
         return read;
     };
-    binary(tokens, nodes, links, scratch, limit, depth + 1, next, 0)
+    binary(tokens, nodes, links, scratch, terms, depth + 1, next, 0)
 }
 
 // `-` and `^`.
@@ -609,16 +633,16 @@ fn unary(
     nodes: &mut [u32],
     links: &mut [u32],
     scratch: &mut [u32],
-    limit: u32,
+    terms: Terms,
     depth: u32,
     cur: Cursor,
     kind: u32,
 ) -> Read
     requires { ⌜ Sign kind ⌝ }
-    requires { ⌜ ready tokens nodes links scratch limit depth cur ⌝ }
-    ensures { λ r. ⌜ answered node-of (whole (form.unary kind)) tokens nodes links scratch limit depth cur r ⌝ }
+    requires { ⌜ ready tokens nodes links scratch terms depth cur ⌝ }
+    ensures { λ r. ⌜ answered node-of (whole (form.unary kind)) tokens nodes links scratch terms depth cur r ⌝ }
 {
-    if limit <= depth {
+    if terms.limit <= depth {
         return Read::Refused(Refusal {
             code: codes::TOO_DEEP,
             at: cur.at,
@@ -629,7 +653,7 @@ fn unary(
     let Read::Node(lead, next) = read else {
         return read;
     };
-    let read = binary(tokens, nodes, links, scratch, limit, depth + 1, next, 0);
+    let read = binary(tokens, nodes, links, scratch, terms, depth + 1, next, 0);
     let Read::Node(child, end) = read else {
         return read;
     };
@@ -638,24 +662,57 @@ fn unary(
     made(node, end)
 }
 
-// `not` takes a whole expression, which is one opening deeper and has every level; its span is that of its own token.
+// In edition 2 `not` takes an operand, as a sign does; its span runs to the operand's end.
+fn deny(
+    tokens: &[u32],
+    nodes: &mut [u32],
+    links: &mut [u32],
+    scratch: &mut [u32],
+    terms: Terms,
+    depth: u32,
+    cur: Cursor,
+) -> Read
+    requires { ⌜ ready tokens nodes links scratch terms depth cur ⌝ }
+    ensures { λ r. ⌜ answered node-of (whole (form.denial Edition.second)) tokens nodes links scratch terms depth cur r ⌝ }
+{
+    if terms.limit <= depth {
+        return Read::Refused(Refusal {
+            code: codes::TOO_DEEP,
+            at: cur.at,
+            expected: codes::NO_KIND,
+        });
+    }
+    let read = consume(tokens, cur, kinds::NOT);
+    let Read::Node(lead, next) = read else {
+        return read;
+    };
+    let read = binary(tokens, nodes, links, scratch, terms, depth + 1, next, 0);
+    let Read::Node(child, end) = read else {
+        return read;
+    };
+    let n = end.nodes;
+    let node = ast::logical_not(nodes, n, child.id, lead.start, child.end);
+    made(node, end)
+}
+
+// In edition 1 `not` takes a whole expression, which is one opening deeper and has every level; its span is that of its own token.
 fn not_(
     tokens: &[u32],
     nodes: &mut [u32],
     links: &mut [u32],
     scratch: &mut [u32],
-    limit: u32,
+    terms: Terms,
     depth: u32,
     cur: Cursor,
 ) -> Read
-    requires { ⌜ ready tokens nodes links scratch limit depth cur ⌝ }
-    ensures { λ r. ⌜ answered node-of (whole form.denial) tokens nodes links scratch limit depth cur r ⌝ }
+    requires { ⌜ ready tokens nodes links scratch terms depth cur ⌝ }
+    ensures { λ r. ⌜ answered node-of (whole (form.denial Edition.first)) tokens nodes links scratch terms depth cur r ⌝ }
 {
     let read = consume(tokens, cur, kinds::NOT);
     let Read::Node(lead, next) = read else {
         return read;
     };
-    if limit <= depth {
+    if terms.limit <= depth {
         return Read::Refused(Refusal {
             code: codes::TOO_DEEP,
             at: next.at,
@@ -663,7 +720,7 @@ fn not_(
         });
     }
     let level = 6;
-    let read = binary(tokens, nodes, links, scratch, limit, depth + 1, next, level);
+    let read = binary(tokens, nodes, links, scratch, terms, depth + 1, next, level);
     let Read::Node(child, end) = read else {
         return read;
     };
@@ -678,22 +735,22 @@ fn primary(
     nodes: &mut [u32],
     links: &mut [u32],
     scratch: &mut [u32],
-    limit: u32,
+    terms: Terms,
     depth: u32,
     cur: Cursor,
 ) -> Read
     requires { ⌜ Other (kind (now tokens) (cur .at)) ⌝ }
-    requires { ⌜ ready tokens nodes links scratch limit depth cur ⌝ }
-    ensures { λ r. ⌜ answered node-of (whole (choice form.operand)) tokens nodes links scratch limit depth cur r ⌝ }
+    requires { ⌜ ready tokens nodes links scratch terms depth cur ⌝ }
+    ensures { λ r. ⌜ answered node-of (whole (choice form.operand)) tokens nodes links scratch terms depth cur r ⌝ }
 {
     let at = cur.at;
     let kind = kind_at(tokens, at);
     match kind {
-        kinds::PIPE => lambda(tokens, nodes, links, scratch, limit, depth, cur),
-        kinds::HASH => map_(tokens, nodes, links, scratch, limit, depth, cur),
-        kinds::LEFT_BRACE => block(tokens, nodes, links, scratch, limit, depth, cur),
-        kinds::IF => if_(tokens, nodes, links, scratch, limit, depth, cur),
-        kinds::TRUE..=kinds::NIL => single(tokens, nodes, links, scratch, limit, depth, cur, kind),
+        kinds::PIPE => lambda(tokens, nodes, links, scratch, terms, depth, cur),
+        kinds::HASH => map_(tokens, nodes, links, scratch, terms, depth, cur),
+        kinds::LEFT_BRACE => block(tokens, nodes, links, scratch, terms, depth, cur),
+        kinds::IF => if_(tokens, nodes, links, scratch, terms, depth, cur),
+        kinds::TRUE..=kinds::NIL => single(tokens, nodes, links, scratch, terms, depth, cur, kind),
         _ => Read::Refused(Refusal {
             code: codes::OPERAND_REQUIRED,
             at: at,
@@ -708,18 +765,18 @@ fn group(
     nodes: &mut [u32],
     links: &mut [u32],
     scratch: &mut [u32],
-    limit: u32,
+    terms: Terms,
     depth: u32,
     cur: Cursor,
 ) -> Read
-    requires { ⌜ ready tokens nodes links scratch limit depth cur ⌝ }
-    ensures { λ r. ⌜ answered node-of (whole form.group) tokens nodes links scratch limit depth cur r ⌝ }
+    requires { ⌜ ready tokens nodes links scratch terms depth cur ⌝ }
+    ensures { λ r. ⌜ answered node-of (whole form.group) tokens nodes links scratch terms depth cur r ⌝ }
 {
     let read = consume(tokens, cur, kinds::LEFT_PAREN);
     let Read::Node(_, next) = read else {
         return read;
     };
-    let read = expression(tokens, nodes, links, scratch, limit, depth, next);
+    let read = expression(tokens, nodes, links, scratch, terms, depth, next);
     let Read::Node(inner, last) = read else {
         return read;
     };
@@ -735,12 +792,12 @@ fn map_(
     nodes: &mut [u32],
     links: &mut [u32],
     scratch: &mut [u32],
-    limit: u32,
+    terms: Terms,
     depth: u32,
     cur: Cursor,
 ) -> Read
-    requires { ⌜ ready tokens nodes links scratch limit depth cur ⌝ }
-    ensures { λ r. ⌜ answered node-of (whole form.map-literal) tokens nodes links scratch limit depth cur r ⌝ }
+    requires { ⌜ ready tokens nodes links scratch terms depth cur ⌝ }
+    ensures { λ r. ⌜ answered node-of (whole form.map-literal) tokens nodes links scratch terms depth cur r ⌝ }
 {
     let read = consume(tokens, cur, kinds::HASH);
     let Read::Node(lead, hash) = read else {
@@ -750,7 +807,7 @@ fn map_(
     let Read::Node(_, open) = read else {
         return read;
     };
-    let read = pairs(tokens, nodes, links, scratch, limit, depth, open);
+    let read = pairs(tokens, nodes, links, scratch, terms, depth, open);
     let Read::Node(_, last) = read else {
         return read;
     };
@@ -773,12 +830,12 @@ fn pairs(
     nodes: &mut [u32],
     links: &mut [u32],
     scratch: &mut [u32],
-    limit: u32,
+    terms: Terms,
     depth: u32,
     cur: Cursor,
 ) -> Read
-    requires { ⌜ opened tokens nodes links scratch limit depth cur ⌝ }
-    ensures { λ r. ⌜ lists (whole (chain empty form.entries)) tokens nodes links scratch limit depth cur r ⌝ }
+    requires { ⌜ opened tokens nodes links scratch terms depth cur ⌝ }
+    ensures { λ r. ⌜ lists (whole (chain empty form.entries)) tokens nodes links scratch terms depth cur r ⌝ }
 {
     let mut now = cur;
     'list: loop {
@@ -788,7 +845,7 @@ fn pairs(
             kinds::RIGHT_BRACE | kinds::EOF => break 'list,
             _ => {}
         }
-        let read = pair(tokens, nodes, links, scratch, limit, depth, now);
+        let read = pair(tokens, nodes, links, scratch, terms, depth, now);
         let Read::Node(item, end) = read else {
             return read;
         };
@@ -817,14 +874,14 @@ fn pair(
     nodes: &mut [u32],
     links: &mut [u32],
     scratch: &mut [u32],
-    limit: u32,
+    terms: Terms,
     depth: u32,
     cur: Cursor,
 ) -> Read
-    requires { ⌜ ready tokens nodes links scratch limit depth cur ⌝ }
-    ensures { λ r. ⌜ answered entry-of (whole (part (node Label.Entry (part form.expression (choice form.value))) (choice (form.comma RightBrace)))) tokens nodes links scratch limit depth cur r ⌝ }
+    requires { ⌜ ready tokens nodes links scratch terms depth cur ⌝ }
+    ensures { λ r. ⌜ answered entry-of (whole (part (node Label.Entry (part form.expression (choice form.value))) (choice (form.comma RightBrace)))) tokens nodes links scratch terms depth cur r ⌝ }
 {
-    let read = expression(tokens, nodes, links, scratch, limit, depth, cur);
+    let read = expression(tokens, nodes, links, scratch, terms, depth, cur);
     let Read::Node(key, middle) = read else {
         return read;
     };
@@ -843,7 +900,7 @@ fn pair(
         links: middle.links,
         nodes: middle.nodes,
     };
-    let turn = expression(tokens, nodes, links, scratch, limit, depth, next);
+    let turn = expression(tokens, nodes, links, scratch, terms, depth, next);
     let Read::Node(value, end) = turn else {
         return turn;
     };
@@ -860,19 +917,19 @@ fn lambda(
     nodes: &mut [u32],
     links: &mut [u32],
     scratch: &mut [u32],
-    limit: u32,
+    terms: Terms,
     depth: u32,
     cur: Cursor,
 ) -> Read
-    requires { ⌜ ready tokens nodes links scratch limit depth cur ⌝ }
-    ensures { λ r. ⌜ answered node-of (whole form.lambda) tokens nodes links scratch limit depth cur r ⌝ }
+    requires { ⌜ ready tokens nodes links scratch terms depth cur ⌝ }
+    ensures { λ r. ⌜ answered node-of (whole form.lambda) tokens nodes links scratch terms depth cur r ⌝ }
 {
     let read = consume(tokens, cur, kinds::PIPE);
     let Read::Node(lead, next) = read else {
         return read;
     };
     let closer = kinds::PIPE;
-    let read = names(tokens, nodes, links, scratch, limit, depth, next, closer);
+    let read = names(tokens, nodes, links, scratch, terms, depth, next, closer);
     let Read::Node(_, listed) = read else {
         return read;
     };
@@ -880,7 +937,7 @@ fn lambda(
     let Read::Node(_, middle) = read else {
         return read;
     };
-    let read = body(tokens, nodes, links, scratch, limit, depth, middle);
+    let read = body(tokens, nodes, links, scratch, terms, depth, middle);
     let Read::Node(body, end) = read else {
         return read;
     };
@@ -907,60 +964,84 @@ fn body(
     nodes: &mut [u32],
     links: &mut [u32],
     scratch: &mut [u32],
-    limit: u32,
+    terms: Terms,
     depth: u32,
     cur: Cursor,
 ) -> Read
-    requires { ⌜ ready tokens nodes links scratch limit depth cur ⌝ }
-    ensures { λ r. ⌜ answered node-of (whole (choice form.body)) tokens nodes links scratch limit depth cur r ⌝ }
+    requires { ⌜ ready tokens nodes links scratch terms depth cur ⌝ }
+    ensures { λ r. ⌜ answered node-of (whole (choice form.body)) tokens nodes links scratch terms depth cur r ⌝ }
 {
     let at = cur.at;
     let kind = kind_at(tokens, at);
     match kind {
-        kinds::LEFT_BRACE => block(tokens, nodes, links, scratch, limit, depth, cur),
-        _ => expression(tokens, nodes, links, scratch, limit, depth, cur),
+        kinds::LEFT_BRACE => block(tokens, nodes, links, scratch, terms, depth, cur),
+        _ => expression(tokens, nodes, links, scratch, terms, depth, cur),
     }
 }
 
-// An identifier, with the calls and dots after it.
+// An identifier, with the calls and dots after it; or parentheses, with those that edition 2 lets follow.
 fn chained(
     tokens: &[u32],
     nodes: &mut [u32],
     links: &mut [u32],
     scratch: &mut [u32],
-    limit: u32,
+    terms: Terms,
     depth: u32,
     cur: Cursor,
+    kind: u32,
 ) -> Read
-    requires { ⌜ ready tokens nodes links scratch limit depth cur ⌝ }
-    ensures { λ r. ⌜ answered node-of (whole form.reference) tokens nodes links scratch limit depth cur r ⌝ }
+    requires { ⌜ ready tokens nodes links scratch terms depth cur ⌝ }
+    ensures { λ r. ⌜ answered node-of (whole (chained-form (edition (terms .edition)) kind)) tokens nodes links scratch terms depth cur r ⌝ }
 {
-    let read = identifier(tokens, nodes, links, scratch, limit, depth, cur);
+    let read = head(tokens, nodes, links, scratch, terms, depth, cur, kind);
     let Read::Node(node, end) = read else {
         return read;
     };
+    if lone(terms.edition, kind) {
+        return Read::Node(node, end);
+    }
     let at = end.at;
-    let kind = kind_at(tokens, at);
-    match kind {
+    let next = kind_at(tokens, at);
+    match next {
         kinds::DOT | kinds::LEFT_PAREN => {}
         _ => return Read::Node(node, end),
     }
-    postfix(tokens, nodes, links, scratch, limit, depth, end, node)
+    postfix(tokens, nodes, links, scratch, terms, depth, end, node)
 }
 
-// The calls and dots after an identifier: the outermost node is the chain's.
+// What a chain starts with.
+fn head(
+    tokens: &[u32],
+    nodes: &mut [u32],
+    links: &mut [u32],
+    scratch: &mut [u32],
+    terms: Terms,
+    depth: u32,
+    cur: Cursor,
+    kind: u32,
+) -> Read
+    requires { ⌜ ready tokens nodes links scratch terms depth cur ⌝ }
+    ensures { λ r. ⌜ answered node-of (whole (head-form kind)) tokens nodes links scratch terms depth cur r ⌝ }
+{
+    match kind {
+        kinds::LEFT_PAREN => group(tokens, nodes, links, scratch, terms, depth, cur),
+        _ => identifier(tokens, nodes, links, scratch, terms, depth, cur),
+    }
+}
+
+// The calls and dots after what a chain starts with, whatever it is: the outermost node is the chain's.
 fn postfix(
     tokens: &[u32],
     nodes: &mut [u32],
     links: &mut [u32],
     scratch: &mut [u32],
-    limit: u32,
+    terms: Terms,
     depth: u32,
     cur: Cursor,
     first: Node,
 ) -> Read
-    requires { ⌜ ready tokens nodes links scratch limit depth cur ⌝ }
-    ensures { λ r. ⌜ onward (whole form.reference) first (cur .at) tokens nodes links scratch limit depth cur r ⌝ }
+    requires { ⌜ ready tokens nodes links scratch terms depth cur ⌝ }
+    ensures { λ r. ⌜ onward all-called first (cur .at) tokens nodes links scratch terms depth cur r ⌝ }
 {
     let mut node = first;
     let mut now = cur;
@@ -969,7 +1050,7 @@ fn postfix(
         let kind = kind_at(tokens, at);
         match kind {
             kinds::DOT => {
-                let read = property_access(tokens, nodes, links, scratch, limit, depth, now, node);
+                let read = property_access(tokens, nodes, links, scratch, terms, depth, now, node);
                 let Read::Node(outer, end) = read else {
                     return read;
                 };
@@ -977,7 +1058,7 @@ fn postfix(
                 now = end;
             }
             kinds::LEFT_PAREN => {
-                let read = call(tokens, nodes, links, scratch, limit, depth, now, node);
+                let read = call(tokens, nodes, links, scratch, terms, depth, now, node);
                 let Read::Node(outer, end) = read else {
                     return read;
                 };
@@ -995,20 +1076,20 @@ fn call(
     nodes: &mut [u32],
     links: &mut [u32],
     scratch: &mut [u32],
-    limit: u32,
+    terms: Terms,
     depth: u32,
     cur: Cursor,
     callee: Node,
 ) -> Read
     requires { ⌜ kind (now tokens) (cur .at) ≡ LeftParen ⌝ }
-    requires { ⌜ ready tokens nodes links scratch limit depth cur ⌝ }
-    ensures { λ r. ⌜ onward called callee (cur .at + 1) tokens nodes links scratch limit depth cur r ⌝ }
+    requires { ⌜ ready tokens nodes links scratch terms depth cur ⌝ }
+    ensures { λ r. ⌜ onward called callee (cur .at + 1) tokens nodes links scratch terms depth cur r ⌝ }
 {
     let read = consume(tokens, cur, kinds::LEFT_PAREN);
     let Read::Node(paren, next) = read else {
         return read;
     };
-    let read = arguments(tokens, nodes, links, scratch, limit, depth, next);
+    let read = args(tokens, nodes, links, scratch, terms, depth, next);
     let Read::Node(_, last) = read else {
         return read;
     };
@@ -1034,17 +1115,17 @@ fn call(
 }
 
 // The arguments of a call, up to what ends them.
-fn arguments(
+fn args(
     tokens: &[u32],
     nodes: &mut [u32],
     links: &mut [u32],
     scratch: &mut [u32],
-    limit: u32,
+    terms: Terms,
     depth: u32,
     cur: Cursor,
 ) -> Read
-    requires { ⌜ opened tokens nodes links scratch limit depth cur ⌝ }
-    ensures { λ r. ⌜ lists (whole (chain empty form.arguments)) tokens nodes links scratch limit depth cur r ⌝ }
+    requires { ⌜ opened tokens nodes links scratch terms depth cur ⌝ }
+    ensures { λ r. ⌜ lists (whole (chain empty form.arguments)) tokens nodes links scratch terms depth cur r ⌝ }
 {
     let mut now = cur;
     'list: loop {
@@ -1054,7 +1135,7 @@ fn arguments(
             kinds::RIGHT_PAREN | kinds::EOF => break 'list,
             _ => {}
         }
-        let read = arg(tokens, nodes, links, scratch, limit, depth, now);
+        let read = arg(tokens, nodes, links, scratch, terms, depth, now);
         let Read::Node(item, end) = read else {
             return read;
         };
@@ -1083,14 +1164,14 @@ fn arg(
     nodes: &mut [u32],
     links: &mut [u32],
     scratch: &mut [u32],
-    limit: u32,
+    terms: Terms,
     depth: u32,
     cur: Cursor,
 ) -> Read
-    requires { ⌜ ready tokens nodes links scratch limit depth cur ⌝ }
-    ensures { λ r. ⌜ answered node-of (whole (part form.expression (choice (form.comma RightParen)))) tokens nodes links scratch limit depth cur r ⌝ }
+    requires { ⌜ ready tokens nodes links scratch terms depth cur ⌝ }
+    ensures { λ r. ⌜ answered node-of (whole (part form.expression (choice (form.comma RightParen)))) tokens nodes links scratch terms depth cur r ⌝ }
 {
-    let read = expression(tokens, nodes, links, scratch, limit, depth, cur);
+    let read = expression(tokens, nodes, links, scratch, terms, depth, cur);
     let Read::Node(item, end) = read else {
         return read;
     };

@@ -5,6 +5,7 @@ use mathlib.Core.List.{List, [], _∷_}
 use mathlib.Core.Path.{_≡_, refl, ap}
 use lib.Dec.{T}
 use lib.ListN.{length, length-take}
+use Rattle.grammar.specs.Edition.{Edition}
 use Rattle.grammar.specs.Handle.{Handle}
 use Rattle.grammar.specs.Kaori.{Form, Table, kaori}
 use Rattle.grammar.specs.Label.{Label}
@@ -17,6 +18,7 @@ use Rattle.grammar.proofs.Room.{spare, paid, paid-node, paid-entry, Grown, make
 use Rattle.names.specs.Resolved.{names-of}
 use Rattle.reading.specs.Reading.{form, Reading}
 use Rattle.reading.specs.State.{State, written, Standing, Within}
+use Rattle.reading.specs.declared.Terms.{Terms}
 use Rattle.reading.proofs.Laws.{roomy-on, Made}
 
 -- a form that has a token for each of its nodes
@@ -24,8 +26,8 @@ pub record Paid (p : Form) : Type 0 where
   pub pays : T (paid p)
 
 -- what a table has, and what a node holds
-pub paid-link : (t : Table) (x : ℕ) {p : Form} → kaori t x ≡ p → Paid p
-paid-link t x e = record { pays = paid-entry t x e }
+pub paid-link : (e : Edition) (t : Table) (x : ℕ) {p : Form} → kaori e t x ≡ p → Paid p
+paid-link e t x h = record { pays = paid-entry e t x h }
 
 pub paid-inside : {f : Label} {q : Form} → Paid (node f q) → Paid q
 paid-inside {f} {q} p = record { pays = paid-node f q (p .pays) .1 }
@@ -55,21 +57,21 @@ counted {s} {s′} i r e z y g l =
     let m′ = length-take (3 * s′ .cursor .links) (s′ .links) in
     record { nodes = omega (arith, i .node-rows, r .node-rows); links = omega (arith, i .link-rows, r .link-rows); past = omega arith; grows = omega (arith, i .link-rows, r .link-rows) }
 
-module _ {ts : List ℕ} {limit : ℕ} where
-  pub bound : {g : Aim Table Label} {o : ℕ} {s s′ : State} {xs ys : List Handle} → Within ts s → Paid (form g) → s′ .cursor .at < count ts → Reading ts limit g o s xs ys s′ →
+module _ {ts : List ℕ} {terms : Terms} where
+  pub bound : {g : Aim Table Label} {o : ℕ} {s s′ : State} {xs ys : List Handle} → Within ts s → Paid (form g) → s′ .cursor .at < count ts → Reading ts terms g o s xs ys s′ →
       Counts s s′ (length xs + length ys) (spare (form g))
   bound {g} {s = s} {s′ = s′} i p a r =
-      let paying = pays ts (names-of ts (s .scratch)) (r .reads) (rw (asked-form g) (p .pays)) .pay (written s) in
+      let paying = pays _ ts (names-of ts (s .scratch)) (r .reads) (rw (asked-form g) (p .pays)) .pay (written s) in
       let (k, e, grown) = paying in
       counted (i .stands) (r .rooms .stands (i .stands)) (rw (asked-form g) at e) (ap (λ w. w .rows) (r .rows)) (ap (λ w. length (w .first) + length (w .rest)) (r .rows)) grown
       (links-grow ts (names-of ts (s .scratch)) (r .tree) (written s))
 
   -- what makes a handle takes a token at least
   pub strictly : {g : Aim Table Label} {o : ℕ} {s s′ : State} {h : Handle} {hs ys : List Handle} → Within ts s → Paid (form g) → s′ .cursor .at < count ts →
-      Reading ts limit g o s (h ∷ hs) ys s′ → s .cursor .at < s′ .cursor .at
+      Reading ts terms g o s (h ∷ hs) ys s′ → s .cursor .at < s′ .cursor .at
   strictly i p a r = let b = bound i p a r in omega arith
 
-  pub arrived : {g : Aim Table Label} {o : ℕ} {s s′ : State} {xs ys : List Handle} → Within ts s → Paid (form g) → s′ .cursor .at < count ts → Reading ts limit g o s xs ys s′ → Within ts s′
+  pub arrived : {g : Aim Table Label} {o : ℕ} {s s′ : State} {xs ys : List Handle} → Within ts s → Paid (form g) → s′ .cursor .at < count ts → Reading ts terms g o s xs ys s′ → Within ts s′
   arrived i p a r =
       let b = bound i p a r in record {
         roomy = roomy-on (i .roomy) (r .rooms);
@@ -82,7 +84,7 @@ module _ {ts : List ℕ} {limit : ℕ} where
 
   -- a link of a chain, from where the chain stands: its node has a token of its own
   pub link-within : {f : Label} {q : Form} {o : ℕ} {s₀ s₁ s₂ : State} {h g : Handle} {ys : List Handle} → Within ts s₀ → Paid (node f q) → s₁ .cursor .at < count ts →
-      Reading ts limit (whole q) o s₀ ys [] s₁ → Made ts f (s₀ .cursor .at) s₁ (h ∷ []) ys (g ∷ []) s₂ → Within ts s₂
+      Reading ts terms (whole q) o s₀ ys [] s₁ → Made ts f (s₀ .cursor .at) s₁ (h ∷ []) ys (g ∷ []) s₂ → Within ts s₂
   link-within {f} {q} {s₀ = s₀} {s₁ = s₁} {s₂ = s₂} {h = h} {ys = ys} i p a r m =
       let (c, u) = paid-node f q (p .pays) in
       let b = bound i (record { pays = u }) a r in

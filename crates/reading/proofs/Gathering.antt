@@ -25,6 +25,7 @@ use Rattle.reading.specs.Reading.{Reading}
 use Rattle.reading.specs.State.{State, state, written, held, Lent, Within, Ready}
 use Rattle.reading.specs.declared.Cursor.{Cursor}
 use Rattle.reading.specs.declared.Read.{Read}
+use Rattle.reading.specs.declared.Terms.{Terms}
 use Rattle.reading.proofs.Laws.{plain, closed}
 use Rattle.reading.proofs.Entering.{link-number, entered, Tries, row-tried, list-tried}
 use Rattle.reading.proofs.Listings.{hold-number, held-above, size-held}
@@ -38,33 +39,33 @@ pub record Kept (base : ℕ) (below : List ℕ) (n : ℕ) (ss : List ℕ) (items
   pub rows : take (3 * n) ss ≡ below ++ links-of items
 
 -- what was learnt of a block's statements, and what is asked of a reader at a cursor, named by what it is read from
-module _ {ts : List ℕ} {limit o : ℕ} {s : State} where
-  abbrev pub Fill-told : {ns ls ss : List ℕ} {r : Read} → Fills ts limit o s ns ls ss r → Node → Cursor → Type 0
-  Fill-told {ns} {ls} {ss} a n c = Filled ts limit o s n (state ns ls ss c)
+module _ {ts : List ℕ} {terms : Terms} {o : ℕ} {s : State} where
+  abbrev pub Fill-told : {ns ls ss : List ℕ} {r : Read} → Fills ts terms o s ns ls ss r → Node → Cursor → Type 0
+  Fill-told {ns} {ls} {ss} a n c = Filled ts terms o s n (state ns ls ss c)
 
   -- the items that are held since s, at a later state
-  abbrev pub Kept-told : {g : Aim Table Label} {s₁ s′ : State} → Listed ts limit g o s s₁ → ℕ → Within ts s′ → Type 0
+  abbrev pub Kept-told : {g : Aim Table Label} {s₁ s′ : State} → Listed ts terms g o s s₁ → ℕ → Within ts s′ → Type 0
   Kept-told {s′ = s′} l base w = Kept base (held s) (s′ .cursor .held) (s′ .scratch) (l .items)
 
-  abbrev pub Kept-fill : {n : Node} {s₁ s′ : State} → Filled ts limit o s n s₁ → ℕ → Within ts s′ → Type 0
+  abbrev pub Kept-fill : {n : Node} {s₁ s′ : State} → Filled ts terms o s n s₁ → ℕ → Within ts s′ → Type 0
   Kept-fill {s′ = s′} l base w = Kept base (held s) (s′ .cursor .held) (s′ .scratch) (block-list (l .items))
 
-  abbrev pub Ready-at : Ready ts limit o s → Cursor → Type 0
-  Ready-at a c = Ready ts limit o (state (s .nodes) (s .links) (s .scratch) c)
+  abbrev pub Ready-at : Ready ts terms o s → Cursor → Type 0
+  Ready-at a c = Ready ts terms o (state (s .nodes) (s .links) (s .scratch) c)
 
 abbrev pub Within-at : {ts : List ℕ} {s : State} → Within ts s → Cursor → Type 0
 Within-at {ts} {s} w c = Within ts (state (s .nodes) (s .links) (s .scratch) c)
 
 -- a token that was taken, with so much held
 module _ {ts : List ℕ} {c d : Cursor} {x : ℕ} {n : Node} (k : Taken ts c x n d) where
-  module _ {limit o : ℕ} where
+  module _ {terms : Terms} {o : ℕ} where
     -- a list, and the token that closes it
-    pub token-closes : {s : State} {ns ls ss : List ℕ} {base : ℕ} {p : Form} {hs : List Handle} → o ≤ limit → Reading ts limit (whole p) o s hs [] (holding base (state ns ls ss c)) →
-        Reading ts limit (whole (part p (token x empty))) o s hs [] (holding base (state ns ls ss d))
+    pub token-closes : {s : State} {ns ls ss : List ℕ} {base : ℕ} {p : Form} {hs : List Handle} → o ≤ terms .limit → Reading ts terms (whole p) o s hs [] (holding base (state ns ls ss c)) →
+        Reading ts terms (whole (part p (token x empty))) o s hs [] (holding base (state ns ls ss d))
     token-closes h r = rw (k .after) (closed r h (k .kind-is))
 
   pub token-within : {ns ls ss : List ℕ} → (x ≡ Eof → ⊥) → Lent ts → Within ts (state ns ls ss c) → Within ts (state ns ls ss d)
-  token-within z l w = let h : Ready ts 0 0 _ = record { lent = l; deep = omega arith; within = w } in ready-led h k z .within
+  token-within z l w = let h : Ready ts (record { edition = 0; limit = 0 }) 0 _ = record { lent = l; deep = omega arith; within = w } in ready-led h k z .within
 
   pub token-end : end ts (d .at - 1) ≡ n .end
   token-end = let e : c .at + 1 - 1 ≡ c .at = omega arith in rw (k .node-is, k .after, e)
@@ -73,22 +74,22 @@ module _ {ts : List ℕ} {c d : Cursor} {x : ℕ} {n : Node} (k : Taken ts c x n
   token-held = rw (k .after)
 
 -- of a list that is read from s to s₁, where so much was held at s
-hold-as : {ts : List ℕ} {limit o k base : ℕ} {g : Aim Table Label} {s : State} {xs ys : List Handle} (s₁ : State) → k ≡ base → Reading ts limit g o s xs ys (holding k s₁) →
-    Reading ts limit g o s xs ys (holding base s₁)
+hold-as : {ts : List ℕ} {terms : Terms} {o k base : ℕ} {g : Aim Table Label} {s : State} {xs ys : List Handle} (s₁ : State) → k ≡ base → Reading ts terms g o s xs ys (holding k s₁) →
+    Reading ts terms g o s xs ys (holding base s₁)
 hold-as s₁ h r = rw h at r
 
-module _ {ts : List ℕ} {limit o base : ℕ} {g : Aim Table Label} {s s₁ : State} (h : s .cursor .held ≡ base) (l : Listed ts limit g o s s₁) where
+module _ {ts : List ℕ} {terms : Terms} {o base : ℕ} {g : Aim Table Label} {s s₁ : State} (h : s .cursor .held ≡ base) (l : Listed ts terms g o s s₁) where
   pub list-kept : Within ts s → Kept base (held s) (s₁ .cursor .held) (s₁ .scratch) (l .items)
   list-kept w = record { size = size-held w h; count = l .count ∙ ap (λ k. k + length (l .items)) h; rows = l .rows }
 
-  pub list-reading : Reading ts limit g o s (l .items) [] (holding base s₁)
+  pub list-reading : Reading ts terms g o s (l .items) [] (holding base s₁)
   list-reading = hold-as s₁ h (l .reading)
 
-module _ {ts : List ℕ} {limit o base : ℕ} {s s₁ : State} {n : Node} (h : s .cursor .held ≡ base) (l : Filled ts limit o s n s₁) where
+module _ {ts : List ℕ} {terms : Terms} {o base : ℕ} {s s₁ : State} {n : Node} (h : s .cursor .held ≡ base) (l : Filled ts terms o s n s₁) where
   pub fill-kept : Within ts s → Kept base (held s) (s₁ .cursor .held) (s₁ .scratch) (block-list (l .items))
   fill-kept w = record { size = size-held w h; count = l .count ∙ ap (λ k. k + length (block-list (l .items))) h; rows = l .rows }
 
-  pub fill-reading : Reading ts limit (whole (chain empty block-items)) o s (l .items) [] (holding base s₁)
+  pub fill-reading : Reading ts terms (whole (chain empty block-items)) o s (l .items) [] (holding base s₁)
   fill-reading = hold-as s₁ h (l .reading)
 
 module _ {base n : ℕ} {below ss : List ℕ} {items : List Handle} (k : Kept base below n ss items) where
@@ -110,8 +111,8 @@ module _ {base n : ℕ} {below ss : List ℕ} {items : List Handle} (k : Kept ba
   kept-links h = held-above base n ss below kept-under h (k .size) (k .rows)
 
 -- after another reading
-pub kept-on : {ts : List ℕ} {limit o base : ℕ} {g : Aim Table Label} {s s′ : State} {below : List ℕ} {items xs ys : List Handle} → Kept base below (s .cursor .held) (s .scratch) items →
-    Reading ts limit g o s xs ys s′ → Kept base below (s′ .cursor .held) (s′ .scratch) items
+pub kept-on : {ts : List ℕ} {terms : Terms} {o base : ℕ} {g : Aim Table Label} {s s′ : State} {below : List ℕ} {items xs ys : List Handle} → Kept base below (s .cursor .held) (s .scratch) items →
+    Reading ts terms g o s xs ys s′ → Kept base below (s′ .cursor .held) (s′ .scratch) items
 kept-on k r = record { size = k .size; count = r .holds ∙ k .count; rows = r .same ∙ k .rows }
 
 pub gathered-size : {base : ℕ} {ls ls′ ss : List ℕ} {c d : Cursor} → Gathered base c ss ls ls′ d → length ls′ ≡ length ls

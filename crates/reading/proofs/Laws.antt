@@ -6,7 +6,7 @@ use mathlib.Core.List.{List, [], _++_, append-nil}
 use mathlib.Core.Path.{_≡_, refl, sym, ap, _∙_}
 use lib.ListN.{length-take}
 use Rattle.grammar.specs.Handle.{Handle}
-use Rattle.grammar.specs.Kaori.{Form, Table, kaori}
+use Rattle.grammar.specs.Kaori.{Form, Table}
 use Rattle.grammar.specs.Kind.{Eof}
 use Rattle.grammar.specs.Label.{Label}
 use Rattle.grammar.specs.Phrase.{empty, token, part, nested, node, choice, chain, once, made, more, none, deeper, Aim, whole, begun, Reads, depth}
@@ -17,9 +17,10 @@ use Rattle.grammar.specs.Space.{Space, Worded, Named, Lacks}
 use Rattle.grammar.specs.Token.{kind, count}
 use Rattle.names.specs.Resolved.{names-of}
 use Rattle.reading.specs.Answers.{next}
-use Rattle.reading.specs.Reading.{Reading, Refusing}
+use Rattle.reading.specs.Reading.{tables, Reading, Refusing}
 use Rattle.reading.specs.State.{State, state, written, held, space, Lent, Roomy, Within, Ready, Opened, Rooms}
 use Rattle.reading.specs.declared.Cursor.{Cursor}
+use Rattle.reading.specs.declared.Terms.{Terms}
 
 -- rooms
 pub rooms-same : {s : State} → Rooms s s
@@ -55,12 +56,12 @@ pub unwritten : {ts : List ℕ} {f : Label} {a : ℕ} {s : State} {xs ys hs : Li
 unwritten n e = record { makes = e; at = refl; holds = refl; same = refl; rooms = rooms-same; kept = refl; word = n }
 
 -- the rows of a part, with the names of the state where the whole starts
-pub with-names : {ts : List ℕ} {limit o : ℕ} {g : Aim Table Label} {s s′ : State} {xs ys : List Handle} {σ : ℕ → ℕ} (r : Reading ts limit g o s xs ys s′) → names-of ts (s .scratch) ≡ σ →
+pub with-names : {ts : List ℕ} {terms : Terms} {o : ℕ} {g : Aim Table Label} {s s′ : State} {xs ys : List Handle} {σ : ℕ → ℕ} (r : Reading ts terms g o s xs ys s′) → names-of ts (s .scratch) ≡ σ →
     walk ts σ (r .tree) (written s) ≡ record { rows = written s′; first = xs; rest = ys }
 with-names r e = rw e at (r .rows)
 
 -- and its words
-pub named-with : {ts : List ℕ} {limit o : ℕ} {g : Aim Table Label} {s s′ : State} {xs ys : List Handle} {σ : ℕ → ℕ} (r : Reading ts limit g o s xs ys s′) → names-of ts (s .scratch) ≡ σ →
+pub named-with : {ts : List ℕ} {terms : Terms} {o : ℕ} {g : Aim Table Label} {s s′ : State} {xs ys : List Handle} {σ : ℕ → ℕ} (r : Reading ts terms g o s xs ys s′) → names-of ts (s .scratch) ≡ σ →
     Named σ (r .tree)
 named-with r e = rw e at (r .named)
 
@@ -68,13 +69,13 @@ pub worded-with : {σ τ : ℕ → ℕ} (f : Label) (a : ℕ) → σ ≡ τ → 
 worded-with f a e w = rw e at w
 
 -- readings
-module _ {ts : List ℕ} {limit o : ℕ} {s : State} where
-  pub nothing : o ≤ limit → Reading ts limit (whole empty) o s [] [] s
+module _ {ts : List ℕ} {terms : Terms} {o : ℕ} {s : State} where
+  pub nothing : o ≤ terms .limit → Reading ts terms (whole empty) o s [] [] s
   unfolding walk depth Named
   nothing h = record { tree = none; reads = Reads.nothing; fits = omega arith; named = tt; rows = refl; holds = refl; same = refl; rooms = rooms-same; kept = refl }
 
   -- two parts that each leave handles in their first part alone
-  pub both : {p q : Form} {xs ys : List Handle} {s₁ s′ : State} → Reading ts limit (whole p) o s xs [] s₁ → Reading ts limit (whole q) o s₁ ys [] s′ → Reading ts limit (whole (part p q)) o s xs ys s′
+  pub both : {p q : Form} {xs ys : List Handle} {s₁ s′ : State} → Reading ts terms (whole p) o s xs [] s₁ → Reading ts terms (whole q) o s₁ ys [] s′ → Reading ts terms (whole (part p q)) o s xs ys s′
   unfolding walk depth Named
   both {xs = xs} {ys = ys} r q =
       record {
@@ -90,8 +91,8 @@ module _ {ts : List ℕ} {limit o : ℕ} {s : State} where
       }
 
   -- and where the second has two parts
-  pub both-more : {p q : Form} {xs ys zs : List Handle} {s₁ s′ : State} → Reading ts limit (whole p) o s xs [] s₁ → Reading ts limit (whole q) o s₁ ys zs s′ →
-      Reading ts limit (whole (part p q)) o s xs (ys ++ zs) s′
+  pub both-more : {p q : Form} {xs ys zs : List Handle} {s₁ s′ : State} → Reading ts terms (whole p) o s xs [] s₁ → Reading ts terms (whole q) o s₁ ys zs s′ →
+      Reading ts terms (whole (part p q)) o s xs (ys ++ zs) s′
   unfolding walk depth Named
   both-more {xs = xs} r q =
       record {
@@ -108,8 +109,8 @@ module _ {ts : List ℕ} {limit o : ℕ} {s : State} where
       }
 
   -- and where the first has
-  pub both-first : {p q : Form} {xs ys zs : List Handle} {s₁ s′ : State} → Reading ts limit (whole p) o s xs ys s₁ → Reading ts limit (whole q) o s₁ zs [] s′ →
-      Reading ts limit (whole (part p q)) o s (xs ++ ys) zs s′
+  pub both-first : {p q : Form} {xs ys zs : List Handle} {s₁ s′ : State} → Reading ts terms (whole p) o s xs ys s₁ → Reading ts terms (whole q) o s₁ zs [] s′ →
+      Reading ts terms (whole (part p q)) o s (xs ++ ys) zs s′
   unfolding walk depth Named
   both-first {zs = zs} r q =
       record {
@@ -126,29 +127,29 @@ module _ {ts : List ℕ} {limit o : ℕ} {s : State} where
       }
 
   module _ {xs ys : List Handle} {s′ : State} where
-    pub opened : {p : Form} → Reading ts limit (whole p) (o + 1) s xs ys s′ → Reading ts limit (whole (nested p)) o s xs ys s′
+    pub opened : {p : Form} → Reading ts terms (whole p) (o + 1) s xs ys s′ → Reading ts terms (whole (nested p)) o s xs ys s′
     unfolding walk depth Named
     opened r = record { tree = deeper (r .tree); reads = Reads.opened (r .reads); fits = omega arith; named = r .named; rows = r .rows; holds = r .holds; same = r .same; rooms = r .rooms; kept = r .kept }
 
     -- the same tree, as another aim
-    read-as : {g g′ : Aim Table Label} (r : Reading ts limit g o s xs ys s′) → Reads kaori (kind ts) g′ (s .cursor .at) (s′ .cursor .at) (r .tree) → Reading ts limit g′ o s xs ys s′
+    read-as : {g g′ : Aim Table Label} (r : Reading ts terms g o s xs ys s′) → Reads (tables terms) (kind ts) g′ (s .cursor .at) (s′ .cursor .at) (r .tree) → Reading ts terms g′ o s xs ys s′
     read-as r t = record { tree = r .tree; reads = t; fits = r .fits; named = r .named; rows = r .rows; holds = r .holds; same = r .same; rooms = r .rooms; kept = r .kept }
 
-    pub chosen : {n : Table} {p : Form} → kaori n (kind ts (s .cursor .at)) ≡ p → Reading ts limit (whole p) o s xs ys s′ → Reading ts limit (whole (choice n)) o s xs ys s′
+    pub chosen : {n : Table} {p : Form} → tables terms n (kind ts (s .cursor .at)) ≡ p → Reading ts terms (whole p) o s xs ys s′ → Reading ts terms (whole (choice n)) o s xs ys s′
     chosen e r = read-as r (Reads.chosen e (r .reads))
 
-    pub first : {n : Table} {p : Form} → Reading ts limit (whole p) o s xs ys s′ → Reading ts limit (begun p n) o s xs ys s′
+    pub first : {n : Table} {p : Form} → Reading ts terms (whole p) o s xs ys s′ → Reading ts terms (begun p n) o s xs ys s′
     first r = read-as r (Reads.first (r .reads))
 
-    pub ended : {n : Table} {p : Form} → kaori n (kind ts (s′ .cursor .at)) ≡ empty → Reading ts limit (begun p n) o s xs ys s′ → Reading ts limit (whole (chain p n)) o s xs ys s′
+    pub ended : {n : Table} {p : Form} → tables terms n (kind ts (s′ .cursor .at)) ≡ empty → Reading ts terms (begun p n) o s xs ys s′ → Reading ts terms (whole (chain p n)) o s xs ys s′
     ended e r = read-as r (Reads.ended (r .reads) e)
 
-    pub alone : {n : Table} {p : Form} → kaori n (kind ts (s′ .cursor .at)) ≡ empty → Reading ts limit (whole p) o s xs ys s′ → Reading ts limit (whole (once p n)) o s xs ys s′
+    pub alone : {n : Table} {p : Form} → tables terms n (kind ts (s′ .cursor .at)) ≡ empty → Reading ts terms (whole p) o s xs ys s′ → Reading ts terms (whole (once p n)) o s xs ys s′
     alone e r = read-as r (Reads.alone (r .reads) e)
 
     -- a node of what is read
-    pub labelled : {f : Label} {p : Form} {hs : List Handle} {s₂ : State} → Reading ts limit (whole p) o s xs ys s′ → Made ts f (s .cursor .at) s′ xs ys hs s₂ →
-        Reading ts limit (whole (node f p)) o s hs [] s₂
+    pub labelled : {f : Label} {p : Form} {hs : List Handle} {s₂ : State} → Reading ts terms (whole p) o s xs ys s′ → Made ts f (s .cursor .at) s′ xs ys hs s₂ →
+        Reading ts terms (whole (node f p)) o s hs [] s₂
     unfolding walk depth Named
     labelled {f} r m =
         record {
@@ -165,8 +166,8 @@ module _ {ts : List ℕ} {limit o : ℕ} {s : State} where
 
   -- a link after what stands, and one link at most
   module _ {t : Table} {f : Label} {p q : Form} {xs ys hs : List Handle} {s₀ s₁ s₂ : State} where
-    unfoldable pub linked : Reading ts limit (begun p t) o s xs [] s₀ → kaori t (kind ts (s₀ .cursor .at)) ≡ node f q → Reading ts limit (whole q) o s₀ ys [] s₁ →
-        Made ts f (s₀ .cursor .at) s₁ xs ys hs s₂ → Reading ts limit (begun p t) o s hs [] s₂
+    unfoldable pub linked : Reading ts terms (begun p t) o s xs [] s₀ → tables terms t (kind ts (s₀ .cursor .at)) ≡ node f q → Reading ts terms (whole q) o s₀ ys [] s₁ →
+        Made ts f (s₀ .cursor .at) s₁ xs ys hs s₂ → Reading ts terms (begun p t) o s hs [] s₂
     unfolding walk depth Named
     linked b g r m =
         record {
@@ -182,8 +183,8 @@ module _ {ts : List ℕ} {limit o : ℕ} {s : State} where
           kept = m .kept ∙ r .kept ∙ b .kept;
         }
 
-    pub joined : Reading ts limit (whole p) o s xs [] s₀ → kaori t (kind ts (s₀ .cursor .at)) ≡ node f q → Reading ts limit (whole q) o s₀ ys [] s₁ →
-        Made ts f (s₀ .cursor .at) s₁ xs ys hs s₂ → Reading ts limit (whole (once p t)) o s hs [] s₂
+    pub joined : Reading ts terms (whole p) o s xs [] s₀ → tables terms t (kind ts (s₀ .cursor .at)) ≡ node f q → Reading ts terms (whole q) o s₀ ys [] s₁ →
+        Made ts f (s₀ .cursor .at) s₁ xs ys hs s₂ → Reading ts terms (whole (once p t)) o s hs [] s₂
     unfolding walk depth Named
     joined b g r m =
         record {
@@ -203,11 +204,11 @@ module _ {ts : List ℕ} {limit o : ℕ} {s : State} where
 pub same-space : {s s′ : State} → Rooms s s′ → space s′ ≡ space s
 same-space a = rw (a .nodes, a .links)
 
-module _ {ts : List ℕ} {limit o : ℕ} {s s′ : State} {xs ys : List Handle} where
-  rows-then : {g : Aim Table Label} (r : Reading ts limit g o s xs ys s′) → then ts (names-of ts (s .scratch)) (r .tree) (written s) ≡ written s′
+module _ {ts : List ℕ} {terms : Terms} {o : ℕ} {s s′ : State} {xs ys : List Handle} where
+  rows-then : {g : Aim Table Label} (r : Reading ts terms g o s xs ys s′) → then ts (names-of ts (s .scratch)) (r .tree) (written s) ≡ written s′
   rows-then r = ap (λ w. w .rows) (r .rows)
 
-  pub pass : {g : Aim Table Label} (r : Reading ts limit g o s xs ys s′) → Passes ts (names-of ts (s .scratch)) limit (space s) kaori (kind ts) g o (s .cursor .at) (written s) (s′ .cursor .at) (r .tree)
+  pub pass : {g : Aim Table Label} (r : Reading ts terms g o s xs ys s′) → Passes ts (names-of ts (s .scratch)) (terms .limit) (space s) (tables terms) (kind ts) g o (s .cursor .at) (written s) (s′ .cursor .at) (r .tree)
   pass r =
       record {
         reads = r .reads;
@@ -221,23 +222,23 @@ module _ {ts : List ℕ} {limit o : ℕ} {s s′ : State} {xs ys : List Handle} 
       }
 
   -- a refusal after it, of the rows once it is read
-  pub onto : {g : Aim Table Label} {p : Form} {q : Refused} (r : Reading ts limit g o s xs ys s′) → Refusing ts limit p o s′ q →
-      Refuses ts (names-of ts (s .scratch)) limit (space s) kaori (kind ts) p o (s′ .cursor .at) (then ts (names-of ts (s .scratch)) (r .tree) (written s)) q
+  pub onto : {g : Aim Table Label} {p : Form} {q : Refused} (r : Reading ts terms g o s xs ys s′) → Refusing ts terms p o s′ q →
+      Refuses ts (names-of ts (s .scratch)) (terms .limit) (space s) (tables terms) (kind ts) p o (s′ .cursor .at) (then ts (names-of ts (s .scratch)) (r .tree) (written s)) q
   onto r h = rw (rows-then r, ← same-space (r .rooms), ← r .kept) (h .refuses)
 
 -- a second reading passes after the rows of the first
-pass-on : {ts : List ℕ} {limit o : ℕ} {g h : Aim Table Label} {s s₀ s₁ : State} {xs ys zs vs : List Handle} (b : Reading ts limit g o s xs ys s₀) (r : Reading ts limit h o s₀ zs vs s₁) →
-    Passes ts (names-of ts (s .scratch)) limit (space s) kaori (kind ts) h o (s₀ .cursor .at) (then ts (names-of ts (s .scratch)) (b .tree) (written s)) (s₁ .cursor .at) (r .tree)
+pass-on : {ts : List ℕ} {terms : Terms} {o : ℕ} {g h : Aim Table Label} {s s₀ s₁ : State} {xs ys zs vs : List Handle} (b : Reading ts terms g o s xs ys s₀) (r : Reading ts terms h o s₀ zs vs s₁) →
+    Passes ts (names-of ts (s .scratch)) (terms .limit) (space s) (tables terms) (kind ts) h o (s₀ .cursor .at) (then ts (names-of ts (s .scratch)) (b .tree) (written s)) (s₁ .cursor .at) (r .tree)
 pass-on b r = rw (rows-then b, ← same-space (b .rooms), ← b .kept) (pass r)
 
 -- what a node adds to what is read, and a link
-module _ {ts : List ℕ} {limit o : ℕ} {s s₁ : State} (f : Label) (a b : ℕ) {xs ys : List Handle} where
-  node-then : {g : Aim Table Label} (r : Reading ts limit g o s xs ys s₁) →
+module _ {ts : List ℕ} {terms : Terms} {o : ℕ} {s s₁ : State} (f : Label) (a b : ℕ) {xs ys : List Handle} where
+  node-then : {g : Aim Table Label} (r : Reading ts terms g o s xs ys s₁) →
       then ts (names-of ts (s .scratch)) (made f a b (r .tree)) (written s) ≡ make ts (names-of ts (s₁ .scratch)) f a b (written s₁) xs ys .rows
   unfolding walk
   node-then r = rw (r .kept) (ap (λ z. make ts (names-of ts (s .scratch)) f a b (z .rows) (z .first) (z .rest) .rows) (r .rows))
 
-  link-then : {g h : Aim Table Label} {s₀ : State} (z : Reading ts limit g o s xs [] s₀) (r : Reading ts limit h o s₀ ys [] s₁) →
+  link-then : {g h : Aim Table Label} {s₀ : State} (z : Reading ts terms g o s xs [] s₀) (r : Reading ts terms h o s₀ ys [] s₁) →
       then ts (names-of ts (s .scratch)) (made f a b (more (z .tree) (r .tree))) (written s) ≡ make ts (names-of ts (s₁ .scratch)) f a b (written s₁) xs ys .rows
   unfolding walk
   link-then z r =
@@ -249,24 +250,24 @@ pub lacks-as : {σ τ : ℕ → ℕ} {z z′ : Space} {f : Label} {a b b′ c : 
 lacks-as n d i e l = rw (e, ← d, ← n, ← i) l
 
 -- a node of what is read, a link after what stands, and one link at most, whose rows do not fit
-module _ {ts : List ℕ} {limit o c : ℕ} {s : State} {f : Label} {p : Form} {xs ys : List Handle} {s₁ : State} where
-  pub full : Reading ts limit (whole p) o s xs ys s₁ → Unmade ts f (s .cursor .at) s₁ xs ys c → Refusing ts limit (node f p) o s (refused 4 c 255)
+module _ {ts : List ℕ} {terms : Terms} {o c : ℕ} {s : State} {f : Label} {p : Form} {xs ys : List Handle} {s₁ : State} where
+  pub full : Reading ts terms (whole p) o s xs ys s₁ → Unmade ts f (s .cursor .at) s₁ xs ys c → Refusing ts terms (node f p) o s (refused 4 c 255)
   full r l = record { refuses = Refuses.no-room (pass r) (lacks-as (r .kept) (same-space (r .rooms)) refl (node-then f _ _ r) (l .lacks)) }
 
   module _ {t : Table} {q : Form} {s₀ : State} where
-    pub full-linked : Reading ts limit (begun p t) o s xs [] s₀ → kaori t (kind ts (s₀ .cursor .at)) ≡ node f q → Reading ts limit (whole q) o s₀ ys [] s₁ →
-        Unmade ts f (s₀ .cursor .at) s₁ xs ys c → Refusing ts limit (chain p t) o s (refused 4 c 255)
+    pub full-linked : Reading ts terms (begun p t) o s xs [] s₀ → tables terms t (kind ts (s₀ .cursor .at)) ≡ node f q → Reading ts terms (whole q) o s₀ ys [] s₁ →
+        Unmade ts f (s₀ .cursor .at) s₁ xs ys c → Refusing ts terms (chain p t) o s (refused 4 c 255)
     full-linked z g r l =
         record { refuses = Refuses.no-room-linked (pass z) g (pass-on z r) (lacks-as (r .kept ∙ z .kept) (same-space (rooms-on (z .rooms) (r .rooms))) refl (link-then f _ _ z r) (l .lacks)) }
 
-    pub full-joined : Reading ts limit (whole p) o s xs [] s₀ → kaori t (kind ts (s₀ .cursor .at)) ≡ node f q → Reading ts limit (whole q) o s₀ ys [] s₁ →
-        Unmade ts f (s₀ .cursor .at) s₁ xs ys c → Refusing ts limit (once p t) o s (refused 4 c 255)
+    pub full-joined : Reading ts terms (whole p) o s xs [] s₀ → tables terms t (kind ts (s₀ .cursor .at)) ≡ node f q → Reading ts terms (whole q) o s₀ ys [] s₁ →
+        Unmade ts f (s₀ .cursor .at) s₁ xs ys c → Refusing ts terms (once p t) o s (refused 4 c 255)
     full-joined z g r l =
         record { refuses = Refuses.no-room-joined (pass z) g (pass-on z r) (lacks-as (r .kept ∙ z .kept) (same-space (rooms-on (z .rooms) (r .rooms))) refl (link-then f _ _ z r) (l .lacks)) }
 
 -- a token: the state after it, then the rest
-pub taken : {ts ns ls ss : List ℕ} {limit o x : ℕ} {c : Cursor} {p : Form} {hs gs : List Handle} {s′ : State} → kind ts (c .at) ≡ x →
-    Reading ts limit (whole p) o (state ns ls ss (next c)) hs gs s′ → Reading ts limit (whole (token x p)) o (state ns ls ss c) hs gs s′
+pub taken : {ts ns ls ss : List ℕ} {terms : Terms} {o x : ℕ} {c : Cursor} {p : Form} {hs gs : List Handle} {s′ : State} → kind ts (c .at) ≡ x →
+    Reading ts terms (whole p) o (state ns ls ss (next c)) hs gs s′ → Reading ts terms (whole (token x p)) o (state ns ls ss c) hs gs s′
 taken k r =
     record {
       tree = r .tree;
@@ -281,8 +282,8 @@ taken k r =
     }
 
 -- what was read, and a token after it
-pub closed : {ts ns ls ss : List ℕ} {limit o x : ℕ} {p : Form} {s : State} {hs : List Handle} {c : Cursor} → Reading ts limit (whole p) o s hs [] (state ns ls ss c) → o ≤ limit →
-    kind ts (c .at) ≡ x → Reading ts limit (whole (part p (token x empty))) o s hs [] (state ns ls ss (next c))
+pub closed : {ts ns ls ss : List ℕ} {terms : Terms} {o x : ℕ} {p : Form} {s : State} {hs : List Handle} {c : Cursor} → Reading ts terms (whole p) o s hs [] (state ns ls ss c) → o ≤ terms .limit →
+    kind ts (c .at) ≡ x → Reading ts terms (whole (part p (token x empty))) o s hs [] (state ns ls ss (next c))
 closed z h k = both z (taken k (nothing h))
 
 -- past a token that is not Eof there is another
@@ -293,8 +294,8 @@ more-tokens {ts = ts} {a = a} l h k n = omega (arith, apart)
     apart e = n (sym k ∙ l .closed a h .last e)
 
 -- what the next reader is asked
-module _ {ts : List ℕ} {limit o : ℕ} where
-  pub ready-next : {ns ls ss : List ℕ} {c : Cursor} {x : ℕ} → Ready ts limit o (state ns ls ss c) → kind ts (c .at) ≡ x → (x ≡ Eof → ⊥) → Ready ts limit o (state ns ls ss (next c))
+module _ {ts : List ℕ} {terms : Terms} {o : ℕ} where
+  pub ready-next : {ns ls ss : List ℕ} {c : Cursor} {x : ℕ} → Ready ts terms o (state ns ls ss c) → kind ts (c .at) ≡ x → (x ≡ Eof → ⊥) → Ready ts terms o (state ns ls ss (next c))
   ready-next r k n =
       let w = r .within in record {
         lent = r .lent;
@@ -310,14 +311,14 @@ module _ {ts : List ℕ} {limit o : ℕ} where
       }
 
   -- past a token there is room for one item more
-  pub opened-next : {ns ls ss : List ℕ} {c : Cursor} {x : ℕ} → Ready ts limit o (state ns ls ss c) → kind ts (c .at) ≡ x → (x ≡ Eof → ⊥) → Opened ts limit o (state ns ls ss (next c))
+  pub opened-next : {ns ls ss : List ℕ} {c : Cursor} {x : ℕ} → Ready ts terms o (state ns ls ss c) → kind ts (c .at) ≡ x → (x ≡ Eof → ⊥) → Opened ts terms o (state ns ls ss (next c))
   opened-next r k n = record { ready = ready-next r k n; spare = omega (arith, r .within .stack) }
 
-  pub ready-deep : {s : State} → Ready ts limit o s → o < limit → Ready ts limit (o + 1) s
+  pub ready-deep : {s : State} → Ready ts terms o s → o < terms .limit → Ready ts terms (o + 1) s
   ready-deep r h = record { lent = r .lent; deep = omega arith; within = r .within }
 
-  pub opened-deep : {s : State} → Opened ts limit o s → o < limit → Opened ts limit (o + 1) s
+  pub opened-deep : {s : State} → Opened ts terms o s → o < terms .limit → Opened ts terms (o + 1) s
   opened-deep r h = record { ready = ready-deep (r .ready) h; spare = r .spare }
 
-  pub ready-on : {s s′ : State} → Ready ts limit o s → Within ts s′ → Ready ts limit o s′
+  pub ready-on : {s s′ : State} → Ready ts terms o s → Within ts s′ → Ready ts terms o s′
   ready-on r w = record { lent = r .lent; deep = r .deep; within = w }

@@ -12,7 +12,7 @@ use Rattle.grammar.specs.Handle.{Handle, absent, link, head, from, upto}
 use Rattle.grammar.specs.Kaori.{Form, Table, leaf, name, calls, rules, kaori}
 use Rattle.grammar.specs.Kind.{Dot, True, False, Semicolon, StringLiteral, Identifier}
 use Rattle.grammar.specs.Label.{Label, Node as Form-of, number-of}
-use Rattle.grammar.specs.Phrase.{empty, token, Tree, made, none, Aim, whole, begun, Reads}
+use Rattle.grammar.specs.Phrase.{empty, token, Grammar, Tree, made, none, Aim, whole, begun, Reads}
 use Rattle.grammar.specs.Refusal.{Refused, Passes, Refuses}
 use Rattle.grammar.specs.Rows.{Rows, make, put, fill, numbers, write, walk, then}
 use Rattle.grammar.specs.Rule.{rule}
@@ -23,11 +23,12 @@ use Rattle.names.specs.Resolved.{names-of}
 use Rattle.reading.specs.Answers.{next, node-of, name-of, Answered}
 use Rattle.reading.specs.Chains.{Onward}
 use Rattle.reading.specs.Parts.{Makes, Single, single-node, single-fields}
-use Rattle.reading.specs.Reading.{Reading, Success, Refusing}
+use Rattle.reading.specs.Reading.{tables, Reading, Success, Refusing}
 use Rattle.reading.specs.State.{State, state, written, Lent, Within, Ready}
 use Rattle.reading.specs.declared.Cursor.{Cursor}
 use Rattle.reading.specs.declared.Read.{Read}
 use Rattle.reading.specs.declared.Refusal.{Refusal}
+use Rattle.reading.specs.declared.Terms.{Terms}
 use Rattle.reading.proofs.Chains.{tried, stopped}
 use Rattle.reading.proofs.Entering.{entered-alone, Tries, from-before, row-tried}
 use Rattle.reading.proofs.Laws.{plain, Made, nothing, taken, ready-next}
@@ -36,8 +37,8 @@ use Rattle.reading.proofs.Replies.{Taken, built, further}
 use Rattle.reading.proofs.Taking.{free}
 
 -- a token was read as a node
-leaf-tried : {ts ns ls ss ns′ ls′ ss′ : List ℕ} {limit o x : ℕ} {f : Form-of} {c : Cursor} {q : Read} → Ready ts limit o (state ns ls ss c) → kind ts (c .at) ≡ x → c .at + 1 < count ts →
-    Tries ts (Label.Row f) (c .at) (state ns ls ss (next c)) [] [] ns′ ls′ ss′ q → Answered ts limit node-of (whole (leaf f x)) o (state ns ls ss c) ns′ ls′ ss′ q
+leaf-tried : {ts ns ls ss ns′ ls′ ss′ : List ℕ} {terms : Terms} {o x : ℕ} {f : Form-of} {c : Cursor} {q : Read} → Ready ts terms o (state ns ls ss c) → kind ts (c .at) ≡ x → c .at + 1 < count ts →
+    Tries ts (Label.Row f) (c .at) (state ns ls ss (next c)) [] [] ns′ ls′ ss′ q → Answered ts terms node-of (whole (leaf f x)) o (state ns ls ss c) ns′ ls′ ss′ q
 unfolding paid spare
 leaf-tried r e h m = built r (record { pays = tt }) h (taken e (nothing (r .deep))) m
 
@@ -58,9 +59,9 @@ single-plain : {x : ℕ} → Single x → has-word (Label.Row (single-node x)) �
 unfolding has-word
 single-plain s = ⊎-elim (λ e. rw e) (⊎-elim (λ e. rw e) (⊎-elim (λ e. rw e) (⊎-elim (λ e. rw e) (⊎-elim (λ e. rw e) (λ e. rw e))))) (s .known)
 
-pub single-read : {ts ns ls ss ns′ : List ℕ} {limit o x : ℕ} {c d : Cursor} {place n : Node} {q : Read} → Makes n d q → Ready ts limit o (state ns ls ss c) → Single x →
+pub single-read : {ts ns ls ss ns′ : List ℕ} {terms : Terms} {o x : ℕ} {c d : Cursor} {place n : Node} {q : Read} → Makes n d q → Ready ts terms o (state ns ls ss c) → Single x →
     Taken ts c x place d →
-    Tried (d .nodes) (number-of (single-node x)) (place .start) (place .end) (single-fields x) ns ns′ n → Answered ts limit node-of (whole (leaf (single-node x) x)) o (state ns ls ss c) ns′ ls ss q
+    Tried (d .nodes) (number-of (single-node x)) (place .start) (place .end) (single-fields x) ns ns′ n → Answered ts terms node-of (whole (leaf (single-node x) x)) o (state ns ls ss c) ns′ ls ss q
 single-read {ts} {ns} {ls} {ss} {ns′} {x = x} {c = c} {place = place} {n = n} {q = q} m r s t i =
     let b = single-below s in
     let j : Tried (c .nodes) (number-of (single-node x)) (start ts (c .at)) (end ts (c .at)) (single-fields x) ns ns′ n = rw (t .after, t .node-is) at i in
@@ -69,13 +70,13 @@ single-read {ts} {ns} {ls} {ss} {ns′} {x = x} {c = c} {place = place} {n = n} 
     leaf-tried r (t .kind-is) (w .at) (row-tried w (r .lent) (λ h z. plain (single-plain s) h) (single-row ts ns ls ss (c .at) (next c) s (t .kind-is)) o j)
 
 -- where a token was just taken a row more has a number
-pub next-row : {ts ns ls ss : List ℕ} {limit o x : ℕ} {c d : Cursor} {n : Node} → Ready ts limit o (state ns ls ss c) → Taken ts c x n d → d .nodes < absent
+pub next-row : {ts ns ls ss : List ℕ} {terms : Terms} {o x : ℕ} {c d : Cursor} {n : Node} → Ready ts terms o (state ns ls ss c) → Taken ts c x n d → d .nodes < absent
 next-row r t = rw (t .after) (free (r .lent) (r .within))
 
-pub string-read : {ts ns ls ss ns′ : List ℕ} {limit o symbol : ℕ} {c d : Cursor} {place n : Node} {q : Read} → Makes n d q → Ready ts limit o (state ns ls ss c) →
+pub string-read : {ts ns ls ss ns′ : List ℕ} {terms : Terms} {o symbol : ℕ} {c d : Cursor} {place n : Node} {q : Read} → Makes n d q → Ready ts terms o (state ns ls ss c) →
     Taken ts c StringLiteral place d →
     symbol ≡ names-of ts ss (c .at) → (symbol ≡ absent → ⊥) → Tried (d .nodes) (number-of Form-of.String) (place .start) (place .end) (symbol ∷ []) ns ns′ n →
-    Answered ts limit node-of (whole (leaf Form-of.String StringLiteral)) o (state ns ls ss c) ns′ ls ss q
+    Answered ts terms node-of (whole (leaf Form-of.String StringLiteral)) o (state ns ls ss c) ns′ ls ss q
 unfolding make put fill numbers write rule
 string-read {ts} {ns} {ls} {ss} {ns′} {c = c} {n = n} {q = q} m r t y a i =
     let k = t .kind-is in
@@ -85,7 +86,7 @@ string-read {ts} {ns} {ls} {ss} {ns′} {c = c} {n = n} {q = q} m r t y a i =
     leaf-tried r k (w .at) (row-tried w (r .lent) (λ h z. a (y ∙ z)) refl o j)
 
 -- a name writes nothing
-module _ {ts : List ℕ} {σ k : ℕ → ℕ} {limit o a b : ℕ} {z : Space} {w : Rows} {t : Tree Label} (p : Passes ts σ limit z kaori k (whole (token Identifier empty)) o a w b t) where
+module _ {ts : List ℕ} {σ k : ℕ → ℕ} {limit o a b : ℕ} {z : Space} {G : Grammar Table Label} {w : Rows} {t : Tree Label} (p : Passes ts σ limit z G k (whole (token Identifier empty)) o a w b t) where
   unlinked : z .links < length (then ts σ (made Label.Name a b t) w .links) → ⊥
   unfolding walk make
   unlinked h = omega (arith, p .fits .links)
@@ -95,10 +96,10 @@ module _ {ts : List ℕ} {σ k : ℕ → ℕ} {limit o a b : ℕ} {z : Space} {w
   unrowed h = omega (arith, p .fits .nodes)
 
 -- what was read as a name is one token: what it made
-read-name : {k : ℕ → ℕ} {a b : ℕ} {t : Tree Label} → Reads kaori k (whole name) a b t → (k a ≡ Identifier) × (b ≡ a + 1) × (t ≡ made Label.Name a b none)
+read-name : {G : Grammar Table Label} {k : ℕ → ℕ} {a b : ℕ} {t : Tree Label} → Reads G k (whole name) a b t → (k a ≡ Identifier) × (b ≡ a + 1) × (t ≡ made Label.Name a b none)
 read-name (Reads.labelled (Reads.taken k Reads.nothing)) = (k, refl, refl)
 
-name-made : {ts ns ls ss : List ℕ} {limit o : ℕ} {c : Cursor} {hs : List Handle} {s′ : State} → Reading ts limit (whole name) o (state ns ls ss c) hs [] s′ →
+name-made : {ts ns ls ss : List ℕ} {terms : Terms} {o : ℕ} {c : Cursor} {hs : List Handle} {s′ : State} → Reading ts terms (whole name) o (state ns ls ss c) hs [] s′ →
     Made ts Label.Name (c .at) (state ns ls ss (next c)) [] [] hs s′
 unfolding walk Named
 name-made r =
@@ -125,44 +126,44 @@ identifier-tried {ts} {ns} {ls} {ss} {a = a} {s = s} {c = c} {word = word} w l m
     let upto-is : end ts a ≡ word .end = ap (λ w. upto (head (w .first))) (m .makes) in
     from-before m (ap (λ w. w .rows) (m .makes)) (row-tried w l (λ h e. m .word refl (ap (λ σ. σ a) (sym (m .kept)) ∙ e)) (rw (id, from-is, upto-is)) o i)
 
-pub identifier-read : {ts ns ls ss ns′ : List ℕ} {limit o : ℕ} {c d : Cursor} {word n : Node} {ns₀ ls₀ ss₀ : List ℕ} {q : Read} → Makes n d q →
-    Ready ts limit o (state ns₀ ls₀ ss₀ c) → Success ts limit (whole name) o (state ns₀ ls₀ ss₀ c) (name-of word ∷ []) (state ns ls ss d) →
+pub identifier-read : {ts ns ls ss ns′ : List ℕ} {terms : Terms} {o : ℕ} {c d : Cursor} {word n : Node} {ns₀ ls₀ ss₀ : List ℕ} {q : Read} → Makes n d q →
+    Ready ts terms o (state ns₀ ls₀ ss₀ c) → Success ts terms (whole name) o (state ns₀ ls₀ ss₀ c) (name-of word ∷ []) (state ns ls ss d) →
     Tried (d .nodes) (number-of Form-of.Identifier) (word .start) (word .end) (word .id ∷ word .start ∷ word .end ∷ []) ns ns′ n →
-    Answered ts limit node-of (whole (leaf Form-of.Identifier Identifier)) o (state ns₀ ls₀ ss₀ c) ns′ ls ss q
+    Answered ts terms node-of (whole (leaf Form-of.Identifier Identifier)) o (state ns₀ ls₀ ss₀ c) ns′ ls ss q
 identifier-read {ts = ts} {c = c} m r z i =
     let (k, b, t) = read-name (z .reading .reads) in
     let h : c .at + 1 < count ts = omega (arith, z .within .at) in
     leaf-tried r k h (identifier-tried (z .within) (r .lent) (name-made (z .reading)) m i)
 
 -- a name's refusal is an identifier's: its token is missing, or its symbol has no room
-as-identifier : {ts : List ℕ} {σ k : ℕ → ℕ} {limit o a : ℕ} {z : Space} {w : Rows} {q : Refused} → Refuses ts σ limit z kaori k name o a w q →
-    Refuses ts σ limit z kaori k (leaf Form-of.Identifier Identifier) o a w q
+as-identifier : {ts : List ℕ} {σ k : ℕ → ℕ} {limit o a : ℕ} {z : Space} {G : Grammar Table Label} {w : Rows} {q : Refused} → Refuses ts σ limit z G k name o a w q →
+    Refuses ts σ limit z G k (leaf Form-of.Identifier Identifier) o a w q
 unfolding has-word
 as-identifier (Refuses.in-node h) = Refuses.in-node h
 as-identifier (Refuses.no-room p (Lacks.word h e)) = Refuses.no-room p (Lacks.word refl e)
 as-identifier (Refuses.no-room p (Lacks.link h l)) = absurd (unlinked p l)
 as-identifier (Refuses.no-room p (Lacks.row h l r)) = absurd (unrowed p r)
 
-pub relabelled : {ts : List ℕ} {limit o : ℕ} {s : State} {q : Refused} → Refusing ts limit name o s q → Refusing ts limit (leaf Form-of.Identifier Identifier) o s q
+pub relabelled : {ts : List ℕ} {terms : Terms} {o : ℕ} {s : State} {q : Refused} → Refusing ts terms name o s q → Refusing ts terms (leaf Form-of.Identifier Identifier) o s q
 relabelled x = record { refuses = as-identifier (x .refuses) }
 
 -- a dot and a name go on with a chain of calls
-module _ {ts ns₀ ls₀ ss₀ ns ls ss : List ℕ} {limit o : ℕ} {p : Form} {c d : Cursor} {dot object : Node} (r : Ready ts limit o (state ns₀ ls₀ ss₀ c)) (t : Taken ts c Dot dot d) where
+module _ {ts ns₀ ls₀ ss₀ ns ls ss : List ℕ} {terms : Terms} {o : ℕ} {p : Form} {c d : Cursor} {dot object : Node} (r : Ready ts terms o (state ns₀ ls₀ ss₀ c)) (t : Taken ts c Dot dot d) where
   pub property-read : {ns′ : List ℕ} {e : Cursor} {word n : Node} {q : Read} → Makes n e q →
-      Success ts limit (whole name) o (state ns₀ ls₀ ss₀ d) (name-of word ∷ []) (state ns ls ss e) →
+      Success ts terms (whole name) o (state ns₀ ls₀ ss₀ d) (name-of word ∷ []) (state ns ls ss e) →
       Tried (e .nodes) (number-of Form-of.PropertyAccess) (dot .start) (word .end) (object .id ∷ word .id ∷ word .start ∷ word .end ∷ []) ns ns′ n →
-      Onward ts limit p calls (begun p calls) o (state ns₀ ls₀ ss₀ c) object (c .at + 1) ns′ ls ss q
+      Onward ts terms p calls (begun p calls) o (state ns₀ ls₀ ss₀ c) object (c .at + 1) ns′ ls ss q
   unfolding kaori rules make put fill numbers write rule has-word
   property-read {ns′} {e} {word} {n} m z i =
-      let y : Success ts limit (whole name) o (state ns₀ ls₀ ss₀ (next c)) (name-of word ∷ []) (state ns ls ss e) = rw (t .after) at z in
+      let y : Success ts terms (whole name) o (state ns₀ ls₀ ss₀ (next c)) (name-of word ∷ []) (state ns ls ss e) = rw (t .after) at z in
       let j : Tried (e .nodes) (number-of Form-of.PropertyAccess) (start ts (c .at)) (word .end) (object .id ∷ word .id ∷ word .start ∷ word .end ∷ []) ns ns′ n = rw (t .node-is) at i in
       let k = t .kind-is in
-      tried (r .within) (ap (kaori calls) k) (taken k (y .reading)) (z .within .at) (y .past) (row-tried (z .within) (r .lent) (λ h z. plain refl h) refl m j)
+      tried (r .within) (ap (tables terms calls) k) (taken k (y .reading)) (z .within .at) (y .past) (row-tried (z .within) (r .lent) (λ h z. plain refl h) refl m j)
 
-  pub property-refused : {g : Aim Table Label} {a : ℕ} {q : Read} {x : Refusal} → q ≡ Read.Refused x → Answered ts limit name-of (whole name) o (state ns₀ ls₀ ss₀ d) ns ls ss q →
-      Onward ts limit p calls g o (state ns₀ ls₀ ss₀ c) object a ns ls ss q
+  pub property-refused : {g : Aim Table Label} {a : ℕ} {q : Read} {x : Refusal} → q ≡ Read.Refused x → Answered ts terms name-of (whole name) o (state ns₀ ls₀ ss₀ d) ns ls ss q →
+      Onward ts terms p calls g o (state ns₀ ls₀ ss₀ c) object a ns ls ss q
   unfolding kaori rules
   property-refused {q = q} e z =
-      let y : Answered ts limit name-of (whole name) o (state ns₀ ls₀ ss₀ (next c)) ns ls ss q = rw (t .after) at z in
+      let y : Answered ts terms name-of (whole name) o (state ns₀ ls₀ ss₀ (next c)) ns ls ss q = rw (t .after) at z in
       let k = t .kind-is in
-      stopped e y (λ s x b h. further b (ap (kaori calls) k) (past-token k h))
+      stopped e y (λ s x b h. further b (ap (tables terms calls) k) (past-token k h))

@@ -3,28 +3,33 @@
 use Prim.Native.Nat.{ℕ, _+_, _*_, _≤_}
 use native.Mathlib.Decide.{ℕ-discrete, decLe}
 use native.Mathlib.Omega.{arith}
+use mathlib.Core.Bool.{Bool, true, false, cond}
 use mathlib.Core.List.{List, [], _∷_, _++_}
 use mathlib.Core.Logic.{inl, inr}
 use mathlib.Core.Path.{_≡_, refl, sym, ap, _∙_}
+use lib.Dec.{eqb}
 use lib.ListN.{length, take}
 use lib.Seq.{length-take-le}
 use Rattle.ast.specs.declared.Node.{Node}
 use Rattle.ast.proofs.Rooms.{written-once}
+use Rattle.grammar.specs.Edition.{Edition}
 use Rattle.grammar.specs.Handle.{Handle, row, absent}
-use Rattle.grammar.specs.Kaori.{Form, may-end, must-end, rules, kaori}
-use Rattle.grammar.specs.Kind.{Eof}
-use Rattle.grammar.specs.Phrase.{whole}
+use Rattle.grammar.specs.Kaori.{Form, expression, group, leaf, calls, may-end, must-end, rules, kaori}
+use Rattle.grammar.specs.Kind.{LeftParen, Identifier, Eof}
+use Rattle.grammar.specs.Label.{Node as Node-of}
+use Rattle.grammar.specs.Phrase.{empty, chain, whole}
 use Rattle.grammar.specs.Room.{node-width}
 use Rattle.grammar.specs.Rows.{links-of, walk}
 use Rattle.grammar.proofs.Machine.{one-reading, read-not-refused, one-refusal}
 use Rattle.names.specs.Resolved.{names-of}
 use Rattle.reading.specs.Answers.{node-of, name-of, tail-of, holding, Took, Consumed, Answer-case, Answered, Listed, List-case, Lists, State-case, States}
-use Rattle.reading.specs.Parts.{Makes, Makes-list, Separates, Separated, Gathered, Ends, Ended, Untailed}
+use Rattle.reading.specs.Parts.{Makes, Makes-list, Separates, Separated, Gathered, Ends, Ended, Untailed, Bare, head-form, Lone}
 use Rattle.reading.specs.Reading.{refusal, Success}
 use Rattle.reading.specs.State.{State, state, written, held, Within}
 use Rattle.reading.specs.declared.Cursor.{Cursor}
 use Rattle.reading.specs.declared.Read.{Read}
 use Rattle.reading.specs.declared.Refusal.{Refusal}
+use Rattle.reading.specs.declared.Terms.{Terms}
 use Rattle.reading.proofs.Laws.{pass}
 
 -- what is the same after two successes: what they stand for, where they ended, what is written and what is held
@@ -58,8 +63,8 @@ refusals {q} {r} e =
     z
 
 -- two successes of one phrase from one entry
-module _ {ts : List ℕ} {limit o : ℕ} {p : Form} {s s₁ s₂ : State} {hs hs′ : List Handle} where
-  pub one-success : Success ts limit (whole p) o s hs s₁ → Success ts limit (whole p) o s hs′ s₂ → Alike hs hs′ s₁ s₂
+module _ {ts : List ℕ} {terms : Terms} {o : ℕ} {p : Form} {s s₁ s₂ : State} {hs hs′ : List Handle} where
+  pub one-success : Success ts terms (whole p) o s hs s₁ → Success ts terms (whole p) o s hs′ s₂ → Alike hs hs′ s₁ s₂
   one-success x y =
       let (at, tree) = one-reading (x .reading .reads) (y .reading .reads) in
       let e = sym (x .reading .rows) ∙ ap (λ t. walk ts (names-of ts (s .scratch)) t (written s)) tree ∙ y .reading .rows in
@@ -96,7 +101,7 @@ pub name-alike : (n m : Node) → name-of n ≡ name-of m → n ≡ m
 name-alike n m e = nodes (cc) (cc) (cc)
 
 -- once a list's items are held no more, the cursor is within the list as before
-let-go : {ts : List ℕ} {limit o : ℕ} {p : Form} {s s₁ : State} → Listed ts limit (whole p) o s s₁ → Within ts (holding (s .cursor .held) s₁)
+let-go : {ts : List ℕ} {terms : Terms} {o : ℕ} {p : Form} {s s₁ : State} → Listed ts terms (whole p) o s s₁ → Within ts (holding (s .cursor .held) s₁)
 let-go l = let w = l .within in record {
   roomy = record { scratch = w .roomy .scratch };
   stands = w .stands;
@@ -106,10 +111,10 @@ let-go l = let w = l .within in record {
   stack = omega (arith, w .stack, l .count);
 }
 
-module _ {ts : List ℕ} {limit o : ℕ} {p : Form} {s : State} {ns ls ss ns′ ls′ ss′ : List ℕ} where
+module _ {ts : List ℕ} {terms : Terms} {o : ℕ} {p : Form} {s : State} {ns ls ss ns′ ls′ ss′ : List ℕ} where
   -- of a reader whose node stands for what it read
-  pub one-answered : (h : Node → Handle) → ((n m : Node) → h n ≡ h m → n ≡ m) → (r r′ : Read) → Answered ts limit h (whole p) o s ns ls ss r →
-      Answered ts limit h (whole p) o s ns′ ls′ ss′ r′ → Same ns ls ss ns′ ls′ ss′ r r′
+  pub one-answered : (h : Node → Handle) → ((n m : Node) → h n ≡ h m → n ≡ m) → (r r′ : Read) → Answered ts terms h (whole p) o s ns ls ss r →
+      Answered ts terms h (whole p) o s ns′ ls′ ss′ r′ → Same ns ls ss ns′ ls′ ss′ r r′
   unfolding Answer-case Same
   one-answered h alike (Read.Node n c) (Read.Node m d) a b = let e = one-success (a .says) (b .says) in (alike n m (heads (e .handles)), e .cursor, e .rows, e .stack)
   one-answered h alike (Read.Refused q) (Read.Refused r) a b = refusals (one-refusal (a .says .refuses) (b .says .refuses))
@@ -117,13 +122,13 @@ module _ {ts : List ℕ} {limit o : ℕ} {p : Form} {s : State} {ns ls ss ns′ 
   one-answered h alike (Read.Refused q) (Read.Node m d) a b = read-not-refused (pass (b .says .reading)) (a .says .refuses)
 
   -- of a list's reader: the items that are held are the same too
-  pub one-lists : (r r′ : Read) → Lists ts limit (whole p) o s ns ls ss r → Lists ts limit (whole p) o s ns′ ls′ ss′ r′ → Same ns ls ss ns′ ls′ ss′ r r′
+  pub one-lists : (r r′ : Read) → Lists ts terms (whole p) o s ns ls ss r → Lists ts terms (whole p) o s ns′ ls′ ss′ r′ → Same ns ls ss ns′ ls′ ss′ r r′
   unfolding List-case Same
   one-lists (Read.Node n c) (Read.Node m d) a b =
       let x = a .says .1 in
       let y = b .says .1 in
-      let u : Success ts limit (whole p) o s (x .items) (holding (s .cursor .held) (state ns ls ss c)) = record { reading = x .reading; within = let-go x; past = x .past } in
-      let v : Success ts limit (whole p) o s (y .items) (holding (s .cursor .held) (state ns′ ls′ ss′ d)) = record { reading = y .reading; within = let-go y; past = y .past } in
+      let u : Success ts terms (whole p) o s (x .items) (holding (s .cursor .held) (state ns ls ss c)) = record { reading = x .reading; within = let-go x; past = x .past } in
+      let v : Success ts terms (whole p) o s (y .items) (holding (s .cursor .held) (state ns′ ls′ ss′ d)) = record { reading = y .reading; within = let-go y; past = y .past } in
       let e = one-success u v in
       let k = e .cursor in
       let h = x .count ∙ ap (λ i. s .cursor .held + length i) (e .handles) ∙ sym (y .count) in
@@ -182,7 +187,7 @@ one-separated (Read.Refused q) (Read.Node m e) a b = absurd (elim (b .says .1) [
 -- the two tables that end a statement differ: before Eof one has nothing, and the other requires `;`
 may-not-must : may-end ≡ must-end → ⊥
 unfolding kaori rules
-may-not-must e = let z : kaori may-end Eof ≡ kaori must-end Eof = ap (λ t. kaori t Eof) e in let y : _≡_ {A = ℕ} 0 1 = cc in omega (arith, y)
+may-not-must e = let z : kaori Edition.first may-end Eof ≡ kaori Edition.first must-end Eof = ap (λ t. kaori Edition.first t Eof) e in let y : _≡_ {A = ℕ} 0 1 = cc in omega (arith, y)
 
 pub one-ended : {ts : List ℕ} {n : Node} {c : Cursor} {x : ℕ} (r r′ : Read) → Ended ts n c x r → Ended ts n c x r′ → r ≡ r′
 unfolding Ends
@@ -194,8 +199,33 @@ one-ended (Read.Refused q) (Read.Refused r) a b = ap Read.Refused (a .says .3 �
 one-ended (Read.Node m d) (Read.Refused r) a b = absurd (elim (a .says) [ inl u ↦ b .says .0 (u .0) | inr u ↦ elim (u .1) [ inl v ↦ b .says .1 v | inr v ↦ may-not-must (sym v ∙ b .says .2) ] ])
 one-ended (Read.Refused q) (Read.Node k e) a b = absurd (elim (b .says) [ inl u ↦ a .says .0 (u .0) | inr u ↦ elim (u .1) [ inl v ↦ a .says .1 v | inr v ↦ may-not-must (sym v ∙ a .says .2) ] ])
 
-module _ {ts : List ℕ} {limit o : ℕ} {s : State} {ns ls ss ns′ ls′ ss′ : List ℕ} where
-  pub one-statement : (r r′ : Read) → States ts limit o s ns ls ss r → States ts limit o s ns′ ls′ ss′ r′ → Same ns ls ss ns′ ls′ ss′ r r′
+-- nothing is no expression
+not-both : _≡_ {A = Form} empty expression → ⊥
+not-both e = let z : _≡_ {A = ℕ} 0 1 = cc in omega (arith, z)
+
+pub one-bare : {n x : ℕ} (r r′ : Bool) → Bare n x r → Bare n x r′ → r ≡ r′
+one-bare true true a b = refl
+one-bare false false a b = refl
+one-bare true false a b = absurd (not-both (sym (a .form) ∙ b .form))
+one-bare false true a b = absurd (not-both (sym (b .form) ∙ a .form))
+
+-- what a chain starts with is no chain
+no-chain : (x : ℕ) → head-form x ≡ chain (head-form x) calls → ⊥
+unfolding head-form
+no-chain x = pick (eqb x LeftParen)
+  where
+    pick : (b : Bool) → _≡_ {A = Form} (cond b group (leaf Node-of.Identifier Identifier)) (chain (cond b group (leaf Node-of.Identifier Identifier)) calls) → ⊥
+    pick true e = let z : _≡_ {A = ℕ} 0 1 = cc in omega (arith, z)
+    pick false e = let z : _≡_ {A = ℕ} 0 1 = cc in omega (arith, z)
+
+pub one-lone : {n x : ℕ} (r r′ : Bool) → Lone n x r → Lone n x r′ → r ≡ r′
+one-lone true true a b = refl
+one-lone false false a b = refl
+one-lone {x = x} true false a b = absurd (no-chain x (sym (a .form) ∙ b .form))
+one-lone {x = x} false true a b = absurd (no-chain x (sym (b .form) ∙ a .form))
+
+module _ {ts : List ℕ} {terms : Terms} {o : ℕ} {s : State} {ns ls ss ns′ ls′ ss′ : List ℕ} where
+  pub one-statement : (r r′ : Read) → States ts terms o s ns ls ss r → States ts terms o s ns′ ls′ ss′ r′ → Same ns ls ss ns′ ls′ ss′ r r′
   unfolding State-case Same
   one-statement (Read.Node n c) (Read.Node m d) a b =
       let x = a .says in

@@ -11,11 +11,12 @@ use Rattle.grammar.specs.Phrase.{empty, part, nested, node, chain, once, Aim, w
 use Rattle.grammar.specs.Refusal.{Refused, refused, Refuses}
 use Rattle.grammar.specs.Token.{kind, start, end, count}
 use Rattle.reading.specs.Answers.{next, node-of, Took, Consumed, Answer-case, Answered, Listed, List-case, Lists, Filled, Fill-case, Fills, Stated, State-case, States}
-use Rattle.reading.specs.Reading.{form, refusal, Reading, Success, Refusing}
+use Rattle.reading.specs.Reading.{tables, form, refusal, Reading, Success, Refusing}
 use Rattle.reading.specs.State.{State, state, Ready}
 use Rattle.reading.specs.declared.Cursor.{Cursor}
 use Rattle.reading.specs.declared.Read.{Read}
 use Rattle.reading.specs.declared.Refusal.{Refusal}
+use Rattle.reading.specs.declared.Terms.{Terms}
 use Rattle.reading.proofs.Bound.{Paid, bound, arrived}
 use Rattle.reading.proofs.Entering.{Tries}
 use Rattle.reading.proofs.Laws.{opened, labelled, joined, pass, onto, full, full-joined}
@@ -33,101 +34,106 @@ module _ {ts : List ℕ} {c : Cursor} {x : ℕ} {r : Read} where
   token-taken e z = let y = (rw e at z) .says in record { kind-is = y .0; node-is = y .1; after = y .2 }
 
 -- what was learnt of a node, named by the answer that it is read from
-module _ {ts : List ℕ} {limit : ℕ} where
+-- a reading of a form that has a token for each of its nodes gets somewhere
+pub arrives : {ts : List ℕ} {terms : Terms} {g : Aim Table Label} {o : ℕ} {s s′ : State} {hs : List Handle} → Ready ts terms o s → Paid (form g) → s′ .cursor .at < count ts →
+    Reading ts terms g o s hs [] s′ → Success ts terms g o s hs s′
+arrives w p a r = record { reading = r; within = arrived (w .within) p a r; past = bound (w .within) p a r .past }
+
+module _ {ts : List ℕ} {terms : Terms} where
   module _ {h : Node → Handle} {g : Aim Table Label} {o : ℕ} {s : State} {ns ls ss : List ℕ} where
-    pub success : {r : Read} {n : Node} {c : Cursor} → r ≡ Read.Node n c → Answered ts limit h g o s ns ls ss r → Success ts limit g o s (h n ∷ []) (state ns ls ss c)
+    pub success : {r : Read} {n : Node} {c : Cursor} → r ≡ Read.Node n c → Answered ts terms h g o s ns ls ss r → Success ts terms g o s (h n ∷ []) (state ns ls ss c)
     unfolding Answer-case
     success e a = (rw e at a) .says
 
-    abbrev pub Told : {r : Read} → Answered ts limit h g o s ns ls ss r → Node → Cursor → Type 0
-    Told a n c = Success ts limit g o s (h n ∷ []) (state ns ls ss c)
+    abbrev pub Told : {r : Read} → Answered ts terms h g o s ns ls ss r → Node → Cursor → Type 0
+    Told a n c = Success ts terms g o s (h n ∷ []) (state ns ls ss c)
 
-    pub refuse : {q : Refusal} → Refusing ts limit (form g) o s (refusal q) → Answered ts limit h g o s ns ls ss (Read.Refused q)
+    pub refuse : {q : Refusal} → Refusing ts terms (form g) o s (refusal q) → Answered ts terms h g o s ns ls ss (Read.Refused q)
     unfolding Answer-case
     refuse z = record { says = z }
 
-    pub answered : {n : Node} {c : Cursor} → Success ts limit g o s (h n ∷ []) (state ns ls ss c) → Answered ts limit h g o s ns ls ss (Read.Node n c)
+    pub answered : {n : Node} {c : Cursor} → Success ts terms g o s (h n ∷ []) (state ns ls ss c) → Answered ts terms h g o s ns ls ss (Read.Node n c)
     unfolding Answer-case
     answered z = record { says = z }
 
     -- a reading that has a token for each of its nodes
-    pub answer : {n : Node} {c : Cursor} → Ready ts limit o s → Paid (form g) → c .at < count ts → Reading ts limit g o s (h n ∷ []) [] (state ns ls ss c) →
-        Answered ts limit h g o s ns ls ss (Read.Node n c)
-    answer w p a r = answered (record { reading = r; within = arrived (w .within) p a r; past = bound (w .within) p a r .past })
+    pub answer : {n : Node} {c : Cursor} → Ready ts terms o s → Paid (form g) → c .at < count ts → Reading ts terms g o s (h n ∷ []) [] (state ns ls ss c) →
+        Answered ts terms h g o s ns ls ss (Read.Node n c)
+    answer w p a r = answered (arrives w p a r)
 
     -- a required token is missing
     pub lacks : {c : Cursor} {x : ℕ} {r : Read} {q : Refusal} → r ≡ Read.Refused q → Consumed ts c x r →
-        ((kind ts (c .at) ≡ x → ⊥) → Refusing ts limit (form g) o s (refused 8 (c .at) x)) → Answered ts limit h g o s ns ls ss r
+        ((kind ts (c .at) ≡ x → ⊥) → Refusing ts terms (form g) o s (refused 8 (c .at) x)) → Answered ts terms h g o s ns ls ss r
     unfolding Answer-case Took
     lacks {q = q} e z up = let y = (rw e at z) .says in rw (e, y .1) (record { says = up (y .0) })
 
     module _ {h′ : Node → Handle} {g′ : Aim Table Label} {o′ : ℕ} {s′ : State} where
       -- a refusal of a part
-      pub passed : {r : Read} {q : Refusal} → r ≡ Read.Refused q → Answered ts limit h′ g′ o′ s′ ns ls ss r →
-          ((x : Refused) → Refusing ts limit (form g′) o′ s′ x → Refusing ts limit (form g) o s x) → Answered ts limit h g o s ns ls ss r
+      pub passed : {r : Read} {q : Refusal} → r ≡ Read.Refused q → Answered ts terms h′ g′ o′ s′ ns ls ss r →
+          ((x : Refused) → Refusing ts terms (form g′) o′ s′ x → Refusing ts terms (form g) o s x) → Answered ts terms h g o s ns ls ss r
       unfolding Answer-case
       passed {q = q} e a up = rw e (record { says = up (refusal q) ((rw e at a) .says) })
 
     -- of a list
-    pub passed-list : {g′ : Aim Table Label} {o′ : ℕ} {s′ : State} {r : Read} {q : Refusal} → r ≡ Read.Refused q → Lists ts limit g′ o′ s′ ns ls ss r →
-        ((x : Refused) → Refusing ts limit (form g′) o′ s′ x → Refusing ts limit (form g) o s x) → Answered ts limit h g o s ns ls ss r
+    pub passed-list : {g′ : Aim Table Label} {o′ : ℕ} {s′ : State} {r : Read} {q : Refusal} → r ≡ Read.Refused q → Lists ts terms g′ o′ s′ ns ls ss r →
+        ((x : Refused) → Refusing ts terms (form g′) o′ s′ x → Refusing ts terms (form g) o s x) → Answered ts terms h g o s ns ls ss r
     unfolding Answer-case List-case
     passed-list {q = q} e a up = rw e (record { says = up (refusal q) ((rw e at a) .says) })
 
-    pub passed-fill : {o′ : ℕ} {s′ : State} {r : Read} {q : Refusal} → r ≡ Read.Refused q → Fills ts limit o′ s′ ns ls ss r →
-        ((x : Refused) → Refusing ts limit (chain empty block-items) o′ s′ x → Refusing ts limit (form g) o s x) → Answered ts limit h g o s ns ls ss r
+    pub passed-fill : {o′ : ℕ} {s′ : State} {r : Read} {q : Refusal} → r ≡ Read.Refused q → Fills ts terms o′ s′ ns ls ss r →
+        ((x : Refused) → Refusing ts terms (chain empty block-items) o′ s′ x → Refusing ts terms (form g) o s x) → Answered ts terms h g o s ns ls ss r
     unfolding Answer-case Fill-case
     passed-fill {q = q} e a up = rw e (record { says = up (refusal q) ((rw e at a) .says) })
 
     -- an answer of a part that is an answer of the whole, from the same place
-    pub mapped : {g′ : Aim Table Label} {o′ : ℕ} {s′ : State} (r : Read) → s .cursor .at ≤ s′ .cursor .at → Answered ts limit h g′ o′ s′ ns ls ss r →
-        ((n : Node) (c : Cursor) → Reading ts limit g′ o′ s′ (h n ∷ []) [] (state ns ls ss c) → Reading ts limit g o s (h n ∷ []) [] (state ns ls ss c)) →
-        ((x : Refused) → Refusing ts limit (form g′) o′ s′ x → Refusing ts limit (form g) o s x) → Answered ts limit h g o s ns ls ss r
+    pub mapped : {g′ : Aim Table Label} {o′ : ℕ} {s′ : State} (r : Read) → s .cursor .at ≤ s′ .cursor .at → Answered ts terms h g′ o′ s′ ns ls ss r →
+        ((n : Node) (c : Cursor) → Reading ts terms g′ o′ s′ (h n ∷ []) [] (state ns ls ss c) → Reading ts terms g o s (h n ∷ []) [] (state ns ls ss c)) →
+        ((x : Refused) → Refusing ts terms (form g′) o′ s′ x → Refusing ts terms (form g) o s x) → Answered ts terms h g o s ns ls ss r
     unfolding Answer-case
     mapped (Read.Node n c) i a f up = record { says = record { reading = f n c (a .says .reading); within = a .says .within; past = omega (arith, a .says .past) } }
     mapped (Read.Refused q) i a f up = record { says = up (refusal q) (a .says) }
 
-  pub listed : {g : Aim Table Label} {o : ℕ} {s : State} {ns ls ss : List ℕ} {r : Read} {n : Node} {c : Cursor} → r ≡ Read.Node n c → Lists ts limit g o s ns ls ss r →
-      Listed ts limit g o s (state ns ls ss c)
+  pub listed : {g : Aim Table Label} {o : ℕ} {s : State} {ns ls ss : List ℕ} {r : Read} {n : Node} {c : Cursor} → r ≡ Read.Node n c → Lists ts terms g o s ns ls ss r →
+      Listed ts terms g o s (state ns ls ss c)
   unfolding List-case
   listed e a = (rw e at a) .says .1
 
-  pub filled : {o : ℕ} {s : State} {ns ls ss : List ℕ} {r : Read} {n : Node} {c : Cursor} → r ≡ Read.Node n c → Fills ts limit o s ns ls ss r → Filled ts limit o s n (state ns ls ss c)
+  pub filled : {o : ℕ} {s : State} {ns ls ss : List ℕ} {r : Read} {n : Node} {c : Cursor} → r ≡ Read.Node n c → Fills ts terms o s ns ls ss r → Filled ts terms o s n (state ns ls ss c)
   unfolding Fill-case
   filled e a = (rw e at a) .says
 
-  pub stated : {o : ℕ} {s : State} {ns ls ss : List ℕ} {r : Read} {n : Node} {c : Cursor} → r ≡ Read.Node n c → States ts limit o s ns ls ss r → Stated ts limit o s n (state ns ls ss c)
+  pub stated : {o : ℕ} {s : State} {ns ls ss : List ℕ} {r : Read} {n : Node} {c : Cursor} → r ≡ Read.Node n c → States ts terms o s ns ls ss r → Stated ts terms o s n (state ns ls ss c)
   unfolding State-case
   stated e a = (rw e at a) .says
 
 -- a refusal after what was read
-module _ {ts : List ℕ} {limit o : ℕ} {q : Refused} {xs ys : List Handle} {s s′ : State} where
-  pub after : {p r : Form} → Reading ts limit (whole p) o s xs ys s′ → Refusing ts limit r o s′ q → Refusing ts limit (part p r) o s q
+module _ {ts : List ℕ} {terms : Terms} {o : ℕ} {q : Refused} {xs ys : List Handle} {s s′ : State} where
+  pub after : {p r : Form} → Reading ts terms (whole p) o s xs ys s′ → Refusing ts terms r o s′ q → Refusing ts terms (part p r) o s q
   after r h = record { refuses = Refuses.in-second (pass r) (onto r h) }
 
-  pub further : {t : Table} {f : Label} {p r : Form} → Reading ts limit (begun p t) o s xs ys s′ → kaori t (kind ts (s′ .cursor .at)) ≡ node f r → Refusing ts limit r o s′ q →
-      Refusing ts limit (chain p t) o s q
+  pub further : {t : Table} {f : Label} {p r : Form} → Reading ts terms (begun p t) o s xs ys s′ → tables terms t (kind ts (s′ .cursor .at)) ≡ node f r → Refusing ts terms r o s′ q →
+      Refusing ts terms (chain p t) o s q
   further b e h = record { refuses = Refuses.in-link (pass b) e (onto b h) }
 
-  pub after-once : {t : Table} {f : Label} {p r : Form} → Reading ts limit (whole p) o s xs ys s′ → kaori t (kind ts (s′ .cursor .at)) ≡ node f r → Refusing ts limit r o s′ q →
-      Refusing ts limit (once p t) o s q
+  pub after-once : {t : Table} {f : Label} {p r : Form} → Reading ts terms (whole p) o s xs ys s′ → tables terms t (kind ts (s′ .cursor .at)) ≡ node f r → Refusing ts terms r o s′ q →
+      Refusing ts terms (once p t) o s q
   after-once b e h = record { refuses = Refuses.in-joined (pass b) e (onto b h) }
 
 -- a node of what was read: its row is made, or lacks room
-module _ {ts : List ℕ} {limit o : ℕ} {s s₁ : State} {f : Label} {p : Form} {xs ys : List Handle} {ns ls ss : List ℕ} where
-  pub built : {r : Read} → Ready ts limit o s → Paid (node f p) → s₁ .cursor .at < count ts → Reading ts limit (whole p) o s xs ys s₁ → Tries ts f (s .cursor .at) s₁ xs ys ns ls ss r →
-      Answered ts limit node-of (whole (node f p)) o s ns ls ss r
+module _ {ts : List ℕ} {terms : Terms} {o : ℕ} {s s₁ : State} {f : Label} {p : Form} {xs ys : List Handle} {ns ls ss : List ℕ} where
+  pub built : {r : Read} → Ready ts terms o s → Paid (node f p) → s₁ .cursor .at < count ts → Reading ts terms (whole p) o s xs ys s₁ → Tries ts f (s .cursor .at) s₁ xs ys ns ls ss r →
+      Answered ts terms node-of (whole (node f p)) o s ns ls ss r
   built h u a z (Tries.made m) = answer h u (rw (m .at) a) (labelled z m)
   built h u a z (Tries.lacking l) = refuse (full z l)
 
   -- and of one link at most
-  pub built-once : {t : Table} {q : Form} {s₀ : State} {r : Read} → Ready ts limit o s → Paid (once p t) → s₁ .cursor .at < count ts → Reading ts limit (whole p) o s xs [] s₀ →
-      kaori t (kind ts (s₀ .cursor .at)) ≡ node f q → Reading ts limit (whole q) o s₀ ys [] s₁ → Tries ts f (s₀ .cursor .at) s₁ xs ys ns ls ss r →
-      Answered ts limit node-of (whole (once p t)) o s ns ls ss r
+  pub built-once : {t : Table} {q : Form} {s₀ : State} {r : Read} → Ready ts terms o s → Paid (once p t) → s₁ .cursor .at < count ts → Reading ts terms (whole p) o s xs [] s₀ →
+      tables terms t (kind ts (s₀ .cursor .at)) ≡ node f q → Reading ts terms (whole q) o s₀ ys [] s₁ → Tries ts f (s₀ .cursor .at) s₁ xs ys ns ls ss r →
+      Answered ts terms node-of (whole (once p t)) o s ns ls ss r
   built-once h u a z g y (Tries.made m) = answer h u (rw (m .at) a) (joined z g y m)
   built-once h u a z g y (Tries.lacking l) = refuse (full-joined z g y l)
 
 -- one opening deeper
-pub nested-answer : {ts : List ℕ} {limit o : ℕ} {s : State} {p : Form} {ns ls ss : List ℕ} (r : Read) → o < limit → Answered ts limit node-of (whole p) (o + 1) s ns ls ss r →
-    Answered ts limit node-of (whole (nested p)) o s ns ls ss r
+pub nested-answer : {ts : List ℕ} {terms : Terms} {o : ℕ} {s : State} {p : Form} {ns ls ss : List ℕ} (r : Read) → o < terms .limit → Answered ts terms node-of (whole p) (o + 1) s ns ls ss r →
+    Answered ts terms node-of (whole (nested p)) o s ns ls ss r
 nested-answer r h a = mapped r (omega arith) a (λ n c z. opened z) (λ x y. inside h y)

@@ -23,6 +23,7 @@ use Rattle.reading.specs.Reading.{Reading, Refusing}
 use Rattle.reading.specs.State.{State, state, written, Lent, Within, Ready, Opened}
 use Rattle.reading.specs.declared.Cursor.{Cursor}
 use Rattle.reading.specs.declared.Read.{Read}
+use Rattle.reading.specs.declared.Terms.{Terms}
 use Rattle.reading.proofs.Bound.{Paid}
 use Rattle.reading.proofs.Entering.{entered-alone, row-tried}
 use Rattle.reading.proofs.Laws.{plain, taken, ready-next, opened-next}
@@ -45,18 +46,18 @@ module _ {ts : List ℕ} {c d : Cursor} {x : ℕ} {n : Node} (k : Taken ts c x n
   past-at = ap (λ e. e .at) (k .after)
 
 -- the token, and what is read, asked or refused after it
-module _ {ts : List ℕ} {limit o x : ℕ} {c d : Cursor} {n : Node} where
-  pub led : {p : Form} {ns ls ss : List ℕ} {hs gs : List Handle} {s′ : State} → Taken ts c x n d → Reading ts limit (whole p) o (state ns ls ss d) hs gs s′ →
-      Reading ts limit (whole (token x p)) o (state ns ls ss c) hs gs s′
+module _ {ts : List ℕ} {terms : Terms} {o x : ℕ} {c d : Cursor} {n : Node} where
+  pub led : {p : Form} {ns ls ss : List ℕ} {hs gs : List Handle} {s′ : State} → Taken ts c x n d → Reading ts terms (whole p) o (state ns ls ss d) hs gs s′ →
+      Reading ts terms (whole (token x p)) o (state ns ls ss c) hs gs s′
   led k r = taken (k .kind-is) (rw (k .after) at r)
 
-  pub ready-led : {ns ls ss : List ℕ} → Ready ts limit o (state ns ls ss c) → Taken ts c x n d → (x ≡ Eof → ⊥) → Ready ts limit o (state ns ls ss d)
+  pub ready-led : {ns ls ss : List ℕ} → Ready ts terms o (state ns ls ss c) → Taken ts c x n d → (x ≡ Eof → ⊥) → Ready ts terms o (state ns ls ss d)
   ready-led r k m = rw (k .after) (ready-next r (k .kind-is) m)
 
-  pub opened-led : {ns ls ss : List ℕ} → Ready ts limit o (state ns ls ss c) → Taken ts c x n d → (x ≡ Eof → ⊥) → Opened ts limit o (state ns ls ss d)
+  pub opened-led : {ns ls ss : List ℕ} → Ready ts terms o (state ns ls ss c) → Taken ts c x n d → (x ≡ Eof → ⊥) → Opened ts terms o (state ns ls ss d)
   opened-led r k m = rw (k .after) (opened-next r (k .kind-is) m)
 
-  pub led-refused : {p : Form} {ns ls ss : List ℕ} {q : Refused} → Taken ts c x n d → Refusing ts limit p o (state ns ls ss d) q → Refusing ts limit (token x p) o (state ns ls ss c) q
+  pub led-refused : {p : Form} {ns ls ss : List ℕ} {q : Refused} → Taken ts c x n d → Refusing ts terms p o (state ns ls ss d) q → Refusing ts terms (token x p) o (state ns ls ss c) q
   led-refused k h = past-token (k .kind-is) (rw (k .after) at h)
 
 -- one node row more has a number
@@ -69,10 +70,10 @@ pub tried-as : {n k st st′ en en′ : ℕ} {fields fields′ before after : Li
 tried-as a b e i = rw (← a, ← b, ← e) i
 
 -- a row of what was read
-module _ {ts : List ℕ} {limit o : ℕ} {s : State} {xs zs : List Handle} {f : Label} {p : Form} {ns ns′ ls ss : List ℕ} {c : Cursor} {k st en : ℕ} {fields : List ℕ} {n : Node} where
-  pub row-answered : {r : Read} → Makes n c r → Ready ts limit o s → Paid (node f p) → Reading ts limit (whole p) o s xs zs (state ns ls ss c) → Within ts (state ns ls ss c) →
+module _ {ts : List ℕ} {terms : Terms} {o : ℕ} {s : State} {xs zs : List Handle} {f : Label} {p : Form} {ns ns′ ls ss : List ℕ} {c : Cursor} {k st en : ℕ} {fields : List ℕ} {n : Node} where
+  pub row-answered : {r : Read} → Makes n c r → Ready ts terms o s → Paid (node f p) → Reading ts terms (whole p) o s xs zs (state ns ls ss c) → Within ts (state ns ls ss c) →
       Tried (c .nodes) k st en fields ns ns′ n → make ts (names-of ts ss) f (s .cursor .at) (c .at) (written (state ns ls ss c)) xs zs ≡ entered-alone c ns ls k st en fields →
-      has-word f ≡ false → Answered ts limit node-of (whole (node f p)) o s ns′ ls ss r
+      has-word f ≡ false → Answered ts terms node-of (whole (node f p)) o s ns′ ls ss r
   row-answered m h p r w i e v = built h p (w .at) r (row-tried w (h .lent) (λ x z. plain v x) e m i)
 
 -- the kinds of signs and of binders are below those of literals

@@ -16,6 +16,7 @@ use Rattle.reading.specs.Reading.{form, refusal, Reading, Success, Refus
 use Rattle.reading.specs.State.{State, state, held, Within}
 use Rattle.reading.specs.declared.Cursor.{Cursor}
 use Rattle.reading.specs.declared.Read.{Read}
+use Rattle.reading.specs.declared.Terms.{Terms}
 
 -- one token further
 abbrev pub next : Cursor → Cursor
@@ -51,10 +52,10 @@ Took ts c x (Read.Refused q) = (kind ts (c .at) ≡ x → ⊥) × (q ≡ record 
 pub record Consumed (ts : List ℕ) (c : Cursor) (x : ℕ) (r : Read) : Type 0 where
   pub says : Took ts c x r
 
-module _ (ts : List ℕ) (limit : ℕ) where
+module _ (ts : List ℕ) (terms : Terms) where
   unfoldable pub Answer-case : (Node → Handle) → Aim Table Label → ℕ → State → (nodes links scratch : List ℕ) → Read → Type 0
-  Answer-case h g o s ns ls ss (Read.Node n c) = Success ts limit g o s (h n ∷ []) (state ns ls ss c)
-  Answer-case h g o s ns ls ss (Read.Refused q) = Refusing ts limit (form g) o s (refusal q)
+  Answer-case h g o s ns ls ss (Read.Node n c) = Success ts terms g o s (h n ∷ []) (state ns ls ss c)
+  Answer-case h g o s ns ls ss (Read.Refused q) = Refusing ts terms (form g) o s (refusal q)
 
   -- from s, with o openings taken, the aim is answered by r, and the rooms are these then
   pub record Answered (h : Node → Handle) (g : Aim Table Label) (o : ℕ) (s : State) (ns ls ss : List ℕ) (r : Read) : Type 0 where
@@ -63,7 +64,7 @@ module _ (ts : List ℕ) (limit : ℕ) where
   -- items were read, and are held
   pub record Listed (g : Aim Table Label) (o : ℕ) (s s₁ : State) : Type 0 where
     pub items : List Handle
-    pub reading : Reading ts limit g o s items [] (holding (s .cursor .held) s₁)
+    pub reading : Reading ts terms g o s items [] (holding (s .cursor .held) s₁)
     pub count : s₁ .cursor .held ≡ s .cursor .held + length items
     pub rows : held s₁ ≡ held s ++ links-of items
     pub within : Within ts s₁
@@ -71,7 +72,7 @@ module _ (ts : List ℕ) (limit : ℕ) where
 
   unfoldable pub List-case : Aim Table Label → ℕ → State → (nodes links scratch : List ℕ) → Read → Type 0
   List-case g o s ns ls ss (Read.Node n c) = (n ≡ blank) × Listed g o s (state ns ls ss c)
-  List-case g o s ns ls ss (Read.Refused q) = Refusing ts limit (form g) o s (refusal q)
+  List-case g o s ns ls ss (Read.Refused q) = Refusing ts terms (form g) o s (refusal q)
 
   pub record Lists (g : Aim Table Label) (o : ℕ) (s : State) (ns ls ss : List ℕ) (r : Read) : Type 0 where
     pub says : List-case g o s ns ls ss r
@@ -79,7 +80,7 @@ module _ (ts : List ℕ) (limit : ℕ) where
   -- a block's statements were read: n has the tail's row, or absent, and the others are held
   pub record Filled (o : ℕ) (s : State) (n : Node) (s₁ : State) : Type 0 where
     pub items : List Handle
-    pub reading : Reading ts limit (whole (chain empty block-items)) o s items [] (holding (s .cursor .held) s₁)
+    pub reading : Reading ts terms (whole (chain empty block-items)) o s items [] (holding (s .cursor .held) s₁)
     pub tail : n .id ≡ row (block-tail items)
     pub start-is : n .start ≡ 0
     pub end-is : n .end ≡ 0
@@ -90,7 +91,7 @@ module _ (ts : List ℕ) (limit : ℕ) where
 
   unfoldable pub Fill-case : ℕ → State → (nodes links scratch : List ℕ) → Read → Type 0
   Fill-case o s ns ls ss (Read.Node n c) = Filled o s n (state ns ls ss c)
-  Fill-case o s ns ls ss (Read.Refused q) = Refusing ts limit (chain empty block-items) o s (refusal q)
+  Fill-case o s ns ls ss (Read.Refused q) = Refusing ts terms (chain empty block-items) o s (refusal q)
 
   pub record Fills (o : ℕ) (s : State) (ns ls ss : List ℕ) (r : Read) : Type 0 where
     pub says : Fill-case o s ns ls ss r
@@ -101,11 +102,11 @@ module _ (ts : List ℕ) (limit : ℕ) where
     pub row-is : row handle ≡ n .id
     pub start-is : n .start ≡ 0
     pub tail-is : row (tail-of handle) ≡ n .end
-    pub success : Success ts limit (whole (choice statement)) o s (handle ∷ []) s′
+    pub success : Success ts terms (whole (choice statement)) o s (handle ∷ []) s′
 
   unfoldable pub State-case : ℕ → State → (nodes links scratch : List ℕ) → Read → Type 0
   State-case o s ns ls ss (Read.Node n c) = Stated o s n (state ns ls ss c)
-  State-case o s ns ls ss (Read.Refused q) = Refusing ts limit (choice statement) o s (refusal q)
+  State-case o s ns ls ss (Read.Refused q) = Refusing ts terms (choice statement) o s (refusal q)
 
   pub record States (o : ℕ) (s : State) (ns ls ss : List ℕ) (r : Read) : Type 0 where
     pub says : State-case o s ns ls ss r

@@ -1,6 +1,6 @@
 -- What the functions answer that read no phrase by themselves: after a list's item, after a statement, and for a kind.
 use Prim.Native.Nat.{ℕ, _+_, _*_, _-_, _≤_, _<_}
-use mathlib.Core.Bool.{cond}
+use mathlib.Core.Bool.{Bool, cond}
 use mathlib.Core.List.{List, [], _∷_}
 use mathlib.Core.Logic.{_⊎_}
 use mathlib.Core.Path.{_≡_}
@@ -8,13 +8,14 @@ use lib.Dec.{eqb}
 use lib.ListN.{length, take, drop}
 use Rattle.ast.specs.Written.{Written}
 use Rattle.ast.specs.declared.Node.{Node}
+use Rattle.grammar.specs.Edition.{Edition, edition}
 use Rattle.grammar.specs.Handle.{absent}
-use Rattle.grammar.specs.Kaori.{Form, Table, look, import, block, conditional, function, while-loop, leaf, return, binding, assignment, may-end, must-end}
+use Rattle.grammar.specs.Kaori.{Form, Table, look, kaori, expression, group, grouping, reference, calls, returned, import, block, conditional, function, while-loop, leaf, return, binding, assignment, may-end, must-end}
 use Rattle.grammar.specs.Kind.{Plus, Minus, Caret, Comma, Pipe, LeftParen, RightParen, Not, LeftBrace, RightBrace, And, Or, Let, Const, Ref, Function, For}
 use Rattle.grammar.specs.Kind.{While, Break, Continue, If, Return, Import, True, False, Nil, NumberLiteral, Semicolon, StringLiteral, Identifier}
 use Rattle.grammar.specs.Label.{Node as Form-of}
 use Rattle.grammar.specs.Operator.{place, binary-operators}
-use Rattle.grammar.specs.Phrase.{refusal}
+use Rattle.grammar.specs.Phrase.{empty, chain, refusal}
 use Rattle.grammar.specs.Room.{link-width}
 use Rattle.grammar.specs.Token.{kind}
 use Rattle.reading.specs.Answers.{next}
@@ -53,6 +54,21 @@ pub record Gathered (base : ℕ) (c : Cursor) (scratch before after : List ℕ) 
   pub cursor : d ≡ record { at = c .at; nodes = c .nodes; links = c .links + (c .held - base); held = base }
   pub links : link-width * d .links ≤ length before → Written (3 * c .links) (3 * (c .links + (c .held - base))) (take (3 * (c .held - base)) (drop (3 * base) scratch)) before after
   pub kept : length before < link-width * d .links → after ≡ before
+
+-- whether a `return` stands alone before a token of kind x, or what it returns is read
+pub record Bare (n x : ℕ) (r : Bool) : Type 0 where
+  pub form : kaori (edition n) returned x ≡ cond r empty expression
+
+-- what a chain starts with, by the kind of its first token, and with what may follow it in an edition
+unfoldable pub head-form : ℕ → Form
+head-form x = cond (eqb x LeftParen) group (leaf Form-of.Identifier Identifier)
+
+unfoldable pub chained-form : Edition → ℕ → Form
+chained-form e x = cond (eqb x LeftParen) (grouping e) reference
+
+-- whether it stands alone in the edition that is named, or calls and dots may follow
+pub record Lone (n x : ℕ) (r : Bool) : Type 0 where
+  pub form : chained-form (edition n) x ≡ cond r (head-form x) (chain (head-form x) calls)
 
 -- the form of a statement that starts with a token of this kind, and what ends it
 abbrev pub forms : List (ℕ × Form)

@@ -9,6 +9,7 @@ use Rattle.grammar.specs.Rows.{Rows}
 use Rattle.grammar.specs.Space.{Space}
 use Rattle.grammar.specs.Token.{count}
 use Rattle.reading.specs.declared.Cursor.{Cursor}
+use Rattle.reading.specs.declared.Terms.{Terms}
 
 pub record State : Type 0 where
   pub nodes : List ℕ
@@ -59,14 +60,14 @@ pub record Within (ts : List ℕ) (s : State) : Type 0 where
   pub stack : 2 * s .cursor .held ≤ s .cursor .at + 1
 
 -- what a reader asks, with o openings taken
-pub record Ready (ts : List ℕ) (limit o : ℕ) (s : State) : Type 0 where
+pub record Ready (ts : List ℕ) (terms : Terms) (o : ℕ) (s : State) : Type 0 where
   pub lent : Lent ts
-  pub deep : o ≤ limit
+  pub deep : o ≤ terms .limit
   pub within : Within ts s
 
 -- and a reader of a list, whose opener has paid for one item more
-pub record Opened (ts : List ℕ) (limit o : ℕ) (s : State) : Type 0 where
-  pub ready : Ready ts limit o s
+pub record Opened (ts : List ℕ) (terms : Terms) (o : ℕ) (s : State) : Type 0 where
+  pub ready : Ready ts terms o s
   pub spare : 2 * s .cursor .held ≤ s .cursor .at
 
 -- the rooms are as long as they were, and where the rows stood in them they do

@@ -1,6 +1,7 @@
 // Nodes of one token, and a dot with its name.
 use crate::Cursor;
 use crate::Read;
+use crate::Terms;
 use crate::lists::consume;
 use crate::lists::name;
 use crate::pieces::made;
@@ -44,14 +45,14 @@ pub fn single(
     nodes: &mut [u32],
     links: &mut [u32],
     scratch: &mut [u32],
-    limit: u32,
+    terms: Terms,
     depth: u32,
     cur: Cursor,
     kind: u32,
 ) -> Read
     requires { ⌜ Single kind ⌝ }
-    requires { ⌜ ready tokens nodes links scratch limit depth cur ⌝ }
-    ensures { λ r. ⌜ answered node-of (whole (form.leaf (single-node kind) kind)) tokens nodes links scratch limit depth cur r ⌝ }
+    requires { ⌜ ready tokens nodes links scratch terms depth cur ⌝ }
+    ensures { λ r. ⌜ answered node-of (whole (form.leaf (single-node kind) kind)) tokens nodes links scratch terms depth cur r ⌝ }
 {
     let read = consume(tokens, cur, kind);
     let Read::Node(place, next) = read else {
@@ -69,12 +70,12 @@ pub fn string(
     nodes: &mut [u32],
     links: &mut [u32],
     scratch: &mut [u32],
-    limit: u32,
+    terms: Terms,
     depth: u32,
     cur: Cursor,
 ) -> Read
-    requires { ⌜ ready tokens nodes links scratch limit depth cur ⌝ }
-    ensures { λ r. ⌜ answered node-of (whole (form.leaf Label.String StringLiteral)) tokens nodes links scratch limit depth cur r ⌝ }
+    requires { ⌜ ready tokens nodes links scratch terms depth cur ⌝ }
+    ensures { λ r. ⌜ answered node-of (whole (form.leaf Label.String StringLiteral)) tokens nodes links scratch terms depth cur r ⌝ }
 {
     let read = consume(tokens, cur, kinds::STRING_LITERAL);
     let Read::Node(place, next) = read else {
@@ -97,14 +98,14 @@ pub fn identifier(
     nodes: &mut [u32],
     links: &mut [u32],
     scratch: &mut [u32],
-    limit: u32,
+    terms: Terms,
     depth: u32,
     cur: Cursor,
 ) -> Read
-    requires { ⌜ ready tokens nodes links scratch limit depth cur ⌝ }
-    ensures { λ r. ⌜ answered node-of (whole (form.leaf Label.Identifier Identifier)) tokens nodes links scratch limit depth cur r ⌝ }
+    requires { ⌜ ready tokens nodes links scratch terms depth cur ⌝ }
+    ensures { λ r. ⌜ answered node-of (whole (form.leaf Label.Identifier Identifier)) tokens nodes links scratch terms depth cur r ⌝ }
 {
-    let read = name(tokens, nodes, links, scratch, limit, depth, cur);
+    let read = name(tokens, nodes, links, scratch, terms, depth, cur);
     let Read::Node(word, next) = read else {
         return read;
     };
@@ -120,20 +121,20 @@ pub fn property_access(
     nodes: &mut [u32],
     links: &mut [u32],
     scratch: &mut [u32],
-    limit: u32,
+    terms: Terms,
     depth: u32,
     cur: Cursor,
     object: Node,
 ) -> Read
     requires { ⌜ kind (now tokens) (cur .at) ≡ Dot ⌝ }
-    requires { ⌜ ready tokens nodes links scratch limit depth cur ⌝ }
-    ensures { λ r. ⌜ onward called object (cur .at + 1) tokens nodes links scratch limit depth cur r ⌝ }
+    requires { ⌜ ready tokens nodes links scratch terms depth cur ⌝ }
+    ensures { λ r. ⌜ onward called object (cur .at + 1) tokens nodes links scratch terms depth cur r ⌝ }
 {
     let read = consume(tokens, cur, kinds::DOT);
     let Read::Node(dot, next) = read else {
         return read;
     };
-    let read = name(tokens, nodes, links, scratch, limit, depth, next);
+    let read = name(tokens, nodes, links, scratch, terms, depth, next);
     let Read::Node(word, end) = read else {
         return read;
     };

@@ -16,6 +16,12 @@ pub struct Cursor {
     pub nodes: usize,
 }
 
+// What a caller names for a reading: the edition, and how many openings may be taken at a place.
+pub struct Terms {
+    pub edition: u32,
+    pub limit: u32,
+}
+
 // Why the reading ends: the code, the token, and the kind that was required there (255: no certain kind).
 pub struct Refusal {
     pub code: u32,

@@ -2,6 +2,7 @@
 use crate::Cursor;
 use crate::Read;
 use crate::Refusal;
+use crate::Terms;
 use crate::codes;
 use crate::pieces::made_list;
 use crate::pieces::no_room;
@@ -102,12 +103,12 @@ pub fn name(
     nodes: &mut [u32],
     links: &mut [u32],
     scratch: &mut [u32],
-    limit: u32,
+    terms: Terms,
     depth: u32,
     cur: Cursor,
 ) -> Read
-    requires { ⌜ ready tokens nodes links scratch limit depth cur ⌝ }
-    ensures { λ r. ⌜ answered name-of (whole form.name) tokens nodes links scratch limit depth cur r ⌝ }
+    requires { ⌜ ready tokens nodes links scratch terms depth cur ⌝ }
+    ensures { λ r. ⌜ answered name-of (whole form.name) tokens nodes links scratch terms depth cur r ⌝ }
 {
     let read = consume(tokens, cur, kinds::IDENTIFIER);
     let Read::Node(place, next) = read else {
@@ -132,16 +133,16 @@ fn listed(
     nodes: &mut [u32],
     links: &mut [u32],
     scratch: &mut [u32],
-    limit: u32,
+    terms: Terms,
     depth: u32,
     cur: Cursor,
     closer: u32,
 ) -> Read
     requires { ⌜ Closer closer ⌝ }
-    requires { ⌜ ready tokens nodes links scratch limit depth cur ⌝ }
-    ensures { λ r. ⌜ answered name-of (whole (part form.name (choice (form.comma closer)))) tokens nodes links scratch limit depth cur r ⌝ }
+    requires { ⌜ ready tokens nodes links scratch terms depth cur ⌝ }
+    ensures { λ r. ⌜ answered name-of (whole (part form.name (choice (form.comma closer)))) tokens nodes links scratch terms depth cur r ⌝ }
 {
-    let read = name(tokens, nodes, links, scratch, limit, depth, cur);
+    let read = name(tokens, nodes, links, scratch, terms, depth, cur);
     let Read::Node(item, end) = read else {
         return read;
     };
@@ -155,14 +156,14 @@ pub fn names(
     nodes: &mut [u32],
     links: &mut [u32],
     scratch: &mut [u32],
-    limit: u32,
+    terms: Terms,
     depth: u32,
     cur: Cursor,
     closer: u32,
 ) -> Read
     requires { ⌜ Closer closer ⌝ }
-    requires { ⌜ opened tokens nodes links scratch limit depth cur ⌝ }
-    ensures { λ r. ⌜ lists (whole (chain empty (form.names closer))) tokens nodes links scratch limit depth cur r ⌝ }
+    requires { ⌜ opened tokens nodes links scratch terms depth cur ⌝ }
+    ensures { λ r. ⌜ lists (whole (chain empty (form.names closer))) tokens nodes links scratch terms depth cur r ⌝ }
 {
     let mut now = cur;
     'list: loop {
@@ -171,7 +172,7 @@ pub fn names(
         if kind == closer || kind == kinds::EOF {
             break 'list;
         }
-        let read = listed(tokens, nodes, links, scratch, limit, depth, now, closer);
+        let read = listed(tokens, nodes, links, scratch, terms, depth, now, closer);
         let Read::Node(item, end) = read else {
             return read;
         };
@@ -200,12 +201,12 @@ fn step(
     nodes: &mut [u32],
     links: &mut [u32],
     scratch: &mut [u32],
-    limit: u32,
+    terms: Terms,
     depth: u32,
     cur: Cursor,
 ) -> Read
-    requires { ⌜ opened tokens nodes links scratch limit depth cur ⌝ }
-    ensures { λ r. ⌜ lists (whole (choice form.path-name)) tokens nodes links scratch limit depth cur r ⌝ }
+    requires { ⌜ opened tokens nodes links scratch terms depth cur ⌝ }
+    ensures { λ r. ⌜ lists (whole (choice form.path-name)) tokens nodes links scratch terms depth cur r ⌝ }
 {
     let at = cur.at;
     if kind_at(tokens, at) == kinds::EOF {
@@ -218,7 +219,7 @@ fn step(
             cur,
         );
     }
-    let read = name(tokens, nodes, links, scratch, limit, depth, cur);
+    let read = name(tokens, nodes, links, scratch, terms, depth, cur);
     let Read::Node(item, end) = read else {
         return read;
     };
@@ -246,14 +247,14 @@ fn path(
     nodes: &mut [u32],
     links: &mut [u32],
     scratch: &mut [u32],
-    limit: u32,
+    terms: Terms,
     depth: u32,
     cur: Cursor,
 ) -> Read
-    requires { ⌜ opened tokens nodes links scratch limit depth cur ⌝ }
-    ensures { λ r. ⌜ lists (whole (chain (choice form.path-name) form.dots)) tokens nodes links scratch limit depth cur r ⌝ }
+    requires { ⌜ opened tokens nodes links scratch terms depth cur ⌝ }
+    ensures { λ r. ⌜ lists (whole (chain (choice form.path-name) form.dots)) tokens nodes links scratch terms depth cur r ⌝ }
 {
-    let read = step(tokens, nodes, links, scratch, limit, depth, cur);
+    let read = step(tokens, nodes, links, scratch, terms, depth, cur);
     let Read::Node(_, first) = read else {
         return read;
     };
@@ -269,7 +270,7 @@ fn path(
             links: now.links,
             nodes: now.nodes,
         };
-        let turn = step(tokens, nodes, links, scratch, limit, depth, next);
+        let turn = step(tokens, nodes, links, scratch, terms, depth, next);
         let Read::Node(_, end) = turn else {
             return turn;
         };
@@ -291,12 +292,12 @@ fn bindings(
     nodes: &mut [u32],
     links: &mut [u32],
     scratch: &mut [u32],
-    limit: u32,
+    terms: Terms,
     depth: u32,
     cur: Cursor,
 ) -> Read
-    requires { ⌜ ready tokens nodes links scratch limit depth cur ⌝ }
-    ensures { λ r. ⌜ lists (whole (choice form.bindings)) tokens nodes links scratch limit depth cur r ⌝ }
+    requires { ⌜ ready tokens nodes links scratch terms depth cur ⌝ }
+    ensures { λ r. ⌜ lists (whole (choice form.bindings)) tokens nodes links scratch terms depth cur r ⌝ }
 {
     let at = cur.at;
     if kind_at(tokens, at) != kinds::COLON {
@@ -316,7 +317,7 @@ fn bindings(
         nodes: cur.nodes,
     };
     let closer = kinds::SEMICOLON;
-    names(tokens, nodes, links, scratch, limit, depth, next, closer)
+    names(tokens, nodes, links, scratch, terms, depth, next, closer)
 }
 
 // An import: its span ends with the token after it. It asks `Ready`.
@@ -326,22 +327,22 @@ pub fn import(
     nodes: &mut [u32],
     links: &mut [u32],
     scratch: &mut [u32],
-    limit: u32,
+    terms: Terms,
     depth: u32,
     cur: Cursor,
 ) -> Read
-    requires { ⌜ ready tokens nodes links scratch limit depth cur ⌝ }
-    ensures { λ r. ⌜ answered node-of (whole form.import) tokens nodes links scratch limit depth cur r ⌝ }
+    requires { ⌜ ready tokens nodes links scratch terms depth cur ⌝ }
+    ensures { λ r. ⌜ answered node-of (whole form.import) tokens nodes links scratch terms depth cur r ⌝ }
 {
     let read = consume(tokens, cur, kinds::IMPORT);
     let Read::Node(lead, next) = read else {
         return read;
     };
-    let read = path(tokens, nodes, links, scratch, limit, depth, next);
+    let read = path(tokens, nodes, links, scratch, terms, depth, next);
     let Read::Node(_, middle) = read else {
         return read;
     };
-    let read = bindings(tokens, nodes, links, scratch, limit, depth, middle);
+    let read = bindings(tokens, nodes, links, scratch, terms, depth, middle);
     let Read::Node(_, end) = read else {
         return read;
     };

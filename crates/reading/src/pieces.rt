@@ -6,6 +6,7 @@ use crate::codes;
 use ast::ABSENT;
 use ast::LINK_WIDTH;
 use ast::Node;
+use token::editions;
 use token::kinds;
 use token::list::kind_at;
 use token::ops::operator_of;
@@ -18,7 +19,7 @@ ghost use Rattle.grammar.specs.Handle.{absent};
 ghost use Rattle.grammar.specs.Label.{number-of};
 ghost use Rattle.grammar.specs.Operator.{joining};
 ghost use Rattle.grammar.specs.Token.{count};
-ghost use Rattle.reading.specs.Parts.{no-room, Makes, Makes-list, Ended, Untailed, binding-node, joined-fields};
+ghost use Rattle.reading.specs.Parts.{no-room, Makes, Makes-list, Ended, Untailed, Bare, Lone, binding-node, joined-fields};
 ghost use Rattle.reading.specs.declared.Read.{Read};
 
 // The row of two operands and the operator of this kind between them. It asks that its number is below absent.
@@ -178,4 +179,29 @@ pub fn untailed(tail: u32, cur: Cursor) -> Read
         nodes: cur.nodes,
     };
     Read::Node(list, past)
+}
+
+// Whether a `return` stands alone before a token of this kind: in edition 2 it does before `;` and `}`.
+// Ruled out: a `return` alone in edition 1; one that is alone at Eof.
+pub fn bare(edition: u32, kind: u32) -> bool
+    ensures { λ r. ⌜ Bare edition kind r ⌝ }
+{
+    if edition != editions::SECOND {
+        return false;
+    }
+    kind == kinds::SEMICOLON || kind == kinds::RIGHT_BRACE
+}
+
+// Whether nothing may follow what a chain could start with, by the kind of its first token: so it is with parentheses in edition 1.
+// Ruled out: a name that stands alone; parentheses that do in edition 2.
+pub fn lone(edition: u32, kind: u32) -> bool
+    ensures { λ r. ⌜ Lone edition kind r ⌝ }
+{
+    if kind != kinds::LEFT_PAREN {
+        return false;
+    }
+    if edition == editions::SECOND {
+        return false;
+    }
+    true
 }

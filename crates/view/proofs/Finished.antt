@@ -10,6 +10,7 @@ use Rattle.grammar.specs.Answer.{success, rooms-filled}
 use Rattle.grammar.specs.Builtin.{Builtins}
 use Rattle.grammar.specs.Call.{Call}
 use Rattle.grammar.specs.Door.{Admitted}
+use Rattle.grammar.specs.Edition.{Edition, edition}
 use Rattle.grammar.specs.Handle.{absent}
 use Rattle.grammar.specs.Label.{Node, number-of}
 use Rattle.grammar.specs.Outcome.{accepted, Comes}
@@ -30,10 +31,10 @@ use Rattle.view.specs.declared.SpanAnswer.{SpanAnswer}
 number-at : (before ys after : List ℕ) (row i : ℕ) → node-width * row ≡ length before → number ((before ++ ys) ++ after) row i ≡ getD (ys ++ after) i 0
 number-at before ys after row i e = rw (e, append-assoc before ys after) (getD-append-add before (ys ++ after) i 0)
 
-accepted-whole : {names : Builtins} {text ts ss : List ℕ} {limit room : ℕ} {space : Space} {w : Rows} → Comes names text ts limit space room (accepted w ss) → Whole w
-accepted-whole {names} {text} {ts} (Comes.read x h i j) = written-whole ts (symbol names text ts) x
+accepted-whole : {e : Edition} {names : Builtins} {text ts ss : List ℕ} {limit room : ℕ} {space : Space} {w : Rows} → Comes e names text ts limit space room (accepted w ss) → Whole w
+accepted-whole {e} {names} {text} {ts} (Comes.read x h i j) = written-whole e ts (symbol names text ts) x
 
-module _ {c : Call} {w : Rows} {ss : List ℕ} (d : Admitted c) (o : Comes (c .names) (c .text) (c .tokens) (c .limit) (space-of (c .rooms)) (length (c .rooms .symbols)) (accepted w ss)) where
+module _ {c : Call} {w : Rows} {ss : List ℕ} (d : Admitted c) (o : Comes (edition (c .edition)) (c .names) (c .text) (c .tokens) (c .limit) (space-of (c .rooms)) (length (c .rooms .symbols)) (accepted w ss)) where
   abbrev nodes : List ℕ
   nodes = rooms-filled w ss (c .rooms) .nodes
 

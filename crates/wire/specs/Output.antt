@@ -22,7 +22,7 @@ blank-rooms = record {
 }
 
 abbrev pub call : (text ts : List ℕ) → Call
-call text ts = record { names = none; text = text; tokens = ts; limit = 64; rooms = blank-rooms }
+call text ts = record { names = none; text = text; tokens = ts; edition = 1; limit = 64; rooms = blank-rooms }
 
 -- for an input this may be printed: one output and no other (`one-output`)
 pub data Outputs (input : List ℕ) : List ℕ → Type 0 where

@@ -6,6 +6,7 @@ use mathlib.Core.List.{List}
 use mathlib.Core.Logic.{⊎-elim}
 use mathlib.Core.Path.{_≡_, refl, _∙_}
 use lib.ListN.{getD}
+use Rattle.grammar.specs.Edition.{Edition}
 use Rattle.grammar.specs.Layout.{layout}
 use Rattle.grammar.proofs.Pieces.{pieces, left-pair, left-binding, none-below, left-none}
 use Rattle.children.specs.Below.{placed, Below}
@@ -30,7 +31,7 @@ xs m = after (ns m) (row m)
 room : (m : tie.After-node4) → Inside (ns m) (row m)
 room m = m .before .before .before .before .if1 .left
 
-met : (m : tie.After-node4) {r : Children} → r ≡ placed (layout (k m)) (xs m) → Below (ns m) (row m) r
+met : (m : tie.After-node4) {r : Children} → r ≡ placed (layout Edition.second (k m)) (xs m) → Below (ns m) (row m) r
 met m e = by-kind (row m) (room m) (m .node4 .ensures) e
 
 -- the first three of them

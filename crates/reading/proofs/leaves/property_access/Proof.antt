@@ -2,6 +2,7 @@
 use borrow.Author.Needs.{needs}
 use native.Mathlib.Omega.{arith}
 use mathlib.Core.Path.{ap}
+use Rattle.grammar.specs.Edition.{edition}
 use Rattle.grammar.specs.Kaori.{calls, rules, kaori}
 use Rattle.grammar.specs.Kind.{Dot}
 use Rattle.reading.proofs.Refusals as Refuses
@@ -32,19 +33,19 @@ part c = success (c .before .read2 .given .1) (to-name c .name .ensures)
 
 returns : tie.Need-returns
 unfolding kaori rules
-returns c =
+returns c p =
     let s = c .before .before .before .before .before .before .before in
     let k = s .pre .0 in
-    stops-lacking (c .enum-told .given .1) (c .before .before .consume .ensures) (λ s b n. further b (ap (kaori calls) k) (Refuses.missing n))
+    stops-lacking (c .enum-told .given .1) (c .before .before .consume .ensures) (λ s′ b n. further b (ap (kaori (edition (s .args .terms .edition)) calls) k) (Refuses.missing n))
 
 returns-2 : tie.Need-returns-2
-returns-2 c =
+returns-2 c p =
     let d = c .before .before .before .before .before .before .before .before .before .before .before .before in
     let z = d in
     property-refused (to-start d .pre .1) (dot z) (c .enum-told2 .given .1) (c .before .before .before .before .before .before .before .before .name .ensures)
 
 returns-3 : tie.Need-returns-3
-returns-3 c =
+returns-3 c p =
     let d = c .before .before .before .before .before in
     let z = d in
     property-read (to-start (to-dot d) .pre .1) (dot (to-dot d)) (c .made .ensures) (part z) (c .before .before .before .property-access .ensures)

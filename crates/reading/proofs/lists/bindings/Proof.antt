@@ -22,7 +22,7 @@ colon c = rw (c .before .kind-at .ensures) at (c .if1 .left)
 
 returns : tie.Need-returns
 unfolding rules
-returns c = lists-nothing (c .before .before .before .before .before .before .pre) (unkeyed bindings _ refl (rw (c .before .kind-at .ensures) at (c .if1 .taken)))
+returns c = lists-nothing (c .before .before .before .before .before .before .pre) (unkeyed _ bindings _ refl (rw (c .before .kind-at .ensures) at (c .if1 .taken)))
 
 names-requires : tie.Need-names-requires
 names-requires c κs = (record { known = inr (inr refl) }, opened-next (to-start (c .before .before .before) .pre) (colon (c .before .before .before)) (λ e. omega arith))
@@ -31,7 +31,7 @@ returns-2 : tie.Need-returns-2
 unfolding rules
 returns-2 c =
     let k = colon (c .before .before .before .before .before .before .before .before .before .before) in
-    let t = keyed bindings _ refl k in
+    let t = keyed _ bindings _ refl k in
     lists-mapped _ (c .before .before .before .before .before .before .names .ensures) (λ s l. listed-chosen t (listed-taken k l)) (λ q h. Refuses.in-choice t (Refuses.past-token k h))
 
 pub bindings-spec : {M : Type 1} → statement M

@@ -18,11 +18,11 @@ use Rattle.reading.proofs.lists.names.Statement.{statement}
 use Rattle.reading.proofs.lists.names.Tie as tie
 
 abbrev Inv-list : tie.InvT-list
-Inv-list tokens nodes₀ links₀ scratch₀ limit depth closer now₀ nodes links scratch now = Listing tokens limit (names closer) depth (state nodes₀ links₀ scratch₀ now₀)
+Inv-list tokens nodes₀ links₀ scratch₀ terms depth closer now₀ nodes links scratch now = Listing tokens terms (names closer) depth (state nodes₀ links₀ scratch₀ now₀)
     (state nodes links scratch now)
 
 abbrev μ-list : tie.MeasureT-list
-μ-list tokens nodes₀ links₀ scratch₀ limit depth closer now₀ nodes links scratch now = count tokens - now .at
+μ-list tokens nodes₀ links₀ scratch₀ terms depth closer now₀ nodes links scratch now = count tokens - now .at
 
 -- back from where one part is known to where the one before it is
 abbrev to-start : tie.At-list Inv-list μ-list → tie.Start Inv-list μ-list
@@ -39,7 +39,7 @@ on : (c : tie.Else2 Inv-list μ-list) → Item-of (c .before .before .before .li
 unfolding rules
 on c =
     let k = c .before .before .kind-at .ensures in
-    items-on (names _) _ refl (⊎-elim (rw k at (c .before .if1 .left)) (rw k at (eqb-false (c .before .before .kind-at .result) Eof (c .if2 .left))))
+    items-on _ (names _) _ refl (⊎-elim (rw k at (c .before .if1 .left)) (rw k at (eqb-false (c .before .before .kind-at .result) Eof (c .if2 .left))))
 
 -- where listed has answered: what that says
 item : (c : tie.After-known-told Inv-list μ-list) → Told (to-listed c .listed .ensures) (c .before .read .given .0 .0) (c .before .read .given .0 .1 .0)
@@ -67,12 +67,12 @@ returns-2 c =
     let p = to-start (c .before .before) .pre in
     let k = c .before .kind-at .ensures in
     lists (listing-end (c .before .before .list .inv)
-    (items-end (names _) _ refl (⊎-elim (λ w. inl (rw k at (w .taken))) (λ w. inr (rw k at (eqb-true (c .before .kind-at .result) Eof (w .1 .taken)))) (c .if1 .came))))
+    (items-end _ (names _) _ refl (⊎-elim (λ w. inl (rw k at (w .taken))) (λ w. inr (rw k at (eqb-true (c .before .kind-at .result) Eof (w .1 .taken)))) (c .if1 .came))))
 
 pub names-spec : {M : Type 1} → statement M
 names-spec =
     tie.close
-    (tie.spec Inv-list μ-list (λ c. let p = c .before .before .before .before .pre .1 in listing-none (names-list _) p) (λ c κs. search needs) (λ c κs. search needs) (λ c. search needs)
+    (tie.spec Inv-list μ-list (λ c. let p = c .before .before .before .before .pre .1 in listing-none (names-list _ _) p) (λ c κs. search needs) (λ c κs. search needs) (λ c. search needs)
     (λ c. search needs) (λ c. search needs) (λ c. search needs) (λ c. search needs) returns (λ c κs. hold-room (item (c .before) .within))
     (λ c. let d = c .before .before .before .before in omega (arith, hold-number (item d .within) (to-start (to-on d .before .before .before) .pre .1 .ready .lent))) list-less list-again
     (λ c. search needs) (λ c. search needs) (λ c. search needs) returns-2)

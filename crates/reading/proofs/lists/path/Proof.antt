@@ -3,13 +3,14 @@ use Prim.Native.Nat.{_-_}
 use borrow.Author.Needs.{needs}
 use native.Mathlib.Omega.{arith}
 use mathlib.Core.Path.{_≡_, refl}
-use Rattle.grammar.specs.Kaori.{path-name, dots, rules, kaori}
+use Rattle.grammar.specs.Kaori.{path-name, dots, rules}
 use Rattle.grammar.specs.Kind.{Dot}
 use Rattle.grammar.specs.Label.{Label}
 use Rattle.grammar.specs.Phrase.{token, node, choice}
 use Rattle.reading.proofs.Refusals as Refuses
 use Rattle.grammar.specs.Token.{kind, count}
 use Rattle.grammar.proofs.Tables.{keyed, unkeyed}
+use Rattle.reading.specs.Reading.{tables}
 use Rattle.reading.specs.State.{state, Rooms}
 use Rattle.reading.proofs.Laws.{rooms-on, opened-next, ready-on}
 use Rattle.reading.proofs.Listings.{Held, listed-rooms, Longer, longer-none, longer-on, listed-first, listed-taken, listed-ended, lists, lists-passed-list}
@@ -18,11 +19,11 @@ use Rattle.reading.proofs.lists.path.Statement.{statement}
 use Rattle.reading.proofs.lists.path.Tie as tie
 
 abbrev Inv-path : tie.InvT-path
-Inv-path tokens nodes₀ links₀ scratch₀ limit depth now₀ nodes links scratch now = Longer tokens limit (choice path-name) dots depth (state nodes₀ links₀ scratch₀ now₀)
+Inv-path tokens nodes₀ links₀ scratch₀ terms depth now₀ nodes links scratch now = Longer tokens terms (choice path-name) dots depth (state nodes₀ links₀ scratch₀ now₀)
     (state nodes links scratch now)
 
 abbrev μ-path : tie.MeasureT-path
-μ-path tokens nodes₀ links₀ scratch₀ limit depth now₀ nodes links scratch now = count tokens - now .at
+μ-path tokens nodes₀ links₀ scratch₀ terms depth now₀ nodes links scratch now = count tokens - now .at
 
 -- back from where one part is known to where the one before it is
 abbrev to-start : tie.After-known-told Inv-path μ-path → tie.Start Inv-path μ-path
@@ -41,10 +42,10 @@ to-dot c = c .before .before .before .before .before .before .before .before .be
 dot : (c : tie.Else1 Inv-path μ-path) → kind (to-start (c .before .before .before) .args .tokens .now) (c .before .before .path .now .at) ≡ Dot
 dot c = rw (c .before .kind-at .ensures) at (c .if1 .left)
 
-link : (c : tie.Else1 Inv-path μ-path) → kaori dots (kind (to-start (c .before .before .before) .args .tokens .now) (c .before .before .path .now .at)) ≡ node Label.Item
+link : (c : tie.Else1 Inv-path μ-path) → tables (to-start (c .before .before .before) .args .terms) dots (kind (to-start (c .before .before .before) .args .tokens .now) (c .before .before .path .now .at)) ≡ node Label.Item
     (token Dot (choice path-name))
 unfolding rules
-link c = keyed dots _ refl (dot c)
+link c = keyed _ dots _ refl (dot c)
 
 -- where a step has answered: what that says
 started : (c : tie.After-known-told Inv-path μ-path) → Held (to-step c .step .ensures) (c .before .read .given .0 .1 .0)
@@ -85,7 +86,7 @@ returns-3 : tie.Need-returns-3 Inv-path μ-path
 unfolding rules
 returns-3 c =
     let b = started (c .before .before .before) in
-    lists (listed-ended (unkeyed dots _ refl (rw (c .before .kind-at .ensures) at (c .if1 .taken))) (c .before .before .path .inv .grown _ (listed-first b)))
+    lists (listed-ended (unkeyed _ dots _ refl (rw (c .before .kind-at .ensures) at (c .if1 .taken))) (c .before .before .path .inv .grown _ (listed-first b)))
 
 pub path-spec : {M : Type 1} → statement M
 path-spec =

@@ -30,14 +30,14 @@ item c = success (c .before .read .given .1) (to-name c .name .ensures)
 
 returns : tie.Need-returns
 unfolding rules
-returns c = lists-nothing (c .before .before .before .before .before .before .pre .ready) (keyed path-name _ refl (rw (c .before .kind-at .ensures) at (c .if1 .taken)))
+returns c = lists-nothing (c .before .before .before .before .before .before .pre .ready) (keyed _ path-name _ refl (rw (c .before .kind-at .ensures) at (c .if1 .taken)))
 
 returns-2 : tie.Need-returns-2
 unfolding rules
 returns-2 c =
     lists-passed (c .enum-told .given .1) (c .before .before .before .before .before .before .before .before .name .ensures)
     (λ x h. Refuses.in-choice
-    (unkeyed path-name _ refl
+    (unkeyed _ path-name _ refl
     (rw (c .before .before .before .before .before .before .before .before .before .before .before .before .before .kind-at .ensures) at
     (c .before .before .before .before .before .before .before .before .before .before .before .before .if1 .left))) h)
 
@@ -45,7 +45,7 @@ returns-3 : tie.Need-returns-3
 unfolding rules
 returns-3 c =
     let d = c .before .before .before .before in
-    lists (listed-chosen (unkeyed path-name _ refl (rw (to-kind-at d .kind-at .ensures) at (to-else1 d .if1 .left)))
+    lists (listed-chosen (unkeyed _ path-name _ refl (rw (to-kind-at d .kind-at .ensures) at (to-else1 d .if1 .left)))
     (name-held (to-start d .pre) (item d) (c .before .before .push .ensures) refl))
 
 pub step-spec : {M : Type 1} → statement M
