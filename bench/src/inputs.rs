@@ -1,5 +1,5 @@
 //! The scripts that are timed.
-use kaori_syntax::{LINK_WIDTH, NODE_WIDTH, OwnedBuiltins, Refusal, Rooms, SYMBOL_WIDTH, Tree};
+use kaori_syntax::{Edition, LINK_WIDTH, NODE_WIDTH, OwnedBuiltins, Refusal, Rooms, SYMBOL_WIDTH, Tree};
 
 pub struct Input {
     pub name: &'static str,
@@ -34,7 +34,9 @@ impl Input {
     ) -> Result<Tree<'a>, Refusal> {
         match self.names.is_empty() {
             true => rooms.parse(self.text.as_bytes(), tokens, limit),
-            false => rooms.parse_with(self.builtins.lend(), self.text.as_bytes(), tokens, limit),
+            false => {
+                rooms.parse_with(self.builtins.lend(), self.text.as_bytes(), tokens, Edition::FIRST, limit)
+            }
         }
     }
 
@@ -42,7 +44,7 @@ impl Input {
     pub fn read<'a>(&'a self, rooms: &'a mut Rooms, limit: u32) -> Result<Tree<'a>, Refusal> {
         match self.names.is_empty() {
             true => rooms.read(self.text.as_bytes(), limit),
-            false => rooms.read_with(self.builtins.lend(), self.text.as_bytes(), limit),
+            false => rooms.read_with(self.builtins.lend(), self.text.as_bytes(), Edition::FIRST, limit),
         }
     }
 }

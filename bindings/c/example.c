@@ -1,4 +1,4 @@
-/* Reads a script and prints what the program `rows` prints of it, and the line of a refusal: `example LIMIT < script`. */
+/* Reads a script and prints what the program `rows` prints of it, and the line of a refusal: `example LIMIT EDITION < script`. */
 #include "kaori.h"
 
 #include <inttypes.h>
@@ -7,6 +7,8 @@
 
 #define LENGTH(room) (sizeof(room) / sizeof *(room))
 
+static const uint8_t no_names[1];
+static const uint32_t no_rows[1];
 static uint8_t text[KAORI_TEXT_MAX + 1];
 static uint32_t tokens[KAORI_TOKEN_WIDTH * KAORI_TOKENS_MAX], nodes[KAORI_NODE_WIDTH * KAORI_TOKENS_MAX];
 static uint32_t links[KAORI_LINK_WIDTH * KAORI_TOKENS_MAX], symbols[KAORI_SYMBOL_WIDTH * KAORI_TOKENS_MAX];
@@ -34,10 +36,13 @@ static void explain(const uint32_t *answer, size_t length) {
 
 int main(int argc, char **argv) {
     uint32_t limit = argc > 1 ? (uint32_t)strtoul(argv[1], NULL, 10) : KAORI_LIMIT_MAX;
+    uint32_t edition = argc > 2 ? (uint32_t)strtoul(argv[2], NULL, 10) : KAORI_FIRST_EDITION;
     uint32_t answer[KAORI_ANSWER_ROOM];
     size_t length = fread(text, 1, sizeof text, stdin);
-    if (kaori_read(text, length, tokens, LENGTH(tokens), limit, nodes, LENGTH(nodes), links, LENGTH(links), symbols,
-                   LENGTH(symbols), scratch, LENGTH(scratch), answer, LENGTH(answer)) != KAORI_OK) {
+    /* beside no names: their pointers are not null */
+    if (kaori_read_with(no_names, 0, no_rows, 0, text, length, tokens, LENGTH(tokens), edition, limit, nodes, LENGTH(nodes),
+                        links, LENGTH(links), symbols, LENGTH(symbols), scratch, LENGTH(scratch), answer,
+                        LENGTH(answer)) != KAORI_OK) {
         explain(answer, length);
         return 1;
     }

@@ -32,13 +32,18 @@ enum {
    depth limit, and the most built-in names. */
 enum { KAORI_TOKENS_MAX = 4096, KAORI_TEXT_MAX = 65536, KAORI_LIMIT_MAX = 64, KAORI_NAMES_MAX = 64 };
 
+/* The editions of the language. In the second `not` takes an operand as a sign does, its span runs to the operand's end,
+   and it counts as an opening; `return` before `;` or `}` has an absent child and its own token's span; and calls and dots
+   may follow a `)` that closes an expression. */
+enum { KAORI_FIRST_EDITION = 1, KAORI_SECOND_EDITION = 2 };
+
 /* The least room for an answer of the four functions that read a script, for one of kaori_place, for one of kaori_name, and
    for a message. */
 enum { KAORI_ANSWER_ROOM = 8, KAORI_PLACE_ROOM = 3, KAORI_NAME_ROOM = 3, KAORI_MESSAGE_ROOM = 52 };
 
 /* What stands where in an answer of the four that read a script. After 0: code, three counts of rows, 0, 0, 0, 255. After
    a refusal: code, 0, 0, 0, the number of the token, where it starts and ends in the text, and the kind of token that
-   was required there, or 255. Refusals 5 and 16 have no token but a byte, and 1, 2, 3, 18 and a 4 that was not met in
+   was required there, or 255. Refusals 5 and 16 have no token but a byte, and 1, 2, 3, 18, 21 and a 4 that was not met in
    reading have no place: their numbers are then 0. */
 enum {
     KAORI_CODE,
@@ -76,14 +81,16 @@ enum {
     KAORI_PAST_TEXT = 14,      /* of kaori_place: the offset is past the text */
     KAORI_NO_NAME = 15,        /* of kaori_name: the symbol is not below the count, or its row does not fit its text */
     KAORI_NO_TOKEN = 16,       /* of kaori_read: no token starts at a byte */
-    KAORI_BAD_NAMES = 18       /* the built-in names: their text is over 65,536 bytes, they are over 64, a span is wrong, one
+    KAORI_BAD_NAMES = 18,      /* the built-in names: their text is over 65,536 bytes, they are over 64, a span is wrong, one
                                   is no identifier, or two are the same. After a 4 for scratch, before any other 4 */
+    KAORI_BAD_EDITION = 21     /* the edition is neither 1 nor 2. After 3, before any 4 */
 };
 
 /* `expected` where no certain kind was required. */
 enum { KAORI_NO_KIND = 255 };
 
-/* The absent number of a row: a block's tail, an `else`, a map entry's value, the root's parent. */
+/* The absent number of a row: a block's tail, an `else`, a map entry's value, what a `return` of edition 2 gives back, the
+   root's parent. */
 #define KAORI_ABSENT UINT32_C(4294967295)
 
 /* Kinds of tokens. */
@@ -148,7 +155,7 @@ enum {
     KAORI_NODE_BLOCK,           /* LIST of nodes, tail or absent */
     KAORI_NODE_IF,              /* condition, then, else or absent */
     KAORI_NODE_WHILE,           /* condition, block */
-    KAORI_NODE_RETURN,          /* child */
+    KAORI_NODE_RETURN,          /* child, in edition 2 or absent */
     KAORI_NODE_BREAK,           /* nothing */
     KAORI_NODE_CONTINUE,        /* nothing */
     KAORI_NODE_IMPORT           /* LIST of path names, LIST of names */
@@ -179,7 +186,7 @@ enum { KAORI_PARENT = 9 };
    by what was lent, not by the answer: of an Eof alone with the span 0, 0 and no node row the eight numbers are
    4 0 0 0 0 0 0 255, as they are for scratch. */
 
-/* Reads a script that is given as its text and its tokens.
+/* Reads a script of edition 1 that is given as its text and its tokens.
    Takes: the text; the tokens, three numbers each (kind, start, end), Eof last; the depth limit, 1 to 64; four rooms,
    whatever they hold, scratch with a row for each token and the others of any size; and a room of 8 numbers or more for
    the answer.
@@ -191,7 +198,7 @@ uint32_t kaori_parse(const uint8_t *text, size_t text_len, const uint32_t *token
                      uint32_t *nodes, size_t nodes_len, uint32_t *links, size_t links_len, uint32_t *symbols,
                      size_t symbols_len, uint32_t *scratch, size_t scratch_len, uint32_t *answer, size_t answer_len);
 
-/* Reads a script that is given as its text alone: makes its tokens, and reads them.
+/* Reads a script of edition 1 that is given as its text alone: makes its tokens, and reads them.
    Takes: the text; a room for the tokens, three numbers for each and the Eof; the rest as kaori_parse.
    Answers: the code. The token maker's refusals come first, in the order 2, 5, 16, 1; then 3, 4 and 8 to 11 as
    kaori_parse has them for the tokens that were made. 13 comes before all.
@@ -202,24 +209,25 @@ uint32_t kaori_read(const uint8_t *text, size_t text_len, uint32_t *tokens, size
                     uint32_t *nodes, size_t nodes_len, uint32_t *links, size_t links_len, uint32_t *symbols,
                     size_t symbols_len, uint32_t *scratch, size_t scratch_len, uint32_t *answer, size_t answer_len);
 
-/* The same beside built-in names: their text and their rows come first, and the rest as in kaori_parse. With no text and no
-   rows the answer is that of kaori_parse.
-   Answers: the code: 0, 1 to 11, 13 or 18. A 4 for scratch, 18 and a 4 for the built-in names' rows come in this order, after
-   3 and before 5.
-   Leaves: as kaori_parse, and after 18 and a 4 for the built-in names' rows the four rooms as they were. After 0 the symbol
-   rows begin with the built-in names', and are counted with them. */
+/* The same beside built-in names and in the edition that is named: the names' text and their rows come first, the edition
+   stands before the limit, and the rest is as in kaori_parse. In edition 1 with no names' text and no rows the answer is
+   that of kaori_parse.
+   Answers: the code: 0, 1 to 11, 13, 18 or 21. 21, a 4 for scratch, 18 and a 4 for the built-in names' rows come in this
+   order, after 3 and before 5.
+   Leaves: as kaori_parse, and after 21, 18 and a 4 for the built-in names' rows the four rooms as they were. After 0 the
+   symbol rows begin with the built-in names', and are counted with them. */
 uint32_t kaori_parse_with(const uint8_t *names, size_t names_len, const uint32_t *name_rows, size_t name_rows_len,
                           const uint8_t *text, size_t text_len, const uint32_t *tokens, size_t tokens_len,
-                          uint32_t limit, uint32_t *nodes, size_t nodes_len, uint32_t *links, size_t links_len,
-                          uint32_t *symbols, size_t symbols_len, uint32_t *scratch, size_t scratch_len,
-                          uint32_t *answer, size_t answer_len);
+                          uint32_t edition, uint32_t limit, uint32_t *nodes, size_t nodes_len, uint32_t *links,
+                          size_t links_len, uint32_t *symbols, size_t symbols_len, uint32_t *scratch,
+                          size_t scratch_len, uint32_t *answer, size_t answer_len);
 
-/* And as kaori_read: the token maker's refusals come first, then 3, 4, 18 and 8 to 11 as kaori_parse_with has them. */
+/* And as kaori_read: the token maker's refusals come first, then 3, 21, 4, 18 and 8 to 11 as kaori_parse_with has them. */
 uint32_t kaori_read_with(const uint8_t *names, size_t names_len, const uint32_t *name_rows, size_t name_rows_len,
-                         const uint8_t *text, size_t text_len, uint32_t *tokens, size_t tokens_len, uint32_t limit,
-                         uint32_t *nodes, size_t nodes_len, uint32_t *links, size_t links_len, uint32_t *symbols,
-                         size_t symbols_len, uint32_t *scratch, size_t scratch_len, uint32_t *answer,
-                         size_t answer_len);
+                         const uint8_t *text, size_t text_len, uint32_t *tokens, size_t tokens_len, uint32_t edition,
+                         uint32_t limit, uint32_t *nodes, size_t nodes_len, uint32_t *links, size_t links_len,
+                         uint32_t *symbols, size_t symbols_len, uint32_t *scratch, size_t scratch_len,
+                         uint32_t *answer, size_t answer_len);
 
 /* The text of a refusal, with no byte 0 at its end.
    Takes: the refusal's code and `expected`; the kind of the token at its place; and a room of 52 bytes or more.

@@ -210,14 +210,15 @@ static const uint32_t script_list[] = {KAORI_IDENTIFIER, 0, 4, KAORI_LEFT_PAREN,
 static uint32_t beside(rooms *r, const char *lent, const uint32_t *rows, size_t length, size_t symbols,
                        size_t scratch) {
     return kaori_parse_with((const uint8_t *)lent, strlen(lent), rows, length, (const uint8_t *)script, strlen(script),
-                            script_list, LENGTH(script_list), 64, r->nodes, LENGTH(r->nodes), r->links,
-                            LENGTH(r->links), r->symbols, symbols, r->scratch, scratch, r->answer, 8);
+                            script_list, LENGTH(script_list), KAORI_FIRST_EDITION, 64, r->nodes, LENGTH(r->nodes),
+                            r->links, LENGTH(r->links), r->symbols, symbols, r->scratch, scratch, r->answer, 8);
 }
 
 static uint32_t text_beside(rooms *r, const uint32_t *rows, size_t length, const char *text) {
     return kaori_read_with((const uint8_t *)names, strlen(names), rows, length, (const uint8_t *)text, strlen(text),
-                           r->tokens, LENGTH(r->tokens), 64, r->nodes, LENGTH(r->nodes), r->links, LENGTH(r->links),
-                           r->symbols, LENGTH(r->symbols), r->scratch, LENGTH(r->scratch), r->answer, 8);
+                           r->tokens, LENGTH(r->tokens), KAORI_FIRST_EDITION, 64, r->nodes, LENGTH(r->nodes), r->links,
+                           LENGTH(r->links), r->symbols, LENGTH(r->symbols), r->scratch, LENGTH(r->scratch), r->answer,
+                           8);
 }
 
 static int part_is(const rooms *r, uint32_t symbol, const char *bytes, size_t length) {
@@ -289,6 +290,61 @@ static void wrong_names(void) {
     EXPECT(all(r.symbols, 5, 0) && r.symbols[5] == OLD && all(r.nodes, LENGTH(r.nodes), 0));
 }
 
+/* A text in an edition, beside no names, with so many numbers of scratch; and the tokens that were made. */
+static uint32_t in_edition(rooms *r, const char *text, uint32_t edition, uint32_t limit, size_t scratch) {
+    return kaori_read_with((const uint8_t *)names, 0, name_rows, 0, (const uint8_t *)text, strlen(text), r->tokens,
+                           LENGTH(r->tokens), edition, limit, r->nodes, LENGTH(r->nodes), r->links, LENGTH(r->links),
+                           r->symbols, LENGTH(r->symbols), r->scratch, scratch, r->answer, 8);
+}
+
+static uint32_t list_in_edition(rooms *r, const char *text, size_t length, uint32_t edition, uint32_t limit) {
+    return kaori_parse_with((const uint8_t *)names, 0, name_rows, 0, (const uint8_t *)text, strlen(text), r->tokens, length,
+                            edition, limit, r->nodes, LENGTH(r->nodes), r->links, LENGTH(r->links), r->symbols,
+                            LENGTH(r->symbols), r->scratch, LENGTH(r->scratch), r->answer, 8);
+}
+
+static int row_is(const rooms *r, uint32_t row, uint32_t kind, uint32_t start, uint32_t end, uint32_t first) {
+    const uint32_t *numbers = r->nodes + KAORI_NODE_WIDTH * row;
+    return numbers[0] == kind && numbers[1] == start && numbers[2] == end && numbers[3] == first;
+}
+
+/* What the second edition has and the first has not, and what is no edition. */
+static void editions(void) {
+    static const uint32_t none[] = {0, 3, 255, KAORI_ABSENT};
+    rooms r = fresh(), plain = fresh();
+    size_t scratch = LENGTH(r.scratch);
+    EXPECT(in_edition(&r, "f(-a);", 1, 64, scratch) == KAORI_OK &&
+           from_text(&plain, "f(-a);", 64, LENGTH(plain.tokens), 8) == KAORI_OK && memcmp(&r, &plain, sizeof r) == 0);
+    EXPECT(in_edition(&r, "f(-a);", 2, 64, scratch) == KAORI_OK && memcmp(&r, &plain, sizeof r) == 0);
+    /* `not` */
+    EXPECT(in_edition(&r, "not a and b;", 1, 1, scratch) == KAORI_TOO_DEEP && answered(&r, 11, 1, 4, 5, KAORI_NO_KIND));
+    EXPECT(in_edition(&r, "not a and b;", 1, 2, scratch) == KAORI_OK && row_is(&r, 2, KAORI_NODE_AND, 4, 11, 0) &&
+           row_is(&r, 3, KAORI_NODE_NOT, 0, 3, 2));
+    EXPECT(in_edition(&r, "not a and b;", 2, 1, scratch) == KAORI_TOO_DEEP && answered(&r, 11, 0, 0, 3, KAORI_NO_KIND));
+    EXPECT(in_edition(&r, "not a and b;", 2, 2, scratch) == KAORI_OK && row_is(&r, 1, KAORI_NODE_NOT, 0, 5, 0) &&
+           row_is(&r, 3, KAORI_NODE_AND, 0, 11, 1));
+    /* a bare `return` */
+    EXPECT(in_edition(&r, "return;", 1, 64, scratch) == KAORI_OPERAND && answered(&r, 9, 1, 6, 7, KAORI_NO_KIND));
+    EXPECT(in_edition(&r, "return;", 2, 64, scratch) == KAORI_OK && row_is(&r, 0, KAORI_NODE_RETURN, 0, 6, KAORI_ABSENT));
+    EXPECT(list_in_edition(&r, "return;", 9, 2, 64) == KAORI_OK && row_is(&r, 0, KAORI_NODE_RETURN, 0, 6, KAORI_ABSENT));
+    EXPECT(in_edition(&r, "{return}", 2, 1, scratch) == KAORI_OK && r.answer[KAORI_NODES] == 3);
+    EXPECT(in_edition(&r, "return", 2, 64, scratch) == KAORI_OPERAND && answered(&r, 9, 1, 6, 6, KAORI_NO_KIND));
+    /* a chain after a parenthesised expression: the callee is the inner row */
+    EXPECT(in_edition(&r, "(f)(x);", 1, 64, scratch) == KAORI_REQUIRED && answered(&r, 8, 3, 3, 4, KAORI_SEMICOLON));
+    EXPECT(in_edition(&r, "(f)(x);", 2, 64, scratch) == KAORI_OK && row_is(&r, 2, KAORI_NODE_CALL, 3, 6, 0));
+    /* no edition: after 3, before any 4, and the rooms stay as they were */
+    for (size_t i = 0; i < LENGTH(none); i++) {
+        r = fresh();
+        EXPECT(in_edition(&r, "a;", none[i], 64, 0) == KAORI_BAD_EDITION && answered(&r, 21, 0, 0, 0, KAORI_NO_KIND));
+        EXPECT(four_are(&r, OLD) && memcmp(r.tokens, list, sizeof list) == 0);
+        EXPECT(list_in_edition(&r, "a;", 9, none[i], 64) == KAORI_BAD_EDITION && four_are(&r, OLD));
+        EXPECT(list_in_edition(&r, "a\x80", 9, none[i], 64) == KAORI_BAD_EDITION && four_are(&r, OLD));
+        EXPECT(list_in_edition(&r, "a;", 9, none[i], 0) == KAORI_BAD_LIMIT && four_are(&r, OLD));
+        EXPECT(in_edition(&r, "a @", none[i], 64, scratch) == KAORI_NO_TOKEN && four_are(&r, OLD));
+    }
+    EXPECT(in_edition(&r, "a;", 2, 64, 0) == KAORI_SMALL_ROOM && four_are(&r, OLD));
+}
+
 static uint32_t name_place(uint32_t count, uint32_t built, uint32_t symbol, uint32_t *answer, size_t room) {
     static const uint32_t rows[] = {0, 9, 0, 9, 3, 3, 3, 2, 8, 8, 7, 9, 1};
     return kaori_name((const uint8_t *)names, strlen(names), (const uint8_t *)script, strlen(script), rows, LENGTH(rows),
@@ -314,6 +370,7 @@ static void telling(void) {
     EXPECT(kaori_message(8, KAORI_NUMBER_LITERAL, KAORI_STRING_LITERAL, room, 51) == 0 && room[0] == '.');
     EXPECT(kaori_message(8, KAORI_NUMBER_LITERAL, 45, room, 52) == 0 && room[0] == '.');
     EXPECT(kaori_message(7, KAORI_NUMBER_LITERAL, 0, room, 52) == 0 && room[0] == '.');
+    EXPECT(kaori_message(KAORI_BAD_EDITION, KAORI_NO_KIND, 0, room, 52) == 0 && room[0] == '.');
     EXPECT(kaori_message(12, KAORI_NO_KIND, KAORI_NUMBER_LITERAL, room, 52) == 0 && room[0] == '.');
     EXPECT(kaori_message(11, KAORI_NO_KIND, 0, room, 54) == 15 && memcmp(room, "nested too deep.", 16) == 0);
     EXPECT(kaori_message(8, KAORI_NUMBER_LITERAL, KAORI_STRING_LITERAL, room, 52) == 52 && room[52] == '.');
@@ -344,6 +401,7 @@ int main(void) {
     parents();
     built_in();
     wrong_names();
+    editions();
     naming();
     telling();
     return failed != 0;

@@ -5,14 +5,15 @@ mod rows;
 
 use std::io::{BufWriter, Error, Read, Write, stdin, stdout};
 
-use kaori_syntax::{Builtins, Refusal, Rooms, Tree};
+use kaori_syntax::{Builtins, Edition, Refusal, Rooms, Tree};
 use rows::{answer, decode, frame};
 
 const BAD: &str = "bad input\n";
-/// What stands before a limit and the sizes of rooms, and what does where built-in names follow these; the largest rooms that
-/// are lent, and the largest names: as for the program `batch`.
+/// What stands before a limit and the sizes of rooms, what does where built-in names follow these, and what does before an
+/// edition where one stands before all this; the largest rooms that are lent, and the largest names: as for the program `batch`.
 const MARK: [u8; 2] = [0x52, 0x4D];
 const NAMES_MARK: [u8; 2] = [0x52, 0x4E];
+const EDITION_MARK: [u8; 2] = [0x52, 0x4F];
 const LARGEST: [usize; 4] = [5_129, 1_538, 1_025, 1_538];
 const MOST_BYTES: usize = 8_192;
 const MOST_NUMBERS: usize = 133;
@@ -39,18 +40,19 @@ fn main() -> Result<(), Error> {
 
 /// The answer to a case with a limit and rooms of its own, if it is one: the eight numbers, and then each room as it was left.
 fn lent(case: &[u8]) -> Option<String> {
-    let is_named = case.starts_with(&NAMES_MARK);
-    let mut rest = case.strip_prefix(if is_named { &NAMES_MARK } else { &MARK })?;
+    let mark = [MARK, NAMES_MARK, EDITION_MARK].into_iter().find(|mark| case.starts_with(mark))?;
+    let mut rest = &case[mark.len()..];
+    let edition = if mark == EDITION_MARK { Edition(numbers(&mut rest, 1)?[0]) } else { Edition::FIRST };
     let head = numbers(&mut rest, 5)?;
-    let names = if is_named { Some(names(&mut rest)?) } else { None };
+    let names = if mark == MARK { None } else { Some(names(&mut rest)?) };
     let Some((text, tokens)) = decode(rest) else { return Some(BAD.to_string()) };
     let room = |i: usize| vec![7; (head[i + 1] as usize).min(LARGEST[i])];
     let mut rooms =
         Rooms { nodes: room(0), links: room(1), symbols: room(2), scratch: room(3), ..Rooms::for_tokens(0) };
     let builtins = names.as_ref().map_or(Builtins::NONE, |(text, rows)| Builtins { text, rows });
-    let answered = match is_named {
-        false => rooms.parse(text, &tokens, head[0]),
-        true => rooms.parse_with(builtins, text, &tokens, head[0]),
+    let answered = match mark {
+        MARK => rooms.parse(text, &tokens, head[0]),
+        _ => rooms.parse_with(builtins, text, &tokens, edition, head[0]),
     };
     let numbers = match answered {
         Ok(tree) => {

@@ -13,7 +13,7 @@ pub struct Builtins<'a> {
 }
 
 impl<'a> Builtins<'a> {
-    /// No names: a script is read as by [`read`](crate::read) and [`parse`](crate::parse).
+    /// No names: a script of edition 1 is read as by [`read`](crate::read) and [`parse`](crate::parse).
     pub const NONE: Builtins<'static> = Builtins { text: &[], rows: &[] };
 
     /// How many names there are: the symbols below this are theirs.
@@ -25,18 +25,18 @@ impl<'a> Builtins<'a> {
 /// Built-in names of the crate's own, to be lent again and again.
 ///
 /// ```
-/// use kaori_syntax::{OwnedBuiltins, Rooms};
+/// use kaori_syntax::{Edition, OwnedBuiltins, Rooms};
 ///
 /// let station = OwnedBuiltins::new(&["show", "print"]);
 /// let mut rooms = Rooms::for_tokens_with(station.lend(), 16);
-/// let tree = rooms.read_with(station.lend(), b"let a = 1; print(a);", 64)?;
+/// let tree = rooms.read_with(station.lend(), b"let a = 1; print(a);", Edition::FIRST, 64)?;
 /// let names: Vec<_> = (0..3).map(|symbol| tree.symbol(symbol)).collect();
 /// assert_eq!(names, [Some(&b"show"[..]), Some(&b"print"[..]), Some(&b"a"[..])]);
 /// assert_eq!(tree.symbol(3), None);
 ///
 /// // each is an identifier, and no two are the same
 /// let wrong = OwnedBuiltins::new(&["show", "if"]);
-/// assert_eq!(rooms.read_with(wrong.lend(), b"a;", 64).unwrap_err().code, 18);
+/// assert_eq!(rooms.read_with(wrong.lend(), b"a;", Edition::FIRST, 64).unwrap_err().code, 18);
 /// # Ok::<(), kaori_syntax::Refusal>(())
 /// ```
 #[derive(Clone, Debug, Default)]

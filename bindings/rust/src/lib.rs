@@ -3,7 +3,8 @@
 //! The reader writes a script's tree as rows of numbers into rooms that the caller lends. [`Rooms`] holds such rooms;
 //! they serve any number of calls and need no clearing. [`Rooms::read`] takes a text, [`Rooms::parse`] a text and its
 //! tokens. Both answer with a [`Tree`] over the rooms, or with a [`Refusal`]. The functions [`read`] and [`parse`] do
-//! the same over slices of the caller's own. Nothing here panics, whatever is handed over.
+//! the same over slices of the caller's own. These four read edition 1 of the language beside no built-in names; each has
+//! another form, as [`Rooms::read_with`], for both to be named. Nothing here panics, whatever is handed over.
 //!
 //! ```
 //! use kaori_syntax::{Node, Rooms};
@@ -84,11 +85,11 @@
 //! Built-in names are lent beside a script, and have the same symbols in every one:
 //!
 //! ```
-//! use kaori_syntax::{Node, OwnedBuiltins, Rooms};
+//! use kaori_syntax::{Edition, Node, OwnedBuiltins, Rooms};
 //!
 //! let station = OwnedBuiltins::new(&["show", "print"]);
 //! let mut rooms = Rooms::for_tokens_with(station.lend(), 64);
-//! let tree = rooms.read_with(station.lend(), b"a(print);", 64)?;
+//! let tree = rooms.read_with(station.lend(), b"a(print);", Edition::FIRST, 64)?;
 //! let symbols: Vec<_> = tree
 //!     .rows()
 //!     .filter_map(|row| match row.node {
@@ -97,6 +98,19 @@
 //!     })
 //!     .collect();
 //! assert_eq!(symbols, [(2, &b"a"[..]), (1, &b"print"[..])]);
+//! # Ok::<(), kaori_syntax::Refusal>(())
+//! ```
+//!
+//! In the second edition of the language `not` binds as a sign does, among other things ([`Edition`]):
+//!
+//! ```
+//! use kaori_syntax::{Builtins, Edition, Node, Rooms};
+//!
+//! let mut rooms = Rooms::for_tokens(16);
+//! let tree = rooms.read_with(Builtins::NONE, b"not a and b;", Edition::SECOND, 64)?;
+//! assert_eq!(tree.row(3).map(|row| row.node), Some(Node::LogicalAnd { left: 1, right: 2 }));
+//! let tree = rooms.read_with(Builtins::NONE, b"not a and b;", Edition::FIRST, 64)?;
+//! assert_eq!(tree.row(3).map(|row| row.node), Some(Node::LogicalNot(2)));
 //! # Ok::<(), kaori_syntax::Refusal>(())
 //! ```
 //!
@@ -144,6 +158,34 @@ const NO_KIND: u32 = 255;
 const EOF: u32 = 44;
 /// The code for scratch or a symbol room that is too small, and for a row that does not fit.
 const SMALL_ROOM: u32 = 4;
+
+/// An edition of Kaori, by its number. Any number but 1 and 2 is refused by 21.
+///
+/// In edition 2 `not` takes an operand as a sign does, its span runs to the operand's end, and it counts as an opening;
+/// `return` before `;` or `}` has no child and its own token's span; and calls and dots may follow a `)` that closes an
+/// expression.
+///
+/// ```
+/// use kaori_syntax::{Builtins, Edition, Node, Rooms};
+///
+/// let mut rooms = Rooms::for_tokens(16);
+/// let mut first_row = |text, edition| {
+///     let tree = rooms.read_with(Builtins::NONE, text, edition, 64)?;
+///     Ok(tree.row(0).is_some_and(|row| matches!(row.node, Node::Return(None))))
+/// };
+/// assert_eq!(first_row(b"return;", Edition::SECOND), Ok(true));
+/// assert_eq!(first_row(b"return;", Edition::FIRST).map_err(|why: kaori_syntax::Refusal| why.code), Err(9));
+/// assert_eq!(first_row(b"return;", Edition(3)).map_err(|why| why.code), Err(21));
+/// ```
+#[derive(Clone, Copy, PartialEq, Eq, Debug)]
+pub struct Edition(pub u32);
+
+impl Edition {
+    /// The language of document 01, which [`read`] and [`parse`] read.
+    pub const FIRST: Edition = Edition(1);
+    /// The language of document 02's request L14.
+    pub const SECOND: Edition = Edition(2);
+}
 
 /// What the reader writes into, lent for a call; what it holds does not matter. `scratch` needs as many rows as there are
 /// tokens. The others may be of any size: with as many rows as the script's tree has it is read, with fewer it is refused
@@ -251,27 +293,29 @@ impl Rooms {
         parse(text, tokens, limit, Lent { nodes, links, symbols, scratch })
     }
 
-    /// Reads a script's text beside built-in names: [`read_with`] in these rooms.
+    /// Reads a script's text beside built-in names, in an edition: [`read_with`] in these rooms.
     pub fn read_with<'a>(
         &'a mut self,
         builtins: Builtins<'a>,
         text: &'a [u8],
+        edition: Edition,
         limit: u32,
     ) -> Result<Tree<'a>, Refusal> {
         let Rooms { nodes, links, symbols, scratch, list } = self;
-        read_with(builtins, text, list, limit, Lent { nodes, links, symbols, scratch })
+        read_with(builtins, text, list, edition, limit, Lent { nodes, links, symbols, scratch })
     }
 
-    /// Reads a script's text and tokens beside built-in names: [`parse_with`] in these rooms.
+    /// Reads a script's text and tokens beside built-in names, in an edition: [`parse_with`] in these rooms.
     pub fn parse_with<'a>(
         &'a mut self,
         builtins: Builtins<'a>,
         text: &'a [u8],
         tokens: &[u32],
+        edition: Edition,
         limit: u32,
     ) -> Result<Tree<'a>, Refusal> {
         let Rooms { nodes, links, symbols, scratch, .. } = self;
-        parse_with(builtins, text, tokens, limit, Lent { nodes, links, symbols, scratch })
+        parse_with(builtins, text, tokens, edition, limit, Lent { nodes, links, symbols, scratch })
     }
 }
 
@@ -297,9 +341,10 @@ fn most_names(builtins: Builtins) -> usize {
 /// | 11 | an opening would pass the depth limit |
 /// | 16 | by [`read`]: no token starts at a byte |
 /// | 18 | the built-in names' text is over 65,536 bytes, they are over 64, a span is wrong, one is no identifier, or two are the same; after a 4 for `scratch` |
+/// | 21 | the edition is neither 1 nor 2; after 3, before any 4 |
 #[derive(Clone, Copy, PartialEq, Eq, Debug)]
 pub struct Refusal {
-    /// From 1 to 11, 16 or 18.
+    /// From 1 to 11, 16, 18 or 21.
     pub code: u32,
     /// The token's number, for codes 6 to 11 and a 4 that was met in reading; else 0.
     pub at: u32,
@@ -389,7 +434,7 @@ pub fn place(text: &[u8], offset: usize) -> Option<Place> {
     (code == 0).then_some(Place { line, column })
 }
 
-/// Reads a script's text. `list` takes its tokens, three numbers each and zeros after the Eof; `limit` is the deepest nesting
+/// Reads a script's text, in edition 1. `list` takes its tokens, three numbers each and zeros after the Eof; `limit` is the deepest nesting
 /// that is read, from 1 to [`MAX_DEPTH`].
 ///
 /// ```
@@ -413,18 +458,20 @@ pub fn read<'a>(text: &'a [u8], list: &mut [u32], limit: u32, rooms: Lent<'a>) -
     tree(answer, Builtins::NONE, text, made(list, code), Lent { nodes, links, symbols, scratch })
 }
 
-/// [`read`] beside built-in names.
+/// [`read`] beside built-in names, in an edition.
 pub fn read_with<'a>(
     builtins: Builtins<'a>,
     text: &'a [u8],
     list: &mut [u32],
+    Edition(edition): Edition,
     limit: u32,
     rooms: Lent<'a>,
 ) -> Result<Tree<'a>, Refusal> {
     let Lent { nodes, links, symbols, scratch } = rooms;
     let Builtins { text: names, rows } = builtins;
     let mut answer = [0; 8];
-    let code = raw::read_with(names, rows, text, list, limit, nodes, links, symbols, scratch, &mut answer);
+    let code =
+        raw::read_with(names, rows, text, list, edition, limit, nodes, links, symbols, scratch, &mut answer);
     tree(answer, builtins, text, made(list, code), Lent { nodes, links, symbols, scratch })
 }
 
@@ -437,7 +484,7 @@ fn made(list: &[u32], code: u32) -> &[u32] {
     eof.and_then(|eof| list.get(..TOKEN_WIDTH * (eof + 1))).unwrap_or(list)
 }
 
-/// Reads a script that is given as its text and its tokens: three numbers each, kind, start and end, an Eof last. Kinds are
+/// Reads a script of edition 1 that is given as its text and its tokens: three numbers each, kind, start and end, an Eof last. Kinds are
 /// numbered in the order of token.rs's `Token`, from 0, so that a `Token` is handed over as `token as u32`.
 ///
 /// ```
@@ -456,18 +503,19 @@ pub fn parse<'a>(text: &'a [u8], tokens: &[u32], limit: u32, rooms: Lent<'a>) ->
     tree(answer, Builtins::NONE, text, tokens, Lent { nodes, links, symbols, scratch })
 }
 
-/// [`parse`] beside built-in names.
+/// [`parse`] beside built-in names, in an edition.
 pub fn parse_with<'a>(
     builtins: Builtins<'a>,
     text: &'a [u8],
     tokens: &[u32],
+    Edition(edition): Edition,
     limit: u32,
     rooms: Lent<'a>,
 ) -> Result<Tree<'a>, Refusal> {
     let Lent { nodes, links, symbols, scratch } = rooms;
     let Builtins { text: names, rows } = builtins;
     let mut answer = [0; 8];
-    raw::parse_with(names, rows, text, tokens, limit, nodes, links, symbols, scratch, &mut answer);
+    raw::parse_with(names, rows, text, tokens, edition, limit, nodes, links, symbols, scratch, &mut answer);
     tree(answer, builtins, text, tokens, Lent { nodes, links, symbols, scratch })
 }
 

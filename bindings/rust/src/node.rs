@@ -148,7 +148,8 @@ pub enum Node<'a> {
         condition: u32,
         block: u32,
     },
-    Return(u32),
+    /// None in edition 2 alone, before `;` or `}`.
+    Return(Option<u32>),
     Break,
     Continue,
     Import {
@@ -343,7 +344,7 @@ impl<'a> Tree<'a> {
             20 => Node::Block { statements: Nodes(self.list(a, b)?), tail: option(c) },
             21 => Node::If { condition: a, then_branch: b, else_branch: option(c) },
             22 => Node::WhileLoop { condition: a, block: b },
-            23 => Node::Return(a),
+            23 => Node::Return(option(a)),
             24 => Node::Break,
             25 => Node::Continue,
             26 => Node::Import { path: Names(self.list(a, b)?), bindings: Names(self.list(c, d)?) },

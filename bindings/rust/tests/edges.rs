@@ -1,7 +1,7 @@
 //! Rooms of all sizes, rows that are not there, and whatever else can be handed over: every call answers and nothing panics.
 use kaori_syntax::{
-    LINK_WIDTH, Lent, NODE_WIDTH, Node, Rooms, SCRATCH_WIDTH, SYMBOL_WIDTH, TOKEN_WIDTH, Tree, parse, place,
-    read,
+    Builtins, Edition, LINK_WIDTH, Lent, NODE_WIDTH, Node, Rooms, SCRATCH_WIDTH, SYMBOL_WIDTH, TOKEN_WIDTH,
+    Tree, parse, place, read,
 };
 
 #[test]
@@ -110,7 +110,8 @@ fn named(node: &Node) -> (Vec<u32>, Vec<u32>) {
         | Node::LogicalAnd { left, right }
         | Node::LogicalOr { left, right }
         | Node::Assign { left, right } => vec![left, right],
-        Node::LogicalNot(child) | Node::Unary { operand: child, .. } | Node::Return(child) => vec![child],
+        Node::LogicalNot(child) | Node::Unary { operand: child, .. } => vec![child],
+        Node::Return(child) => child.into_iter().collect(),
         Node::Variable { right, .. } | Node::Constant { right, .. } | Node::Ref { right, .. } => vec![right],
         Node::FunctionCall { callee, arguments } => [callee].into_iter().chain(arguments.iter()).collect(),
         Node::PropertyAccess { object, .. } => vec![object],
@@ -169,9 +170,9 @@ fn walk(tree: &Tree) {
 
 #[test]
 fn anything_at_all() {
-    const PIECES: [&str; 24] = [
+    const PIECES: [&str; 25] = [
         "a", "b", "1", "\"s\"", ";", "(", ")", "{", "}", "if", "not", "+", "=", ",", ".", "|", "#", ":", " ",
-        "fun", "\n", "-", "@", "é",
+        "fun", "\n", "-", "@", "é", "return",
     ];
     let mut dice = Dice(20261115);
     let (mut accepted, mut turned, mut refused, mut full) = (0, 0, 0, 0);
@@ -179,6 +180,11 @@ fn anything_at_all() {
         let text: String = (0..dice.roll(12)).map(|_| PIECES[dice.roll(PIECES.len())]).collect();
         let text = text.as_bytes();
         let limit = dice.number(64);
+        // 1 or 2, and now and then any number
+        let edition = match dice.roll(16) {
+            0 => Edition(dice.number(3)),
+            other => Edition(1 + other as u32 % 2),
+        };
         let mut rooms = Rooms {
             nodes: dice.numbers(NODE_WIDTH * 16, 70),
             links: dice.numbers(LINK_WIDTH * 16, 70),
@@ -201,11 +207,11 @@ fn anything_at_all() {
         let four =
             |rooms: &Rooms| [&rooms.nodes, &rooms.links, &rooms.symbols, &rooms.scratch].map(Vec::clone);
         let before = four(&rooms);
-        let from_text = rooms.read(text, limit).map(|tree| walk(&tree));
+        let from_text = rooms.read_with(Builtins::NONE, text, edition, limit).map(|tree| walk(&tree));
         match &from_text {
             Ok(()) => accepted += 1,
             Err(r) if r.found.is_none() => {
-                assert!([1, 3, 4, 5, 16].contains(&r.code) && four(&rooms) == before);
+                assert!([1, 3, 4, 5, 16, 21].contains(&r.code) && four(&rooms) == before);
                 turned += 1;
             }
             Err(r) => {
@@ -224,11 +230,12 @@ fn anything_at_all() {
             && !from_text.is_err_and(|r| [1, 2, 5, 16].contains(&r.code))
         {
             list.truncate(3 * (eof + 1));
-            assert_eq!(rooms.parse(text, &list, limit).map(|tree| walk(&tree)), from_text);
+            let from_list = rooms.parse_with(Builtins::NONE, text, &list, edition, limit);
+            assert_eq!(from_list.map(|tree| walk(&tree)), from_text);
         }
         // and numbers that are no tokens have one
         let wild = dice.numbers(dice.0 as usize % 40, 45);
-        if let Ok(tree) = rooms.parse(text, &wild, limit) {
+        if let Ok(tree) = rooms.parse_with(Builtins::NONE, text, &wild, edition, limit) {
             walk(&tree);
         }
         let _ = place(text, dice.number(12) as usize);

@@ -5,8 +5,8 @@ mod rows;
 use std::collections::HashMap;
 
 use kaori_syntax::{
-    Builtins, Lent, Name, Node, OwnedBuiltins, Refusal, Rooms, SCRATCH_WIDTH, SYMBOL_WIDTH, TOKEN_WIDTH,
-    Tree, name, parse_with, read_with,
+    Builtins, Edition, Lent, Name, Node, OwnedBuiltins, Refusal, Rooms, SCRATCH_WIDTH, SYMBOL_WIDTH,
+    TOKEN_WIDTH, Tree, name, parse_with, read_with,
 };
 use rows::{decode, frame};
 
@@ -97,7 +97,7 @@ fn the_rusts_scripts() {
             let station = OwnedBuiltins::new(names);
             let builtins = station.lend();
             let mut rooms = Rooms::for_tokens_with(builtins, 512);
-            match (rooms.parse_with(builtins, text, &tokens, 64), &plain) {
+            match (rooms.parse_with(builtins, text, &tokens, Edition::FIRST, 64), &plain) {
                 (Ok(ours), Ok(plain)) => {
                     held(builtins, &ours, plain);
                     met += usize::from(ours.symbol_rows().len() < plain.symbol_rows().len() + names.len());
@@ -122,7 +122,7 @@ fn refusal(builtins: Builtins, text: &[u8], mut rooms: Rooms) -> (Refusal, Optio
     for room in four(&mut rooms) {
         room.fill(7);
     }
-    let why = rooms.read_with(builtins, text, 64).expect_err("a refusal");
+    let why = rooms.read_with(builtins, text, Edition::FIRST, 64).expect_err("a refusal");
     let numbers: Vec<u32> = four(&mut rooms).iter().flat_map(|room| room.iter().copied()).collect();
     (why, numbers.first().copied().filter(|first| numbers.iter().all(|number| number == first)))
 }
@@ -155,13 +155,16 @@ fn wrong_names() {
     // names may share bytes and go back, other bytes do not matter, and a number left over is none
     let builtins = Builtins { text: b"xab\xff", rows: &[1, 3, 0, 2, 1, 2, 9] };
     let mut rooms = Rooms::for_tokens_with(builtins, 8);
-    let tree = rooms.read_with(builtins, b"xa;ab;", 64).unwrap();
+    let tree = rooms.read_with(builtins, b"xa;ab;", Edition::FIRST, 64).unwrap();
     let names: Vec<_> = (0..4).map(|symbol| tree.symbol(symbol)).collect();
     assert_eq!(names, [Some(&b"ab"[..]), Some(&b"xa"[..]), Some(&b"a"[..]), None]);
     // 64 are not too many
     let station = OwnedBuiltins::new(&many[..64]);
     let mut rooms = Rooms::for_tokens_with(station.lend(), 3);
-    assert_eq!(rooms.read_with(station.lend(), b"a;", 64).map(|tree| tree.symbol_rows().len()), Ok(65));
+    assert_eq!(
+        rooms.read_with(station.lend(), b"a;", Edition::FIRST, 64).map(|tree| tree.symbol_rows().len()),
+        Ok(65)
+    );
 }
 
 #[test]
@@ -178,14 +181,17 @@ fn room_for_the_names() {
             assert_eq!((why.code, why.at, why.found), (4, 2 * u32::from(met), met.then_some(IDENTIFIER)));
             assert_eq!(left, Some(if met { 0 } else { 7 }));
         } else {
-            assert_eq!(rooms.read_with(builtins, b"show(a);", 64).map(|tree| tree.rows().count()), Ok(4));
+            assert_eq!(
+                rooms.read_with(builtins, b"show(a);", Edition::FIRST, 64).map(|tree| tree.rows().count()),
+                Ok(4)
+            );
         }
     }
     // grown until they fit
     let mut rooms = Rooms::with_rows(0, 0, 0, 6);
     let mut turns = 0;
     let count = loop {
-        match rooms.read_with(builtins, b"show(a);", 64) {
+        match rooms.read_with(builtins, b"show(a);", Edition::FIRST, 64) {
             Ok(tree) => break tree.symbol_rows().len(),
             Err(why) => rooms.grow_with(builtins, why).expect("room to grow"),
         }
@@ -210,14 +216,14 @@ fn slices_of_the_callers() {
     let (mut list, mut nodes, mut links, mut symbols, mut scratch) =
         ([9; 9], [9; 20], [9; 3], [9; 3], [9; 9]);
     let lent = Lent { nodes: &mut nodes, links: &mut links, symbols: &mut symbols, scratch: &mut scratch };
-    let tree = read_with(station.lend(), b"a;", &mut list, 64, lent).unwrap();
+    let tree = read_with(station.lend(), b"a;", &mut list, Edition::FIRST, 64, lent).unwrap();
     assert_eq!((tree.rows().count(), tree.symbol(0)), (2, Some(&b"a"[..])));
     assert_eq!(symbols, [0, 1, 0]);
     let lent = Lent { nodes: &mut nodes, links: &mut links, symbols: &mut symbols, scratch: &mut scratch };
-    let tree = parse_with(station.lend(), b"a;", &list, 64, lent).unwrap();
+    let tree = parse_with(station.lend(), b"a;", &list, Edition::SECOND, 64, lent).unwrap();
     assert_eq!(tree.symbol_rows(), [[0, 1]]);
     let lent = Lent { nodes: &mut [], links: &mut [], symbols: &mut [], scratch: &mut [] };
-    assert_eq!(parse_with(station.lend(), b"", &[], 64, lent).unwrap_err().code, 1);
+    assert_eq!(parse_with(station.lend(), b"", &[], Edition::SECOND, 64, lent).unwrap_err().code, 1);
 }
 
 /// Rows that no reader wrote: a row is held to its own text, which the symbol's number chooses, and nothing panics.

@@ -1,4 +1,4 @@
--- What the door answers, in terms of the grammar's Door.antt. Document 01, Refusal numbers, in order of checking.
+-- What the door answers, in terms of the grammar's Door.antt. Document 01, Refusal numbers, in order of checking; document 02, L14: '21, after 3'.
 use Prim.Native.Nat.{ℕ, _*_, _/_, _≤_, _<_}
 use mathlib.Core.Bool.{cond}
 use mathlib.Core.List.{List}
@@ -9,7 +9,7 @@ use Rattle.builtins.specs.Known.{Known}
 use Rattle.grammar.specs.Answer.{Answer, refuse}
 use Rattle.grammar.specs.Builtin.{Builtins, built, Right-names}
 use Rattle.grammar.specs.Call.{Call}
-use Rattle.grammar.specs.Door.{Right-list, Right-scratch, Right-symbols, Sound, Closed, Lent, Admitted, First-without, Turned-away}
+use Rattle.grammar.specs.Door.{Right-list, Right-scratch, Right-symbols, Right-edition, Sound, Closed, Lent, Admitted, First-without, Turned-away}
 use Rattle.grammar.specs.Room.{Rooms, symbol-width}
 use Rattle.grammar.specs.Token.{count, start, end}
 use Rattle.door.specs.declared.Entry.{Entry}
@@ -25,30 +25,35 @@ pub record Highest (text : List ℕ) (n r : ℕ) : Type 0 where
   pub most : (i : ℕ) → i < n → getD text i 0 ≤ r
   pub there : 0 < r → (i : ℕ) × (i < n) × (getD text i 0 ≡ r)
 
--- what the check with code k asks of lengths and the limit alone
-abbrev pub Asks-lengths : (list text limit scratch k : ℕ) → Type 0
-Asks-lengths list text limit scratch k =
+-- what the check whose turn it is asks of lengths, the edition and the limit alone
+abbrev pub Asks-lengths : (list text edition limit scratch turn : ℕ) → Type 0
+Asks-lengths list text edition limit scratch k =
     cond (eqb k 1) (Right-list list)
     (cond (eqb k 2) (text ≤ 65536)
     (cond (eqb k 3) ((1 ≤ limit) × (limit ≤ 64))
-    (cond (eqb k 4) (Right-scratch (list / 3) scratch)
-    (Unit {0}))))
+    (cond (eqb k 4) (Right-edition edition)
+    (cond (eqb k 5) (Right-scratch (list / 3) scratch)
+    (Unit {0})))))
 
--- the first of checks 1 to 4 without what it asks, or 0 where there is none
-pub data Lengths-checked (list text limit scratch : ℕ) : ℕ → Type 0 where
-  wrong : {k : ℕ} → First-without (Asks-lengths list text limit scratch) 5 k → Lengths-checked list text limit scratch k
-  right : ((k : ℕ) → k < 5 → Asks-lengths list text limit scratch k) → Lengths-checked list text limit scratch 0
+-- the code of each of these checks: 1, 2, 3, 21, 4
+abbrev pub lengths-code : (turn : ℕ) → ℕ
+lengths-code k = cond (eqb k 4) 21 (cond (eqb k 5) 4 k)
+
+-- the code of the first of these checks without what it asks, or 0 where there is none
+pub data Lengths-checked (list text edition limit scratch : ℕ) : ℕ → Type 0 where
+  wrong : {turn k : ℕ} → First-without (Asks-lengths list text edition limit scratch) 6 turn → k ≡ lengths-code turn → Lengths-checked list text edition limit scratch k
+  right : ((turn : ℕ) → turn < 6 → Asks-lengths list text edition limit scratch turn) → Lengths-checked list text edition limit scratch 0
 
 -- the code of these, of 18 and of the 4 after it, whichever is first, or 0 where there is nothing wrong
-pub data Admits-code (names : Builtins) (list text limit symbols scratch : ℕ) : ℕ → Type 0 where
-  lengths : {k : ℕ} → Lengths-checked list text limit scratch k → (k ≡ 0 → ⊥) → Admits-code names list text limit symbols scratch k
-  names : Lengths-checked list text limit scratch 0 → (Right-names names → ⊥) → Admits-code names list text limit symbols scratch 18
-  names-room : Lengths-checked list text limit scratch 0 → Right-names names → symbols < symbol-width * built names → Admits-code names list text limit symbols scratch 4
-  right : Lengths-checked list text limit scratch 0 → Right-names names → Right-symbols names symbols → Admits-code names list text limit symbols scratch 0
+pub data Admits-code (names : Builtins) (list text edition limit symbols scratch : ℕ) : ℕ → Type 0 where
+  lengths : {k : ℕ} → Lengths-checked list text edition limit scratch k → (k ≡ 0 → ⊥) → Admits-code names list text edition limit symbols scratch k
+  names : Lengths-checked list text edition limit scratch 0 → (Right-names names → ⊥) → Admits-code names list text edition limit symbols scratch 18
+  names-room : Lengths-checked list text edition limit scratch 0 → Right-names names → symbols < symbol-width * built names → Admits-code names list text edition limit symbols scratch 4
+  right : Lengths-checked list text edition limit scratch 0 → Right-names names → Right-symbols names symbols → Admits-code names list text edition limit symbols scratch 0
 
 -- and the names' index, where there is nothing wrong
-pub record Admits (names : Builtins) (list text limit symbols scratch : ℕ) (index : List ℕ) (r : ℕ) : Type 0 where
-  pub code : Admits-code names list text limit symbols scratch r
+pub record Admits (names : Builtins) (list text edition limit symbols scratch : ℕ) (index : List ℕ) (r : ℕ) : Type 0 where
+  pub code : Admits-code names list text edition limit symbols scratch r
   pub known : r ≡ 0 → Known names index
 
 -- checks 6 and 7: the first token that is not sound, or then the first that is not closed, or all that is asked of text and list
@@ -72,12 +77,12 @@ abbrev pub Told : Entry → Type 0
 Told Entry.Open = Unit {0}
 Told (Entry.Refused q) = 1 ≤ q .code
 
--- a call with these names, this text, list and limit, and with symbol and scratch rooms of these lengths, enters so
-pub record Entered (names : Builtins) (text ts : List ℕ) (limit symbols scratch : ℕ) (r : Entry) : Type 0 where
+-- a call with these names, this text, list, edition and limit, and with symbol and scratch rooms of these lengths, enters so
+pub record Entered (names : Builtins) (text ts : List ℕ) (edition limit symbols scratch : ℕ) (r : Entry) : Type 0 where
   pub told : Told r
-  pub says : (rooms : Rooms) → length (rooms .symbols) ≡ symbols → length (rooms .scratch) ≡ scratch → Enters (record { names = names; text = text; tokens = ts; limit = limit; rooms = rooms }) (entry-numbers r)
+  pub says : (rooms : Rooms) → length (rooms .symbols) ≡ symbols → length (rooms .scratch) ≡ scratch → Enters (record { names = names; text = text; tokens = ts; edition = edition; limit = limit; rooms = rooms }) (entry-numbers r)
 
 -- and the names have their index, where it is let in
-pub record Checked (names : Builtins) (text ts : List ℕ) (limit symbols scratch : ℕ) (index : List ℕ) (r : Entry) : Type 0 where
-  pub entered : Entered names text ts limit symbols scratch r
+pub record Checked (names : Builtins) (text ts : List ℕ) (edition limit symbols scratch : ℕ) (index : List ℕ) (r : Entry) : Type 0 where
+  pub entered : Entered names text ts edition limit symbols scratch r
   pub known : r ≡ Entry.Open → Known names index

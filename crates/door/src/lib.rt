@@ -1,11 +1,12 @@
-// The door: checks 1 to 7 of document 01, in order, and that of the built-in names (document 02, L10) among them. Of the rooms it asks for scratch, and for the
-// built-in rows in the symbol room: whether a script's rows fit is met in reading.
+// The door: checks 1 to 7 of document 01, in order, and those of the built-in names and of the edition (document 02, L10 and L14) among them. Of the rooms it asks for
+// scratch, and for the built-in rows in the symbol room: whether a script's rows fit is met in reading.
 pub mod wrong;
 
 use builtins::NAME_WIDTH;
 use builtins::right;
 use lexeme::fits;
 use spelling::words;
+use token::editions;
 use token::kinds;
 use token::list::end_at;
 use token::list::kind_at;
@@ -49,10 +50,10 @@ pub enum Entry {
     Refused(Refusal),
 }
 
-// The first of checks 1 to 4 that finds something wrong, of lengths and the limit alone, or 0.
-// Ruled out: 4 where the limit is 0; 0 for a list of 4,097 tokens.
-pub fn lengths(list: usize, text: usize, limit: u32, scratch: usize) -> u32
-    ensures { λ r. ⌜ Lengths-checked list text limit scratch r ⌝ }
+// The first of checks 1 to 3, 21 and 4 that finds something wrong, of lengths, the edition and the limit alone, or 0.
+// Ruled out: 21 where the limit is 0; an edition 0 let in; 4 where the edition is 3; 0 for a list of 4,097 tokens.
+pub fn lengths(list: usize, text: usize, edition: u32, limit: u32, scratch: usize) -> u32
+    ensures { λ r. ⌜ Lengths-checked list text edition limit scratch r ⌝ }
 {
     let tokens = list / TOKEN_WIDTH;
     if list % TOKEN_WIDTH != 0 {
@@ -73,6 +74,12 @@ pub fn lengths(list: usize, text: usize, limit: u32, scratch: usize) -> u32
     if MOST_DEPTH < limit {
         return wrong::LIMIT;
     }
+    if edition < editions::FIRST {
+        return wrong::EDITION;
+    }
+    if editions::SECOND < edition {
+        return wrong::EDITION;
+    }
     if scratch / SCRATCH_WIDTH < tokens {
         return wrong::SCRATCH;
     }
@@ -88,14 +95,15 @@ pub fn admit(
     index: &mut [u32],
     list: usize,
     text: usize,
+    edition: u32,
     limit: u32,
     symbols: usize,
     scratch: usize,
 ) -> u32
     requires { ⌜ now index ≡ blank-index ⌝ }
-    ensures { λ r. ⌜ Admits (names-in (now (names .entry)) (now (rows .entry))) list text limit symbols scratch (now (index .exit)) r ⌝ }
+    ensures { λ r. ⌜ Admits (names-in (now (names .entry)) (now (rows .entry))) list text edition limit symbols scratch (now (index .exit)) r ⌝ }
 {
-    let code = lengths(list, text, limit, scratch);
+    let code = lengths(list, text, edition, limit, scratch);
     if code != 0 {
         return code;
     }
@@ -238,12 +246,13 @@ pub fn check(
     index: &mut [u32],
     text: &[u8],
     tokens: &[u32],
+    edition: u32,
     limit: u32,
     symbols: usize,
     scratch: usize,
 ) -> Entry
     requires { ⌜ now index ≡ blank-index ⌝ }
-    ensures { λ r. ⌜ Checked (names-in (now (names .entry)) (now (rows .entry))) (now (text .entry)) (now (tokens .entry)) limit symbols scratch (now (index .exit)) r ⌝ }
+    ensures { λ r. ⌜ Checked (names-in (now (names .entry)) (now (rows .entry))) (now (text .entry)) (now (tokens .entry)) edition limit symbols scratch (now (index .exit)) r ⌝ }
 {
     let code = admit(
         names,
@@ -251,6 +260,7 @@ pub fn check(
         index,
         tokens.len(),
         text.len(),
+        edition,
         limit,
         symbols,
         scratch,

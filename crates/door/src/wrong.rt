@@ -5,6 +5,8 @@ pub const TEXT: u32 = 2;
 
 pub const LIMIT: u32 = 3;
 
+pub const EDITION: u32 = 21;
+
 pub const SCRATCH: u32 = 4;
 
 pub const NAMES: u32 = 18;

@@ -20,9 +20,9 @@ lexed-numbers l = refuse (l .code) (l .at) (l .start) (l .end) (l .expected)
 abbrev pub made-list : Lexed → List ℕ → List ℕ
 made-list l room = take (3 * l .count) room
 
-pub data Answers-text (names : Builtins) (text : List ℕ) (limit : ℕ) (list : List ℕ) (before : Rooms) : Answer → List ℕ → Rooms → Type 0 where
-  unmade : {l : Lexed} {room : List ℕ} → Lexes text list l room → (l .code ≡ 0 → ⊥) → Answers-text names text limit list before (lexed-numbers l) room before
-  made : {l : Lexed} {room : List ℕ} {a : Answer} {after : Rooms} → Lexes text list l room → l .code ≡ 0 → Answers (call names text (made-list l room) limit before) a after → Answers-text names text limit list before a room after
+pub data Answers-text (names : Builtins) (text : List ℕ) (edition limit : ℕ) (list : List ℕ) (before : Rooms) : Answer → List ℕ → Rooms → Type 0 where
+  unmade : {l : Lexed} {room : List ℕ} → Lexes text list l room → (l .code ≡ 0 → ⊥) → Answers-text names text edition limit list before (lexed-numbers l) room before
+  made : {l : Lexed} {room : List ℕ} {a : Answer} {after : Rooms} → Lexes text list l room → l .code ≡ 0 → Answers (call names text (made-list l room) edition limit before) a after → Answers-text names text edition limit list before a room after
 
-pub record Read (names : Builtins) (text : List ℕ) (limit : ℕ) (list room : List ℕ) (before after : Rooms) (r : Numbers) : Type 0 where
-  pub answers : Answers-text names text limit list before (numbers r) room after
+pub record Read (names : Builtins) (text : List ℕ) (edition limit : ℕ) (list room : List ℕ) (before after : Rooms) (r : Numbers) : Type 0 where
+  pub answers : Answers-text names text edition limit list before (numbers r) room after

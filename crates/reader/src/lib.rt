@@ -3,25 +3,27 @@ use lexer::lex;
 use syntax::Numbers;
 use syntax::parse_checked;
 use syntax::refused;
+use token::editions;
 ghost use Rattle.grammar.specs.Builtin.{builtins as names-in, none};
 ghost use Rattle.reader.specs.Answered.{Read};
 ghost use Rattle.syntax.specs.Parsed.{rooms};
 
-// Reads a script's text beside built-in names (`parse_with`). `list` takes its tokens, three numbers each, and then zeros. Refusals 2, 5, 16 and 1 of the token maker
-// come first and leave the four rooms as they are; then `parse_with` answers, whose refusals 6 and 7 are never met.
-// Ruled out: an answer of other tokens than those that the text reads as; a room that changes where no list is made.
+// Reads a script's text in an edition beside built-in names (`parse_with`). `list` takes its tokens, three numbers each, and then zeros. Refusals 2, 5, 16 and 1 of the
+// token maker come first and leave the four rooms as they are; then `parse_with` answers, whose refusals 6 and 7 are never met.
+// Ruled out: another edition than the caller's; an answer of other tokens than those that the text reads as; a room that changes where no list is made.
 pub fn read_with(
     names: &[u8],
     rows: &[u32],
     text: &[u8],
     list: &mut [u32],
+    edition: u32,
     limit: u32,
     nodes: &mut [u32],
     links: &mut [u32],
     symbols: &mut [u32],
     scratch: &mut [u32],
 ) -> Numbers
-    ensures { λ r. ⌜ Read (names-in (now (names .entry)) (now (rows .entry))) (now (text .entry)) limit (now (list .entry)) (now (list .exit)) (rooms (now (nodes .entry)) (now (links .entry)) (now (symbols .entry)) (now (scratch .entry))) (rooms (now (nodes .exit)) (now (links .exit)) (now (symbols .exit)) (now (scratch .exit))) r ⌝ }
+    ensures { λ r. ⌜ Read (names-in (now (names .entry)) (now (rows .entry))) (now (text .entry)) edition limit (now (list .entry)) (now (list .exit)) (rooms (now (nodes .entry)) (now (links .entry)) (now (symbols .entry)) (now (scratch .entry))) (rooms (now (nodes .exit)) (now (links .exit)) (now (symbols .exit)) (now (scratch .exit))) r ⌝ }
 {
     let made = lex(text, list);
     if made.code != 0 {
@@ -33,6 +35,7 @@ pub fn read_with(
         rows,
         text,
         &list[..used],
+        edition,
         limit,
         nodes,
         links,
@@ -41,7 +44,7 @@ pub fn read_with(
     )
 }
 
-// Reads a script's text beside no built-in names.
+// Reads a script's text in edition 1 beside no built-in names.
 // Ruled out: an answer of other tokens than those that the text reads as; a room that changes where no list is made.
 pub fn read(
     text: &[u8],
@@ -52,7 +55,7 @@ pub fn read(
     symbols: &mut [u32],
     scratch: &mut [u32],
 ) -> Numbers
-    ensures { λ r. ⌜ Read none (now (text .entry)) limit (now (list .entry)) (now (list .exit)) (rooms (now (nodes .entry)) (now (links .entry)) (now (symbols .entry)) (now (scratch .entry))) (rooms (now (nodes .exit)) (now (links .exit)) (now (symbols .exit)) (now (scratch .exit))) r ⌝ }
+    ensures { λ r. ⌜ Read none (now (text .entry)) 1 limit (now (list .entry)) (now (list .exit)) (rooms (now (nodes .entry)) (now (links .entry)) (now (symbols .entry)) (now (scratch .entry))) (rooms (now (nodes .exit)) (now (links .exit)) (now (symbols .exit)) (now (scratch .exit))) r ⌝ }
 {
     let names: [u8; 0] = [0; 0];
     let rows: [u32; 0] = [0; 0];
@@ -61,6 +64,7 @@ pub fn read(
         &rows,
         text,
         list,
+        editions::FIRST,
         limit,
         nodes,
         links,

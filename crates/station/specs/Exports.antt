@@ -27,13 +27,13 @@ abbrev pub put : (numbers room : List ℕ) → List ℕ
 put numbers room = numbers ++ drop (length numbers) room
 
 -- room: for the answer, before the call; then the four rooms, the room for the answer, and the code after it
-pub data Parses (names : Builtins) (text ts : List ℕ) (limit : ℕ) (before : Rooms) (room : List ℕ) : Rooms → List ℕ → ℕ → Type 0 where
-  short : length room < 8 → Parses names text ts limit before room before room 13
-  parsed : {after : Rooms} {a : Numbers} → 8 ≤ length room → Parsed names text ts limit before after a → Parses names text ts limit before room after (put (listed a) room) (a .code)
+pub data Parses (names : Builtins) (text ts : List ℕ) (edition limit : ℕ) (before : Rooms) (room : List ℕ) : Rooms → List ℕ → ℕ → Type 0 where
+  short : length room < 8 → Parses names text ts edition limit before room before room 13
+  parsed : {after : Rooms} {a : Numbers} → 8 ≤ length room → Parsed names text ts edition limit before after a → Parses names text ts edition limit before room after (put (listed a) room) (a .code)
 
-pub data Reads-text (names : Builtins) (text : List ℕ) (limit : ℕ) (list : List ℕ) (before : Rooms) (room : List ℕ) : List ℕ → Rooms → List ℕ → ℕ → Type 0 where
-  short : length room < 8 → Reads-text names text limit list before room list before room 13
-  read : {tokens : List ℕ} {after : Rooms} {a : Numbers} → 8 ≤ length room → Read names text limit list tokens before after a → Reads-text names text limit list before room tokens after (put (listed a) room) (a .code)
+pub data Reads-text (names : Builtins) (text : List ℕ) (edition limit : ℕ) (list : List ℕ) (before : Rooms) (room : List ℕ) : List ℕ → Rooms → List ℕ → ℕ → Type 0 where
+  short : length room < 8 → Reads-text names text edition limit list before room list before room 13
+  read : {tokens : List ℕ} {after : Rooms} {a : Numbers} → 8 ≤ length room → Read names text edition limit list tokens before after a → Reads-text names text edition limit list before room tokens after (put (listed a) room) (a .code)
 
 pub data Places (text : List ℕ) (offset : ℕ) (room : List ℕ) : List ℕ → ℕ → Type 0 where
   short : length room < 3 → Places text offset room room 13

@@ -1,12 +1,11 @@
-// What a station links: `parse` and `read`, both beside built-in names too, the message of a refusal, the line of a place and the place of a name, for C and Rust to
-// call, over numbers and slices alone. None has a `requires`. A slice is a pointer and a length to C, in this order.
+// What a station links: `parse_with` and `read_with`, both of edition 1 beside no names too, the message of a refusal, the line of a place and the place of a name, for
+// C and Rust to call, over numbers and slices alone. None has a `requires`. A slice is a pointer and a length to C, in this order.
 use diagnostics::line::place;
 use diagnostics::text::message;
-use reader::read;
 use reader::read_with;
 use syntax::Numbers;
-use syntax::parse;
 use syntax::parse_with;
+use token::editions;
 ghost use Prim.Native.Nat.{_≤_};
 ghost use mathlib.Core.Path.{_≡_};
 ghost use lib.ListN.{length};
@@ -29,8 +28,46 @@ fn list(a: Numbers, room: &mut [u32])
     room[7] = a.expected;
 }
 
-// Reads a script that is given as text and tokens: `parse`.
-// Ruled out: a count of links in the place of the nodes'; a refusal's start and end in each other's place; rooms that are written where the answer has no room.
+// Reads a script that is given as text and tokens, of an edition and beside built-in names: `parse_with`.
+// Ruled out: a count of links in the place of the nodes'; a refusal's start and end in each other's place; rooms that are written where the answer has no room; the
+// script's text in the place of the names'; another edition than the caller's.
+#[no_mangle]
+pub extern "C" fn kaori_parse_with(
+    names: &[u8],
+    rows: &[u32],
+    text: &[u8],
+    tokens: &[u32],
+    edition: u32,
+    limit: u32,
+    nodes: &mut [u32],
+    links: &mut [u32],
+    symbols: &mut [u32],
+    scratch: &mut [u32],
+    answer: &mut [u32],
+) -> u32
+    ensures { λ r. ⌜ Parses (names-in (now (names .entry)) (now (rows .entry))) (now (text .entry)) (now (tokens .entry)) edition limit (rooms (now (nodes .entry)) (now (links .entry)) (now (symbols .entry)) (now (scratch .entry))) (now (answer .entry)) (rooms (now (nodes .exit)) (now (links .exit)) (now (symbols .exit)) (now (scratch .exit))) (now (answer .exit)) r ⌝ }
+{
+    if answer.len() < 8 {
+        return 13;
+    }
+    let a = parse_with(
+        names,
+        rows,
+        text,
+        tokens,
+        edition,
+        limit,
+        nodes,
+        links,
+        symbols,
+        scratch,
+    );
+    list(a, answer);
+    a.code
+}
+
+// Reads a script of edition 1 that is given as text and tokens, beside no names.
+// Ruled out: a reading as edition 2 has it; rooms that are written where the answer has no room.
 #[no_mangle]
 pub extern "C" fn kaori_parse(
     text: &[u8],
@@ -42,24 +79,35 @@ pub extern "C" fn kaori_parse(
     scratch: &mut [u32],
     answer: &mut [u32],
 ) -> u32
-    ensures { λ r. ⌜ Parses none (now (text .entry)) (now (tokens .entry)) limit (rooms (now (nodes .entry)) (now (links .entry)) (now (symbols .entry)) (now (scratch .entry))) (now (answer .entry)) (rooms (now (nodes .exit)) (now (links .exit)) (now (symbols .exit)) (now (scratch .exit))) (now (answer .exit)) r ⌝ }
+    ensures { λ r. ⌜ Parses none (now (text .entry)) (now (tokens .entry)) 1 limit (rooms (now (nodes .entry)) (now (links .entry)) (now (symbols .entry)) (now (scratch .entry))) (now (answer .entry)) (rooms (now (nodes .exit)) (now (links .exit)) (now (symbols .exit)) (now (scratch .exit))) (now (answer .exit)) r ⌝ }
 {
-    if answer.len() < 8 {
-        return 13;
-    }
-    let a = parse(text, tokens, limit, nodes, links, symbols, scratch);
-    list(a, answer);
-    a.code
+    let names: [u8; 0] = [0; 0];
+    let rows: [u32; 0] = [0; 0];
+    kaori_parse_with(
+        &names,
+        &rows,
+        text,
+        tokens,
+        editions::FIRST,
+        limit,
+        nodes,
+        links,
+        symbols,
+        scratch,
+        answer,
+    )
 }
 
-// Reads such a script beside built-in names: `parse_with`.
-// Ruled out: the script's text in the place of the names'; an answer beside no names.
+// Reads a script that is given as text, of an edition and beside built-in names; `tokens` takes its token list: `read_with`.
+// Ruled out: another edition or depth limit than the caller's; an answer that leaves the list as it was where the token maker made one; the script's text in the place
+// of the names'; an answer beside no names.
 #[no_mangle]
-pub extern "C" fn kaori_parse_with(
+pub extern "C" fn kaori_read_with(
     names: &[u8],
     rows: &[u32],
     text: &[u8],
-    tokens: &[u32],
+    tokens: &mut [u32],
+    edition: u32,
     limit: u32,
     nodes: &mut [u32],
     links: &mut [u32],
@@ -67,16 +115,17 @@ pub extern "C" fn kaori_parse_with(
     scratch: &mut [u32],
     answer: &mut [u32],
 ) -> u32
-    ensures { λ r. ⌜ Parses (names-in (now (names .entry)) (now (rows .entry))) (now (text .entry)) (now (tokens .entry)) limit (rooms (now (nodes .entry)) (now (links .entry)) (now (symbols .entry)) (now (scratch .entry))) (now (answer .entry)) (rooms (now (nodes .exit)) (now (links .exit)) (now (symbols .exit)) (now (scratch .exit))) (now (answer .exit)) r ⌝ }
+    ensures { λ r. ⌜ Reads-text (names-in (now (names .entry)) (now (rows .entry))) (now (text .entry)) edition limit (now (tokens .entry)) (rooms (now (nodes .entry)) (now (links .entry)) (now (symbols .entry)) (now (scratch .entry))) (now (answer .entry)) (now (tokens .exit)) (rooms (now (nodes .exit)) (now (links .exit)) (now (symbols .exit)) (now (scratch .exit))) (now (answer .exit)) r ⌝ }
 {
     if answer.len() < 8 {
         return 13;
     }
-    let a = parse_with(
+    let a = read_with(
         names,
         rows,
         text,
         tokens,
+        edition,
         limit,
         nodes,
         links,
@@ -87,8 +136,8 @@ pub extern "C" fn kaori_parse_with(
     a.code
 }
 
-// Reads a script that is given as text; `tokens` takes its token list: `read`.
-// Ruled out: another depth limit than the caller's; an answer that leaves the list as it was where the token maker made one.
+// Reads a script of edition 1 that is given as text, beside no names; `tokens` takes its token list.
+// Ruled out: a reading as edition 2 has it; an answer that leaves the list as it was where the token maker made one.
 #[no_mangle]
 pub extern "C" fn kaori_read(
     text: &[u8],
@@ -100,49 +149,23 @@ pub extern "C" fn kaori_read(
     scratch: &mut [u32],
     answer: &mut [u32],
 ) -> u32
-    ensures { λ r. ⌜ Reads-text none (now (text .entry)) limit (now (tokens .entry)) (rooms (now (nodes .entry)) (now (links .entry)) (now (symbols .entry)) (now (scratch .entry))) (now (answer .entry)) (now (tokens .exit)) (rooms (now (nodes .exit)) (now (links .exit)) (now (symbols .exit)) (now (scratch .exit))) (now (answer .exit)) r ⌝ }
+    ensures { λ r. ⌜ Reads-text none (now (text .entry)) 1 limit (now (tokens .entry)) (rooms (now (nodes .entry)) (now (links .entry)) (now (symbols .entry)) (now (scratch .entry))) (now (answer .entry)) (now (tokens .exit)) (rooms (now (nodes .exit)) (now (links .exit)) (now (symbols .exit)) (now (scratch .exit))) (now (answer .exit)) r ⌝ }
 {
-    if answer.len() < 8 {
-        return 13;
-    }
-    let a = read(text, tokens, limit, nodes, links, symbols, scratch);
-    list(a, answer);
-    a.code
-}
-
-// Reads such a script beside built-in names: `read_with`.
-// Ruled out: the script's text in the place of the names'; an answer beside no names.
-#[no_mangle]
-pub extern "C" fn kaori_read_with(
-    names: &[u8],
-    rows: &[u32],
-    text: &[u8],
-    tokens: &mut [u32],
-    limit: u32,
-    nodes: &mut [u32],
-    links: &mut [u32],
-    symbols: &mut [u32],
-    scratch: &mut [u32],
-    answer: &mut [u32],
-) -> u32
-    ensures { λ r. ⌜ Reads-text (names-in (now (names .entry)) (now (rows .entry))) (now (text .entry)) limit (now (tokens .entry)) (rooms (now (nodes .entry)) (now (links .entry)) (now (symbols .entry)) (now (scratch .entry))) (now (answer .entry)) (now (tokens .exit)) (rooms (now (nodes .exit)) (now (links .exit)) (now (symbols .exit)) (now (scratch .exit))) (now (answer .exit)) r ⌝ }
-{
-    if answer.len() < 8 {
-        return 13;
-    }
-    let a = read_with(
-        names,
-        rows,
+    let names: [u8; 0] = [0; 0];
+    let rows: [u32; 0] = [0; 0];
+    kaori_read_with(
+        &names,
+        &rows,
         text,
         tokens,
+        editions::FIRST,
         limit,
         nodes,
         links,
         symbols,
         scratch,
-    );
-    list(a, answer);
-    a.code
+        answer,
+    )
 }
 
 // Writes the text of a refusal at the start of a room and answers its length: `message`.

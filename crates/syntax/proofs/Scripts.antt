@@ -20,6 +20,7 @@ use Rattle.builtins.specs.Known.{Known}
 use Rattle.grammar.specs.Answer.{success, rooms-cleared, rooms-filled, Answers}
 use Rattle.grammar.specs.Builtin.{Builtins}
 use Rattle.grammar.specs.Door.{Lent}
+use Rattle.grammar.specs.Edition.{edition as named-edition}
 use Rattle.grammar.specs.Handle.{absent}
 use Rattle.grammar.specs.Kaori.{script, script-items, Script}
 use Rattle.grammar.specs.Kind.{Eof}
@@ -53,6 +54,7 @@ use Rattle.reading.specs.State.{State, state, written as written-so-far, Opened
 use Rattle.reading.specs.declared.Cursor.{Cursor}
 use Rattle.reading.specs.declared.Read.{Read}
 use Rattle.reading.specs.declared.Refusal.{Refusal}
+use Rattle.reading.specs.declared.Terms.{Terms}
 use Rattle.reading.proofs.Entering.{entered, row-unmade, links-unmade}
 use Rattle.reading.proofs.Gathering.{first-link}
 use Rattle.reading.proofs.Laws.{plain, full}
@@ -141,7 +143,11 @@ cleared-alike a = rw (a .nodes, a .links, a .symbols, a .scratch)
 filled-alike : {r s : Rooms} (w : Rows) (ss : List ℕ) → Alike r s → rooms-filled w ss s ≡ rooms-filled w ss r
 filled-alike w ss a = rw (a .nodes, a .links, a .symbols, a .scratch)
 
-module _ {names : Builtins} {index text ts : List ℕ} {limit : ℕ} {before : Rooms} (d : Let-in names index text ts limit before) where
+-- what the readers are told of a call
+abbrev pub terms-of : (edition limit : ℕ) → Terms
+terms-of edition limit = record { edition = edition; limit = limit }
+
+module _ {names : Builtins} {index text ts : List ℕ} {edition limit : ℕ} {before : Rooms} (d : Let-in names index text ts edition limit before) where
   pub lent : Lent text ts
   lent = admitted-lent (d .admitted)
 
@@ -158,7 +164,7 @@ module _ {names : Builtins} {index text ts : List ℕ} {limit : ℕ} {before : R
     abbrev pub from : State
     from = state (before .nodes) (before .links) scratch start
 
-    pub asked : Opened ts limit 0 from
+    pub asked : Opened ts (terms-of edition limit) 0 from
     asked =
         record {
           ready = record {
@@ -182,22 +188,22 @@ module _ {names : Builtins} {index text ts : List ℕ} {limit : ℕ} {before : R
     symbols-are = names-are (lent .whole) v
 
     -- a refusal of the script is at a token
-    module _ {q : Refusal} (x : Refusing ts limit script 0 from (refusal q)) where
-      stops : Stopped (call names text ts limit before) (refusal q)
+    module _ {q : Refusal} (x : Refusing ts (terms-of edition limit) script 0 from (refusal q)) where
+      stops : Stopped (call names text ts edition limit before) (refusal q)
       stops = rw symbols-are at (x .refuses)
 
       pub refused-at : q .at < count ts
       refused-at = omega (arith, refused-place (d .admitted) stops .place, lent .whole .some)
 
-      pub refused-answer : {middle after : Rooms} {r : Numbers} → Alike before middle → Cut ts q middle after r → Parsed names text ts limit before after r
+      pub refused-answer : {middle after : Rooms} {r : Numbers} → Alike before middle → Cut ts q middle after r → Parsed names text ts edition limit before after r
       refused-answer a c = record { answers = rw (c .numbers-are, c .rooms-are, cleared-alike a) (Answers.refused (d .admitted) (Comes.stop stops)) }
 
     -- the statements up to Eof are a script
-    module _ {ns ls ss : List ℕ} {c : Cursor} (l : Listed ts limit (whole (chain empty script-items)) 0 from (state ns ls ss c)) (h : Root-room c ns ls) where
+    module _ {ns ls ss : List ℕ} {c : Cursor} (l : Listed ts (terms-of edition limit) (whole (chain empty script-items)) 0 from (state ns ls ss c)) (h : Root-room c ns ls) where
       tree : Tree Label
       tree = made Label.Script 0 (c .at) (l .reading .tree)
 
-      reads-script : Script (kind ts) (c .at) tree
+      reads-script : Script (named-edition edition) (kind ts) (c .at) tree
       unfolding tree
       reads-script = Reads.labelled (l .reading .reads)
 
@@ -209,11 +215,11 @@ module _ {names : Builtins} {index text ts : List ℕ} {limit : ℕ} {before : R
       -- the Eof that ends it is the last token
       ends-last : c .at ≡ count ts - 1
       ends-last =
-          let e : kind ts (c .at) ≡ Eof = elim (ℕ-discrete (kind ts (c .at)) Eof) [ yes h ↦ h | no n ↦ absurd (n (ends-at-eof reads-script)) ] in
+          let e : kind ts (c .at) ≡ Eof = elim (ℕ-discrete (kind ts (c .at)) Eof) [ yes h ↦ h | no n ↦ absurd (n (ends-at-eof (named-edition edition) reads-script)) ] in
           omega (arith, lent .closed (c .at) (l .within .at) .only e)
 
-      reads-all : Script (kind ts) (count ts - 1) tree
-      reads-all = subst (λ n. Script (kind ts) n tree) ends-last reads-script
+      reads-all : Script (named-edition edition) (kind ts) (count ts - 1) tree
+      reads-all = subst (λ n. Script (named-edition edition) (kind ts) n tree) ends-last reads-script
 
       -- all of it passes: its depth, its words and its rows
       named : Named (symbol-in names text ts (length (before .symbols))) tree
@@ -221,7 +227,7 @@ module _ {names : Builtins} {index text ts : List ℕ} {limit : ℕ} {before : R
       named = (rw symbols-are at (l .reading .named), λ e z. plain refl e)
 
       symbols-fit : length (symbol-rows names text ts (count ts)) ≤ length (before .symbols)
-      symbols-fit = words-fit names text ts (length (before .symbols)) (d .admitted .names-fit) reads-all named
+      symbols-fit = words-fit (named-edition edition) names text ts (length (before .symbols)) (d .admitted .names-fit) reads-all named
 
       tree-fits : depth tree ≤ limit
       unfolding depth tree
@@ -255,10 +261,10 @@ module _ {names : Builtins} {index text ts : List ℕ} {limit : ℕ} {before : R
             symbols = v .stands;
             scratch = omega (arith, w .links, w .at, w .roomy .scratch);
             few = omega (arith, w .rows, w .links, w .at, lent .whole .most, d .admitted .named .few);
-            tree = rw (← script-rows) (one-tree ts (symbol names text ts) reads-script (omega (arith, w .at, lent .whole .most)));
+            tree = rw (← script-rows) (one-tree (named-edition edition) ts (symbol names text ts) reads-script (omega (arith, w .at, lent .whole .most)));
           }
 
-      pub accepted-answer : {after : Rooms} {r : Numbers} → Rooted c known (rooms ns ls symbols ss) after r → Parsed names text ts limit before after r
+      pub accepted-answer : {after : Rooms} {r : Numbers} → Rooted c known (rooms ns ls symbols ss) after r → Parsed names text ts edition limit before after r
       unfolding written
       accepted-answer {after} {r} a =
           let m = l .reading .rooms in
@@ -271,13 +277,13 @@ module _ {names : Builtins} {index text ts : List ℕ} {limit : ℕ} {before : R
           record { answers = rw (n, o) (Answers.accepted (d .admitted) (Comes.read reads-all tree-fits enough symbols-fit)) }
 
 -- a refusal among the statements is the script's
-pub chain-told : {ts : List ℕ} {limit : ℕ} {s : State} {ns ls ss : List ℕ} {r : Read} {q : Refusal} → r ≡ Read.Refused q → Lists ts limit (whole (chain empty script-items)) 0 s ns ls ss r →
-    Scripted ts limit s ns ls ss r
+pub chain-told : {ts : List ℕ} {terms : Terms} {s : State} {ns ls ss : List ℕ} {r : Read} {q : Refusal} → r ≡ Read.Refused q → Lists ts terms (whole (chain empty script-items)) 0 s ns ls ss r →
+    Scripted ts terms s ns ls ss r
 unfolding List-case Script-case
 chain-told e a = rw e (record { says = in-node ((rw e at a) .says) })
 
 -- the root's links or its row have no room: the script is refused at the Eof
-module _ {ts : List ℕ} {limit : ℕ} {s : State} {ns ls ss : List ℕ} {c : Cursor} (l : Listed ts limit (whole (chain empty script-items)) 0 s (state ns ls ss c)) (z : s .cursor .held ≡ 0) where
+module _ {ts : List ℕ} {terms : Terms} {s : State} {ns ls ss : List ℕ} {c : Cursor} (l : Listed ts terms (whole (chain empty script-items)) 0 s (state ns ls ss c)) (z : s .cursor .held ≡ 0) where
   -- the root's numbers, and the link rows with its own
   abbrev root-numbers : List ℕ
   root-numbers = 20 ∷ 0 ∷ 0 ∷ c .links ∷ length (l .items) ∷ absent ∷ []
@@ -293,21 +299,21 @@ module _ {ts : List ℕ} {limit : ℕ} {s : State} {ns ls ss : List ℕ} {c : Cu
   unfolding make put fill field-numbers write
   root-made = rw (first-link (l .within))
 
-  pub no-links : length ls < 3 * (c .links + c .held) → Refusing ts limit script 0 s (refused 4 (c .at) 255)
+  pub no-links : length ls < 3 * (c .links + c .held) → Refusing ts terms script 0 s (refused 4 (c .at) 255)
   unfolding has-word
   no-links h = full (l .reading) (links-unmade root-numbers root-links (l .within .stands) (λ x y. plain refl x) root-made (omega (arith, h, long)))
 
-  pub no-row : 3 * (c .links + c .held) ≤ length ls → length ns < node-width * (c .nodes + 1) → Refusing ts limit script 0 s (refused 4 (c .at) 255)
+  pub no-row : 3 * (c .links + c .held) ≤ length ls → length ns < node-width * (c .nodes + 1) → Refusing ts terms script 0 s (refused 4 (c .at) 255)
   unfolding has-word
   no-row h i = full (l .reading) (row-unmade root-numbers root-links (l .within .stands) (λ x y. plain refl x) root-made (omega (arith, h, long)) i)
 
 -- what the statements' answer says, by its case
-module _ {ts : List ℕ} {limit : ℕ} {s : State} {ns ls ss : List ℕ} {r : Read} (a : Scripted ts limit s ns ls ss r) where
-  pub refused-told : {q : Refusal} → r ≡ Read.Refused q → Refusing ts limit script 0 s (refusal q)
+module _ {ts : List ℕ} {terms : Terms} {s : State} {ns ls ss : List ℕ} {r : Read} (a : Scripted ts terms s ns ls ss r) where
+  pub refused-told : {q : Refusal} → r ≡ Read.Refused q → Refusing ts terms script 0 s (refusal q)
   unfolding Script-case
   refused-told e = (rw e at a) .says
 
-  pub listed-told : {n : Node} {c : Cursor} → r ≡ Read.Node n c → Listed ts limit (whole (chain empty script-items)) 0 s (state ns ls ss c)
+  pub listed-told : {n : Node} {c : Cursor} → r ≡ Read.Node n c → Listed ts terms (whole (chain empty script-items)) 0 s (state ns ls ss c)
   unfolding Script-case
   listed-told e = (rw e at a) .says .0
 
@@ -316,10 +322,10 @@ module _ {ts : List ℕ} {limit : ℕ} {s : State} {ns ls ss : List ℕ} {r : Re
   room-told e = (rw e at a) .says .1
 
 -- what the door's answer says, by its case
-module _ {names : Builtins} {text ts : List ℕ} {limit : ℕ} {before : Rooms} {e : Entry}
-    (a : Entered names text ts limit (length (before .symbols)) (length (before .scratch)) e) where
-  pub let-in : {index : List ℕ} → Known names index → e ≡ Entry.Open → Let-in names index text ts limit before
+module _ {names : Builtins} {text ts : List ℕ} {edition limit : ℕ} {before : Rooms} {e : Entry}
+    (a : Entered names text ts edition limit (length (before .symbols)) (length (before .scratch)) e) where
+  pub let-in : {index : List ℕ} → Known names index → e ≡ Entry.Open → Let-in names index text ts edition limit before
   let-in k h = record { admitted = opened ((rw h at a) .says before refl refl) refl; known = k }
 
-  pub turned : {q : Turned} {r : Numbers} → e ≡ Entry.Refused q → numbers r ≡ entry-numbers (Entry.Refused q) → Parsed names text ts limit before before r
+  pub turned : {q : Turned} {r : Numbers} → e ≡ Entry.Refused q → numbers r ≡ entry-numbers (Entry.Refused q) → Parsed names text ts edition limit before before r
   turned h n = let b = rw h at a in record { answers = rw n (shut (b .says before refl refl) (b .told)) }

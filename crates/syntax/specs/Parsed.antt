@@ -25,6 +25,7 @@ use Rattle.reading.specs.State.{State, state}
 use Rattle.reading.specs.declared.Cursor.{Cursor}
 use Rattle.reading.specs.declared.Read.{Read}
 use Rattle.reading.specs.declared.Refusal.{Refusal}
+use Rattle.reading.specs.declared.Terms.{Terms}
 use Rattle.syntax.specs.declared.Numbers.{Numbers}
 
 -- 'code, three row counts, at, start, end, expected'
@@ -34,16 +35,16 @@ numbers r = record { code = r .code; nodes = r .nodes; links = r .links; symbols
 abbrev pub rooms : (nodes links symbols scratch : List ℕ) → Rooms
 rooms ns ls ys ss = record { nodes = ns; links = ls; symbols = ys; scratch = ss }
 
-abbrev pub call : (names : Builtins) (text ts : List ℕ) (limit : ℕ) → Rooms → Call
-call names text ts limit r = record { names = names; text = text; tokens = ts; limit = limit; rooms = r }
+abbrev pub call : (names : Builtins) (text ts : List ℕ) (edition limit : ℕ) → Rooms → Call
+call names text ts edition limit r = record { names = names; text = text; tokens = ts; edition = edition; limit = limit; rooms = r }
 
 -- the call with these names and rooms is answered so, and leaves the rooms so
-pub record Parsed (names : Builtins) (text ts : List ℕ) (limit : ℕ) (before after : Rooms) (r : Numbers) : Type 0 where
-  pub answers : Answers (call names text ts limit before) (numbers r) after
+pub record Parsed (names : Builtins) (text ts : List ℕ) (edition limit : ℕ) (before after : Rooms) (r : Numbers) : Type 0 where
+  pub answers : Answers (call names text ts edition limit before) (numbers r) after
 
 -- the call is let in, and its names have their index
-pub record Let-in (names : Builtins) (index text ts : List ℕ) (limit : ℕ) (before : Rooms) : Type 0 where
-  pub admitted : Admitted (call names text ts limit before)
+pub record Let-in (names : Builtins) (index text ts : List ℕ) (edition limit : ℕ) (before : Rooms) : Type 0 where
+  pub admitted : Admitted (call names text ts edition limit before)
   pub known : Known names index
 
 -- the numbers of a refusal in reading
@@ -61,15 +62,15 @@ pub record Root-room (c : Cursor) (nodes links : List ℕ) : Type 0 where
   pub lists : link-width * (c .links + c .held) ≤ length links
 
 -- the statements up to Eof are read and held, and the root has room; or the script is refused
-unfoldable pub Script-case : (ts : List ℕ) (limit : ℕ) → State → (nodes links scratch : List ℕ) → Read → Type 0
-Script-case ts limit s ns ls ss (Read.Node n c) = Listed ts limit (whole (chain empty script-items)) 0 s (state ns ls ss c) × Root-room c ns ls
-Script-case ts limit s ns ls ss (Read.Refused q) = Refusing ts limit script 0 s (refusal q)
+unfoldable pub Script-case : (ts : List ℕ) (terms : Terms) → State → (nodes links scratch : List ℕ) → Read → Type 0
+Script-case ts terms s ns ls ss (Read.Node n c) = Listed ts terms (whole (chain empty script-items)) 0 s (state ns ls ss c) × Root-room c ns ls
+Script-case ts terms s ns ls ss (Read.Refused q) = Refusing ts terms script 0 s (refusal q)
 
-pub record Scripted (ts : List ℕ) (limit : ℕ) (s : State) (ns ls ss : List ℕ) (r : Read) : Type 0 where
-  pub says : Script-case ts limit s ns ls ss r
+pub record Scripted (ts : List ℕ) (terms : Terms) (s : State) (ns ls ss : List ℕ) (r : Read) : Type 0 where
+  pub says : Script-case ts terms s ns ls ss r
 
-abbrev pub scripted : (tokens nodes links scratch : Slices) (limit : ℕ) (cur : Cursor) → Read → Type 0
-scripted ts ns ls ss limit cur r = Scripted (ts .entry .now) limit (entry ns ls ss cur) (ns .exit .now) (ls .exit .now) (ss .exit .now) r
+abbrev pub scripted : (tokens nodes links scratch : Slices) (terms : Terms) (cur : Cursor) → Read → Type 0
+scripted ts ns ls ss terms cur r = Scripted (ts .entry .now) terms (entry ns ls ss cur) (ns .exit .now) (ls .exit .now) (ss .exit .now) r
 
 -- the rows of a script whose statements are read and held, with its root: 'Root: 0, 0', and no tail; their parents are not put in
 abbrev pub with-root : Cursor → Rooms → Rows

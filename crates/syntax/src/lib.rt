@@ -1,5 +1,5 @@
 // The public entry: a port of `parse` of parser.rs. The door, then the symbols of all names, the statements up to Eof, the root's row, the
-// parents, and zeros. `parse` is `parse_with` beside no built-in names.
+// parents, and zeros. `parse` is `parse_with` of edition 1 beside no built-in names.
 use ast::ABSENT;
 use ast::LINK_WIDTH;
 use ast::NODE_WIDTH;
@@ -17,8 +17,10 @@ use parser::readers::statement;
 use reading::Cursor;
 use reading::Read;
 use reading::Refusal;
+use reading::Terms;
 use reading::codes;
 use reading::pieces::no_room;
+use token::editions;
 use token::kinds;
 use token::list::end_at;
 use token::list::kind_at;
@@ -71,11 +73,11 @@ fn statements(
     nodes: &mut [u32],
     links: &mut [u32],
     scratch: &mut [u32],
-    limit: u32,
+    terms: Terms,
     cur: Cursor,
 ) -> Read
-    requires { ⌜ opened tokens nodes links scratch limit 0 cur ⌝ }
-    ensures { λ r. ⌜ lists (whole (chain empty form.script-items)) tokens nodes links scratch limit 0 cur r ⌝ }
+    requires { ⌜ opened tokens nodes links scratch terms 0 cur ⌝ }
+    ensures { λ r. ⌜ lists (whole (chain empty form.script-items)) tokens nodes links scratch terms 0 cur r ⌝ }
 {
     let mut now = cur;
     let first = cur.at;
@@ -84,7 +86,7 @@ fn statements(
         if kind == kinds::EOF {
             break 'list;
         }
-        let read = statement(tokens, nodes, links, scratch, limit, 0, now);
+        let read = statement(tokens, nodes, links, scratch, terms, 0, now);
         let Read::Node(item, end) = read else {
             return read;
         };
@@ -113,14 +115,14 @@ fn whole(
     nodes: &mut [u32],
     links: &mut [u32],
     scratch: &mut [u32],
-    limit: u32,
+    terms: Terms,
     cur: Cursor,
 ) -> Read
     requires { ⌜ cur .held ≡ 0 ⌝ }
-    requires { ⌜ opened tokens nodes links scratch limit 0 cur ⌝ }
-    ensures { λ r. ⌜ scripted tokens nodes links scratch limit cur r ⌝ }
+    requires { ⌜ opened tokens nodes links scratch terms 0 cur ⌝ }
+    ensures { λ r. ⌜ scripted tokens nodes links scratch terms cur r ⌝ }
 {
-    let read = statements(tokens, nodes, links, scratch, limit, cur);
+    let read = statements(tokens, nodes, links, scratch, terms, cur);
     let Read::Node(list, end) = read else {
         return read;
     };
@@ -199,36 +201,42 @@ fn script(
     index: &[u32],
     text: &[u8],
     tokens: &[u32],
+    edition: u32,
     limit: u32,
     nodes: &mut [u32],
     links: &mut [u32],
     symbols: &mut [u32],
     scratch: &mut [u32],
 ) -> Numbers
-    requires { ⌜ Let-in (names-in (now names) (now rows)) (now index) (now text) (now tokens) limit (rooms (now nodes) (now links) (now symbols) (now scratch)) ⌝ }
-    ensures { λ r. ⌜ Parsed (names-in (now (names .entry)) (now (rows .entry))) (now (text .entry)) (now (tokens .entry)) limit (rooms (now (nodes .entry)) (now (links .entry)) (now (symbols .entry)) (now (scratch .entry))) (rooms (now (nodes .exit)) (now (links .exit)) (now (symbols .exit)) (now (scratch .exit))) r ⌝ }
+    requires { ⌜ Let-in (names-in (now names) (now rows)) (now index) (now text) (now tokens) edition limit (rooms (now nodes) (now links) (now symbols) (now scratch)) ⌝ }
+    ensures { λ r. ⌜ Parsed (names-in (now (names .entry)) (now (rows .entry))) (now (text .entry)) (now (tokens .entry)) edition limit (rooms (now (nodes .entry)) (now (links .entry)) (now (symbols .entry)) (now (scratch .entry))) (rooms (now (nodes .exit)) (now (links .exit)) (now (symbols .exit)) (now (scratch .exit))) r ⌝ }
 {
     let known = resolve(names, rows, index, text, tokens, symbols, scratch);
+    let terms = Terms {
+        edition: edition,
+        limit: limit,
+    };
     let start = Cursor {
         held: 0,
         at: 0,
         links: 0,
         nodes: 0,
     };
-    let read = whole(tokens, nodes, links, scratch, limit, start);
+    let read = whole(tokens, nodes, links, scratch, terms, start);
     match read {
         Read::Refused(why) => cut(tokens, nodes, links, symbols, scratch, why),
         Read::Node(_, end) => root(nodes, links, symbols, scratch, known, end),
     }
 }
 
-// Reads a script as `parse_with` does, but looks at lengths, the limit and the built-in names alone. It asks that text and list have what checks 1 and 5 to 7 ask: the
-// crates above know that of a list that they made. Ruled out: 4 where the limit is 0; a reading whose rows do not fit.
+// Reads a script as `parse_with` does, but looks at lengths, the edition, the limit and the built-in names alone. It asks that text and list have what checks 1 and 5 to
+// 7 ask: the crates above know that of a list that they made. Ruled out: 21 where the limit is 0; a reading whose rows do not fit.
 pub fn parse_checked(
     names: &[u8],
     rows: &[u32],
     text: &[u8],
     tokens: &[u32],
+    edition: u32,
     limit: u32,
     nodes: &mut [u32],
     links: &mut [u32],
@@ -236,7 +244,7 @@ pub fn parse_checked(
     scratch: &mut [u32],
 ) -> Numbers
     requires { ⌜ Lent (now text) (now tokens) ⌝ }
-    ensures { λ r. ⌜ Parsed (names-in (now (names .entry)) (now (rows .entry))) (now (text .entry)) (now (tokens .entry)) limit (rooms (now (nodes .entry)) (now (links .entry)) (now (symbols .entry)) (now (scratch .entry))) (rooms (now (nodes .exit)) (now (links .exit)) (now (symbols .exit)) (now (scratch .exit))) r ⌝ }
+    ensures { λ r. ⌜ Parsed (names-in (now (names .entry)) (now (rows .entry))) (now (text .entry)) (now (tokens .entry)) edition limit (rooms (now (nodes .entry)) (now (links .entry)) (now (symbols .entry)) (now (scratch .entry))) (rooms (now (nodes .exit)) (now (links .exit)) (now (symbols .exit)) (now (scratch .exit))) r ⌝ }
 {
     let mut index: [u32; INDEX] = [0; INDEX];
     let code = admit(
@@ -245,6 +253,7 @@ pub fn parse_checked(
         &mut index,
         tokens.len(),
         text.len(),
+        edition,
         limit,
         symbols.len(),
         scratch.len(),
@@ -258,6 +267,7 @@ pub fn parse_checked(
         &index,
         text,
         tokens,
+        edition,
         limit,
         nodes,
         links,
@@ -266,22 +276,25 @@ pub fn parse_checked(
     )
 }
 
-// Reads a script beside built-in names: `names` is their text, and `rows` has two numbers for each, where it starts and ends there. They are symbols 0 onward. What the
-// door refuses, by 1 to 7 or by 18 for names that are not right, leaves the rooms as they are; a refusal in reading, by 4 or 8 to 11, leaves zeros throughout; success
-// leaves the script's rows and then zeros, and zeros throughout in `scratch`. Any names, text, list, limit and rooms have an answer.
-// Ruled out: a row count that is not the tree's; a room that is not zero after a refusal in reading; a built-in name with another symbol than its row's number.
+// Reads a script of edition 1 or 2 beside built-in names: `names` is their text, and `rows` has two numbers for each, where it starts and ends there. They are symbols 0
+// onward. What the door refuses, by 1 to 7, by 21 for another edition or by 18 for names that are not right, leaves the rooms as they are; a refusal in reading, by 4 or 8
+// to 11, leaves zeros throughout; success leaves the script's rows and then zeros, and zeros throughout in `scratch`. Any names, text, list, edition, limit and rooms have
+// an answer.
+// Ruled out: a reading as the other edition has it; a row count that is not the tree's; a room that is not zero after a refusal in reading; a built-in name with another
+// symbol than its row's number.
 pub fn parse_with(
     names: &[u8],
     rows: &[u32],
     text: &[u8],
     tokens: &[u32],
+    edition: u32,
     limit: u32,
     nodes: &mut [u32],
     links: &mut [u32],
     symbols: &mut [u32],
     scratch: &mut [u32],
 ) -> Numbers
-    ensures { λ r. ⌜ Parsed (names-in (now (names .entry)) (now (rows .entry))) (now (text .entry)) (now (tokens .entry)) limit (rooms (now (nodes .entry)) (now (links .entry)) (now (symbols .entry)) (now (scratch .entry))) (rooms (now (nodes .exit)) (now (links .exit)) (now (symbols .exit)) (now (scratch .exit))) r ⌝ }
+    ensures { λ r. ⌜ Parsed (names-in (now (names .entry)) (now (rows .entry))) (now (text .entry)) (now (tokens .entry)) edition limit (rooms (now (nodes .entry)) (now (links .entry)) (now (symbols .entry)) (now (scratch .entry))) (rooms (now (nodes .exit)) (now (links .exit)) (now (symbols .exit)) (now (scratch .exit))) r ⌝ }
 {
     let mut index: [u32; INDEX] = [0; INDEX];
     let entry = check(
@@ -290,6 +303,7 @@ pub fn parse_with(
         &mut index,
         text,
         tokens,
+        edition,
         limit,
         symbols.len(),
         scratch.len(),
@@ -302,6 +316,7 @@ pub fn parse_with(
             &index,
             text,
             tokens,
+            edition,
             limit,
             nodes,
             links,
@@ -311,8 +326,8 @@ pub fn parse_with(
     }
 }
 
-// Reads a script beside no built-in names.
-// Ruled out: a row count that is not the tree's; a room that is not zero after a refusal in reading.
+// Reads a script of edition 1 beside no built-in names: document 01's call.
+// Ruled out: a reading as edition 2 has it; a row count that is not the tree's; a room that is not zero after a refusal in reading.
 pub fn parse(
     text: &[u8],
     tokens: &[u32],
@@ -322,7 +337,7 @@ pub fn parse(
     symbols: &mut [u32],
     scratch: &mut [u32],
 ) -> Numbers
-    ensures { λ r. ⌜ Parsed none (now (text .entry)) (now (tokens .entry)) limit (rooms (now (nodes .entry)) (now (links .entry)) (now (symbols .entry)) (now (scratch .entry))) (rooms (now (nodes .exit)) (now (links .exit)) (now (symbols .exit)) (now (scratch .exit))) r ⌝ }
+    ensures { λ r. ⌜ Parsed none (now (text .entry)) (now (tokens .entry)) 1 limit (rooms (now (nodes .entry)) (now (links .entry)) (now (symbols .entry)) (now (scratch .entry))) (rooms (now (nodes .exit)) (now (links .exit)) (now (symbols .exit)) (now (scratch .exit))) r ⌝ }
 {
     let names: [u8; 0] = [0; 0];
     let rows: [u32; 0] = [0; 0];
@@ -331,6 +346,7 @@ pub fn parse(
         &rows,
         text,
         tokens,
+        editions::FIRST,
         limit,
         nodes,
         links,

@@ -77,7 +77,7 @@ fn fields(node: &Node, links: &mut Vec<[u32; 3]>) -> (u32, Vec<u32>) {
             (21, vec![condition, then_branch, absent(else_branch)])
         }
         Node::WhileLoop { condition, block } => (22, vec![condition, block]),
-        Node::Return(child) => (23, vec![child]),
+        Node::Return(child) => (23, vec![absent(child)]),
         Node::Break => (24, vec![]),
         Node::Continue => (25, vec![]),
         Node::Import { path, bindings } => {

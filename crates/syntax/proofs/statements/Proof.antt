@@ -17,6 +17,7 @@ use Rattle.reading.specs.Reading.{refusal, Refusing}
 use Rattle.reading.specs.State.{State, state, Within}
 use Rattle.reading.specs.declared.Read.{Read}
 use Rattle.reading.specs.declared.Refusal.{Refusal}
+use Rattle.reading.specs.declared.Terms.{Terms}
 use Rattle.reading.proofs.Listings.{Listing, Item-of, listing-none, listing-more, listing-end, lists, item-less, hold-room, hold-number}
 use Rattle.reading.proofs.Refusals.{lowered}
 use Rattle.reading.proofs.Replies.{stated, further}
@@ -25,25 +26,25 @@ use Rattle.syntax.proofs.statements.Statement.{statement}
 use Rattle.syntax.proofs.statements.Tie as tie
 
 -- a statement is refused
-passed : {ts : List ℕ} {limit o o′ : ℕ} {s s′ : State} {ns ls ss : List ℕ} {r : Read} {q : Refusal} → r ≡ Read.Refused q → States ts limit o′ s′ ns ls ss r →
-    ((x : Refused) → Refusing ts limit (choice a-statement) o′ s′ x → Refusing ts limit (chain empty script-items) o s x) → Lists ts limit (whole (chain empty script-items)) o s ns ls ss r
+passed : {ts : List ℕ} {terms : Terms} {o o′ : ℕ} {s s′ : State} {ns ls ss : List ℕ} {r : Read} {q : Refusal} → r ≡ Read.Refused q → States ts terms o′ s′ ns ls ss r →
+    ((x : Refused) → Refusing ts terms (choice a-statement) o′ s′ x → Refusing ts terms (chain empty script-items) o s x) → Lists ts terms (whole (chain empty script-items)) o s ns ls ss r
 unfolding State-case List-case
 passed {q = q} e a up = rw e (record { says = up (refusal q) ((rw e at a) .says) })
 
 -- the row that is held for a statement is its link row
-row-held : {ts : List ℕ} {limit o : ℕ} {s s′ : State} {n : Node} → Within ts s → (z : Stated ts limit o s n s′) → n .id ∷ 0 ∷ 0 ∷ [] ≡ link (z .handle)
+row-held : {ts : List ℕ} {terms : Terms} {o : ℕ} {s s′ : State} {n : Node} → Within ts s → (z : Stated ts terms o s n s′) → n .id ∷ 0 ∷ 0 ∷ [] ≡ link (z .handle)
 row-held w z = sym (statement-link w (z .success .reading) ∙ ap (λ i. i ∷ 0 ∷ 0 ∷ []) (z .row-is))
 
 -- what the loop keeps: what is read and held since s, and the kind of the token that comes next
-record Up-to (ts : List ℕ) (limit : ℕ) (s s₁ : State) (x : ℕ) : Type 0 where
-  listing : Listing ts limit script-items 0 s s₁
+record Up-to (ts : List ℕ) (terms : Terms) (s s₁ : State) (x : ℕ) : Type 0 where
+  listing : Listing ts terms script-items 0 s s₁
   next-is : x ≡ kind ts (s₁ .cursor .at)
 
 abbrev Inv-list : tie.InvT-list
-Inv-list tokens nodes₀ links₀ scratch₀ limit now₀ first kind₀ nodes links scratch now kind = Up-to tokens limit (state nodes₀ links₀ scratch₀ now₀) (state nodes links scratch now) kind
+Inv-list tokens nodes₀ links₀ scratch₀ terms now₀ first kind₀ nodes links scratch now kind = Up-to tokens terms (state nodes₀ links₀ scratch₀ now₀) (state nodes links scratch now) kind
 
 abbrev μ-list : tie.MeasureT-list
-μ-list tokens nodes₀ links₀ scratch₀ limit now₀ first kind₀ nodes links scratch now kind = count tokens - now .at
+μ-list tokens nodes₀ links₀ scratch₀ terms now₀ first kind₀ nodes links scratch now kind = count tokens - now .at
 
 -- back from where one part is known to where the one before it is
 abbrev to-start : tie.At-list Inv-list μ-list → tie.Start Inv-list μ-list
@@ -52,7 +53,7 @@ to-start c = c .before .before .before .before .before .before
 -- where the script goes on: what its table has there
 on : (c : tie.In-list Inv-list μ-list) → Item-of (c .before .list .inv .listing) (choice a-statement)
 unfolding rules
-on c = unkeyed script-items _ refl (rw (c .before .list .inv .next-is) at (c .list-test .left))
+on c = unkeyed _ script-items _ refl (rw (c .before .list .inv .next-is) at (c .list-test .left))
 
 list-holds : tie.Need-list-holds Inv-list μ-list
 list-holds c = record { listing = listing-none List-table.script (c .before .before .before .before .before .pre); next-is = c .kind-at .ensures }
@@ -102,7 +103,7 @@ list-less c =
 
 returns-2 : tie.Need-returns-2 Inv-list μ-list
 unfolding rules
-returns-2 c = lists (listing-end (c .before .list .inv .listing) (keyed script-items _ refl (rw (c .before .list .inv .next-is) at (c .list-test .taken))))
+returns-2 c = lists (listing-end (c .before .list .inv .listing) (keyed _ script-items _ refl (rw (c .before .list .inv .next-is) at (c .list-test .taken))))
 
 pub statements-spec : {M : Type 1} → statement M
 statements-spec =
