@@ -1,6 +1,7 @@
-// The command `kaori`, for those who write scripts: what a script reads as, what is wrong with it, and what stands at a place of it.
+// The command `kaori`, for those who write scripts: what a script reads as, what is wrong with it, what stands at a place of it, and what the editions group differently.
 mod at;
 mod builtin;
+mod compare;
 mod cover;
 mod listing;
 mod load;
@@ -17,6 +18,7 @@ use builtin::list;
 use builtins::MOST;
 use builtins::NAME_WIDTH;
 use check::same;
+use compare::compare;
 use libc::STDOUT_FILENO;
 use load::complain;
 use load::fail;
@@ -24,6 +26,7 @@ use load::load;
 use page::put_line;
 use script::Wish;
 use script::script;
+use token::editions;
 ghost use Prim.Native.Nat.{_≤_};
 ghost use lib.ListN.{length};
 
@@ -51,7 +54,19 @@ fn help() {
     );
     io::write_all(
         STDOUT_FILENO,
+        b"  kaori compare FILE ..       shows what editions 1 and 2 of Kaori group differently\n",
+    );
+    io::write_all(
+        STDOUT_FILENO,
+        b"  kaori --edition 2 ..        any of these in edition 2; without it, in edition 1\n",
+    );
+    io::write_all(
+        STDOUT_FILENO,
         b"  kaori --names FILE ..       any of these with built-in names, a line each in FILE; the tree marks them\n",
+    );
+    io::write_all(
+        STDOUT_FILENO,
+        b"  kaori .. then ..            one after the other\n",
     );
     io::write_all(
         STDOUT_FILENO,
@@ -63,7 +78,7 @@ fn help() {
     );
     io::write_all(
         STDOUT_FILENO,
-        b"Exit status: 0 if all scripts are good, 1 if one is not, 2 if a file cannot be read, has no such place or lists no right names.\n",
+        b"Exit status: 0 if all scripts are good, 1 if one is not or the editions differ, 2 if a file cannot be read, has no such place or lists no right names.\n",
     );
 }
 
@@ -81,6 +96,9 @@ fn file(names: &[u8], rows: &[u32], wish: Wish, path: &[u8], out: &mut [u8; 4096
         return 2;
     }
     let n = loaded.size;
+    if wish.compare {
+        return compare(names, rows, path, &text[..n], out);
+    }
     script(names, rows, wish, path, &text[..n], out)
 }
 
@@ -121,20 +139,19 @@ fn worse(a: u32, b: u32) -> u32
     a
 }
 
-// The files that the arguments from `first` on name.
-fn files(names: &[u8], rows: &[u32], wish: Wish, first: usize) -> u32
+// The files that the arguments from `first` up to `end` name.
+fn files(names: &[u8], rows: &[u32], wish: Wish, first: usize, end: usize) -> u32
     ensures { λ r. ⌜ r ≤ 2 ⌝ }
 {
     let mut out = io::buffer();
-    let n = os::arg_count();
-    if first >= n {
+    if first >= end {
         complain(b"no file", b" is named; see kaori help");
         return 2;
     }
-    let many = n - first > 1;
+    let many = end - first > 1;
     let mut status = 0;
     let mut i = first;
-    while i < n {
+    while i < end {
         status = worse(status, argument(names, rows, wish, i, many, &mut out));
         i += 1;
     }
@@ -157,161 +174,181 @@ fn number(i: usize) -> u32 {
 }
 
 // What stands at the place that three arguments name: a file, a line and a column.
-fn place(names: &[u8], rows: &[u32], first: usize) -> u32
-    requires { ⌜ first ≤ 5 ⌝ }
+fn place(names: &[u8], rows: &[u32], wish: Wish, first: usize, end: usize) -> u32
+    requires { ⌜ first ≤ end ⌝ }
     ensures { λ r. ⌜ r ≤ 2 ⌝ }
 {
     let mut out = io::buffer();
-    if os::arg_count() != first + 3 {
+    if end - first != 3 {
         complain(b"at", b" takes a file, a line and a column; see kaori help");
         return 2;
     }
-    let line = number(first + 1);
-    if line == 0 {
+    let mut there = wish;
+    there.line = number(first + 1);
+    if there.line == 0 {
         return 2;
     }
-    let column = number(first + 2);
-    if column == 0 {
+    there.column = number(first + 2);
+    if there.column == 0 {
         return 2;
     }
-    argument(
-        names,
-        rows,
-        Wish {
-            report: true,
-            tree: false,
-            rows: false,
-            heads: false,
-            line: line,
-            column: column,
-        },
-        first,
-        false,
-        &mut out,
-    )
+    argument(names, rows, there, first, false, &mut out)
 }
 
-// What a command asks for, and the files that follow it.
-fn command(names: &[u8], rows: &[u32], word: &[u8], first: usize) -> u32
-    requires { ⌜ first ≤ 5 ⌝ }
+// What a command asks for in an edition, and the files that follow it.
+fn command(names: &[u8], rows: &[u32], edition: u32, word: &[u8], first: usize, end: usize) -> u32
+    requires { ⌜ first ≤ end ⌝ }
     ensures { λ r. ⌜ r ≤ 2 ⌝ }
 {
+    let mut wish = Wish {
+        edition: edition,
+        report: true,
+        tree: false,
+        rows: false,
+        heads: false,
+        compare: false,
+        line: 0,
+        column: 0,
+    };
     if same(word, b"check") {
-        return files(
-            names,
-            rows,
-            Wish {
-                report: true,
-                tree: false,
-                rows: false,
-                heads: false,
-                line: 0,
-                column: 0,
-            },
-            first,
-        );
+        return files(names, rows, wish, first, end);
     }
-    if same(word, b"tree") {
-        return files(
-            names,
-            rows,
-            Wish {
-                report: true,
-                tree: true,
-                rows: false,
-                heads: true,
-                line: 0,
-                column: 0,
-            },
-            first,
-        );
-    }
-    if same(word, b"rows") {
-        return files(
-            names,
-            rows,
-            Wish {
-                report: false,
-                tree: false,
-                rows: true,
-                heads: true,
-                line: 0,
-                column: 0,
-            },
-            first,
-        );
-    }
-    if same(word, b"all") {
-        return files(
-            names,
-            rows,
-            Wish {
-                report: true,
-                tree: true,
-                rows: true,
-                heads: true,
-                line: 0,
-                column: 0,
-            },
-            first,
-        );
+    if same(word, b"compare") {
+        wish.compare = true;
+        return files(names, rows, wish, first, end);
     }
     if same(word, b"at") {
-        return place(names, rows, first);
+        return place(names, rows, wish, first, end);
     }
     if same(word, b"help") {
         help();
         return 0;
     }
+    wish.heads = true;
+    if same(word, b"tree") {
+        wish.tree = true;
+        return files(names, rows, wish, first, end);
+    }
+    if same(word, b"all") {
+        wish.tree = true;
+        wish.rows = true;
+        return files(names, rows, wish, first, end);
+    }
+    if same(word, b"rows") {
+        wish.report = false;
+        wish.rows = true;
+        return files(names, rows, wish, first, end);
+    }
     complain(word, b": no such command; see kaori help");
     2
 }
 
-// The command that argument i names, beside built-in names; help where there is none.
-fn run(names: &[u8], rows: &[u32], i: usize) -> u32
-    requires { ⌜ i ≤ 4 ⌝ }
+// The command that argument i names, in an edition and beside built-in names; help where there is none.
+fn run(names: &[u8], rows: &[u32], edition: u32, i: usize, end: usize) -> u32
     ensures { λ r. ⌜ r ≤ 2 ⌝ }
 {
-    let mut word = io::buffer();
-    let n = os::arg(i, &mut word);
-    let error = os::errno();
-    if error == libc::EINVAL {
+    if i >= end {
         help();
         return 0;
     }
-    if error != 0 {
+    let mut word = io::buffer();
+    let n = os::arg(i, &mut word);
+    if os::errno() != 0 {
         fail(b"command");
         return 2;
     }
-    command(names, rows, &word[..n], i + 1)
+    command(names, rows, edition, &word[..n], i + 1, end)
 }
 
-// The command that argument i names, beside the names that a file's text lists.
-fn run_named(path: &[u8], text: &[u8], i: usize) -> u32
-    requires { ⌜ (length (now text) ≤ 65536) × (i ≤ 4) ⌝ }
+// Whether argument i is this word.
+fn is_word(i: usize, word: &[u8]) -> bool {
+    let mut room = [0u8; 16];
+    let n = os::arg(i, &mut room);
+    same(&room[..n], word)
+}
+
+// An edition, and the argument that is next.
+struct Choice {
+    edition: u32,
+    next: usize,
+}
+
+// The edition that argument i names; 0, with a complaint, where it names none.
+fn edition_at(i: usize, end: usize) -> Choice
+    requires { ⌜ i ≤ end ⌝ }
+    ensures { λ r. ⌜ r .next ≤ end ⌝ }
+{
+    if i < end {
+        if is_word(i, b"1") {
+            return Choice {
+                edition: editions::FIRST,
+                next: i + 1,
+            };
+        }
+        if is_word(i, b"2") {
+            return Choice {
+                edition: editions::SECOND,
+                next: i + 1,
+            };
+        }
+    }
+    complain(b"--edition", b" takes 1 or 2; see kaori help");
+    Choice {
+        edition: 0,
+        next: i,
+    }
+}
+
+// The edition that stands after `--edition`, where that is argument i, and else the edition `otherwise`.
+fn chosen(otherwise: u32, i: usize, end: usize) -> Choice
+    requires { ⌜ i ≤ end ⌝ }
+    ensures { λ r. ⌜ r .next ≤ end ⌝ }
+{
+    if i < end {
+        if is_word(i, b"--edition") {
+            return edition_at(i + 1, end);
+        }
+    }
+    Choice {
+        edition: otherwise,
+        next: i,
+    }
+}
+
+// The command from argument i on, which may be `--edition`, beside the names that a file's text lists.
+fn run_named(edition: u32, path: &[u8], text: &[u8], i: usize, end: usize) -> u32
+    requires { ⌜ (length (now text) ≤ 65536) × (i ≤ end) ⌝ }
     ensures { λ r. ⌜ r ≤ 2 ⌝ }
 {
+    let choice = chosen(edition, i, end);
+    if choice.edition == 0 {
+        return 2;
+    }
     let mut rows: [u32; ROWS] = [0; ROWS];
     let count = list(path, text, &mut rows);
     if count > MOST {
         return 2;
     }
-    run(text, &rows[..NAME_WIDTH * count], i)
+    run(
+        text,
+        &rows[..NAME_WIDTH * count],
+        choice.edition,
+        choice.next,
+        end,
+    )
 }
 
 // The command after argument i, which names the file that lists the built-in names.
-fn run_beside(i: usize) -> u32
-    requires { ⌜ i ≤ 3 ⌝ }
+fn run_beside(edition: u32, i: usize, end: usize) -> u32
     ensures { λ r. ⌜ r ≤ 2 ⌝ }
 {
-    let mut path = io::buffer();
-    let n = os::arg(i, &mut path);
-    let error = os::errno();
-    if error == libc::EINVAL {
+    if i >= end {
         complain(b"--names", b" takes a file; see kaori help");
         return 2;
     }
-    if error != 0 {
+    let mut path = io::buffer();
+    let n = os::arg(i, &mut path);
+    if os::errno() != 0 {
         fail(b"file name");
         return 2;
     }
@@ -325,30 +362,62 @@ fn run_beside(i: usize) -> u32
         return 2;
     }
     let size = loaded.size;
-    run_named(&path[..n], &text[..size], i + 1)
+    run_named(edition, &path[..n], &text[..size], i + 1, end)
 }
 
-// The command from argument i on, which may be `--names`.
-fn start(i: usize) -> u32
-    requires { ⌜ i ≤ 2 ⌝ }
+// The command of the arguments from i up to `end`, which may begin with `--edition` and `--names`.
+fn start(i: usize, end: usize) -> u32
+    requires { ⌜ i ≤ end ⌝ }
     ensures { λ r. ⌜ r ≤ 2 ⌝ }
 {
-    let mut word = [0u8; 16];
-    let n = os::arg(i, &mut word);
-    if same(&word[..n], b"--names") {
-        return run_beside(i + 1);
+    let choice = chosen(editions::FIRST, i, end);
+    if choice.edition == 0 {
+        return 2;
+    }
+    let at = choice.next;
+    if at < end {
+        if is_word(at, b"--names") {
+            return run_beside(choice.edition, at + 1, end);
+        }
     }
     let names: [u8; 0] = [0; 0];
     let rows: [u32; 0] = [0; 0];
-    run(&names, &rows, i)
+    run(&names, &rows, choice.edition, at, end)
+}
+
+// Where the command ends that begins at argument i: at the next `then`, or after the last of n arguments.
+fn end_from(i: usize, n: usize) -> usize
+    ensures { λ r. ⌜ i ≤ r ⌝ }
+{
+    let mut at = i;
+    while at < n {
+        if is_word(at, b"then") {
+            return at;
+        }
+        at += 1;
+    }
+    at
+}
+
+// The commands from argument `first` on, with `then` between two. The answer is the worst status.
+fn commands(first: usize) -> u32
+    ensures { λ r. ⌜ r ≤ 2 ⌝ }
+{
+    let n = os::arg_count();
+    let mut end = end_from(first, n);
+    let mut status = start(first, end);
+    while end < n {
+        let next = end + 1;
+        end = end_from(next, n);
+        status = worse(status, start(next, end));
+    }
+    status
 }
 
 // A program answers no status. Where its first argument is `--status`, it writes the digit to descriptor 3 instead, for the script that starts it.
 fn main() {
-    let mut word = [0u8; 16];
-    let n = os::arg(1, &mut word);
-    if same(&word[..n], b"--status") {
-        let status = start(2);
+    if is_word(1, b"--status") {
+        let status = commands(2);
         if status == 0 {
             io::write_all(3, b"0");
             return;
@@ -360,5 +429,5 @@ fn main() {
         io::write_all(3, b"2");
         return;
     }
-    start(1);
+    commands(1);
 }

@@ -171,6 +171,17 @@ fn put_import(
     put_names(text, links, node(nodes, row, 5), many, b", ", out, colon)
 }
 
+// `return`, with a blank before its value where it has one.
+fn put_return(value: u32, out: &mut [u8; 4096], at: usize) -> usize
+    requires { ⌜ at ≤ 4096 ⌝ }
+    ensures { λ r. ⌜ r ≤ 4096 ⌝ }
+{
+    if value == ABSENT {
+        return put(b"return", out, at);
+    }
+    put(b"return ", out, at)
+}
+
 // What a row starts with, before its first child; all of a row that has no child.
 fn opening(
     text: &[u8],
@@ -203,7 +214,7 @@ fn opening(
         kinds::BLOCK => put_byte(b'{', out, at),
         kinds::IF => put(b"if ", out, at),
         kinds::WHILE_LOOP => put(b"while ", out, at),
-        kinds::RETURN => put(b"return ", out, at),
+        kinds::RETURN => put_return(node(nodes, row, 3), out, at),
         kinds::IMPORT => put_import(text, nodes, links, row, out, at),
         _ => at,
     }
@@ -225,7 +236,16 @@ fn is_open(kind: u32) -> bool {
     }
 }
 
-// Whether a child is put in parentheses: the operand of an operator, and the body of a lambda; and what a block or `=` follows, where it would not end there.
+// Whether a node of this kind is a name or a chain: what a call or a dot follows without parentheses.
+fn is_chain(kind: u32) -> bool {
+    match kind {
+        kinds::IDENTIFIER | kinds::FUNCTION_CALL..=kinds::PROPERTY_ACCESS => true,
+        _ => false,
+    }
+}
+
+// Whether a child is put in parentheses: the operand of an operator, and the body of a lambda; what a block or `=` follows, where it would not end there; and what a
+// call or a dot follows, where it is no chain.
 fn is_grouped(kind: u32, place: usize, kid: u32) -> bool {
     match kind {
         kinds::BINARY..=kinds::UNARY => is_compound(kid),
@@ -234,6 +254,12 @@ fn is_grouped(kind: u32, place: usize, kid: u32) -> bool {
                 return false;
             }
             is_compound(kid)
+        }
+        kinds::FUNCTION_CALL..=kinds::PROPERTY_ACCESS => {
+            if place == 0 {
+                return !is_chain(kid);
+            }
+            false
         }
         kinds::ASSIGN | kinds::IF..=kinds::WHILE_LOOP => {
             if place == 0 {

@@ -4,10 +4,12 @@ use crate::page::put;
 use crate::page::put_byte;
 use crate::page::put_first;
 use crate::page::put_number;
+use diagnostics::Place;
 use diagnostics::line::place;
 use diagnostics::line::writing_end;
 use diagnostics::text::message;
 ghost use Prim.Native.Nat.{_≤_};
+ghost use lib.ListN.{length};
 
 // A refusal: its code, its place in the text, the kind that was required, and the kind that was found.
 pub struct Why {
@@ -67,7 +69,7 @@ fn as_wide(byte: u8) -> u8 {
 }
 
 // As many columns as these bytes take.
-fn put_columns(part: &[u8], out: &mut [u8; 4096], at: usize) -> usize
+pub(crate) fn put_columns(part: &[u8], out: &mut [u8; 4096], at: usize) -> usize
     requires { ⌜ at ≤ 4096 ⌝ }
     ensures { λ r. ⌜ r ≤ 4096 ⌝ }
 {
@@ -80,44 +82,66 @@ fn put_columns(part: &[u8], out: &mut [u8; 4096], at: usize) -> usize
     now
 }
 
-// What is written on the line of an offset, and a caret below the offset. The line starts as many bytes before it as the column says.
-fn show_line(text: &[u8], offset: usize, column: u32, out: &mut [u8; 4096]) {
+// Where the line of an offset starts: as many bytes before it as the column says, which is 1 at the start. The offset itself, where there are not so many.
+pub(crate) fn line_start(offset: usize, column: u32) -> usize
+    ensures { λ r. ⌜ r ≤ offset ⌝ }
+{
     let back = column as usize;
-    if offset > text.len() {
-        return;
+    if back == 0 {
+        return offset;
     }
-    if back > offset + 1 {
-        return;
+    if back - 1 > offset {
+        return offset;
     }
-    let start = offset + 1 - back;
-    if start > offset {
-        return;
-    }
+    offset - (back - 1)
+}
+
+// What is written on the line that starts at an offset.
+pub(crate) fn show_written(text: &[u8], start: usize, out: &mut [u8; 4096])
+    requires { ⌜ start ≤ length (now text) ⌝ }
+{
     let end = writing_end(text, start);
     let line = put(&text[start..end], out, 0);
     end_line(out, line);
+}
+
+// What is written on the line of an offset, and a caret below the offset.
+fn show_line(text: &[u8], offset: usize, column: u32, out: &mut [u8; 4096]) {
+    if offset > text.len() {
+        return;
+    }
+    let start = line_start(offset, column);
+    show_written(text, start, out);
     let under = put_columns(&text[start..offset], out, 0);
     let caret = put_byte(b'^', out, under);
     end_line(out, caret);
+}
+
+// A file and a place in it, before a message.
+pub(crate) fn put_where(path: &[u8], here: Place, out: &mut [u8; 4096]) -> usize
+    ensures { λ r. ⌜ r ≤ 4096 ⌝ }
+{
+    let named = put(path, out, 0);
+    let colon = put_byte(b':', out, named);
+    let line = put_number(here.line, out, colon);
+    let then = put_byte(b':', out, line);
+    let column = put_number(here.column, out, then);
+    put(b": ", out, column)
 }
 
 // Says what is wrong with the file `path`.
 pub(crate) fn report(path: &[u8], text: &[u8], why: Why, out: &mut [u8; 4096]) {
     let offset = why.start as usize;
     let here = place(text, offset);
-    let named = put(path, out, 0);
-    let colon = put_byte(b':', out, named);
     if why.code < 3 {
-        let gap = put_byte(b' ', out, colon);
+        let named = put(path, out, 0);
+        let gap = put(b": ", out, named);
         let all = put_why(text, why, out, gap);
         end_line(out, all);
         return;
     }
-    let line = put_number(here.line, out, colon);
-    let then = put_byte(b':', out, line);
-    let column = put_number(here.column, out, then);
-    let gap = put(b": ", out, column);
-    let all = put_why(text, why, out, gap);
+    let led = put_where(path, here, out);
+    let all = put_why(text, why, out, led);
     end_line(out, all);
     show_line(text, offset, here.column, out);
 }

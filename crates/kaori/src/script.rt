@@ -30,13 +30,15 @@ use token::kinds;
 use wire::output::found;
 ghost use Prim.Native.Nat.{_≤_};
 
-// What is asked for: the report of a refusal, the statements with their trees, the rows; the names of files above them; and what stands at a line and a column,
-// unless the line is 0.
+// What is asked for: the edition; the report of a refusal, the statements with their trees, the rows; the names of files above them; both editions side by side; and
+// what stands at a line and a column, unless the line is 0.
 pub struct Wish {
+    pub edition: u32,
     pub report: bool,
     pub tree: bool,
     pub rows: bool,
     pub heads: bool,
+    pub compare: bool,
     pub line: u32,
     pub column: u32,
 }
@@ -105,7 +107,7 @@ fn show_all(
 }
 
 // How many tokens a list has: up to Eof, which is the last.
-fn count(list: &[u32]) -> u32 {
+pub(crate) fn count(list: &[u32]) -> u32 {
     let mut n: u32 = 0;
     while n < 4096 {
         if found(list, n) == kinds::EOF {
@@ -173,6 +175,17 @@ fn show_place(
     0
 }
 
+// Says what is wrong with a script that is refused.
+pub(crate) fn tell(path: &[u8], text: &[u8], list: &[u32], a: Numbers, out: &mut [u8; 4096]) {
+    let why = Why {
+        code: a.code,
+        start: a.start,
+        expected: a.expected,
+        found: found(list, a.at),
+    };
+    report(path, text, why, out);
+}
+
 // What is shown of a script that is refused: a report, and its numbers as the listing has them.
 fn show_refused(
     wish: Wish,
@@ -183,13 +196,7 @@ fn show_refused(
     out: &mut [u8; 4096],
 ) {
     if wish.report {
-        let why = Why {
-            code: a.code,
-            start: a.start,
-            expected: a.expected,
-            found: found(list, a.at),
-        };
-        report(path, text, why, out);
+        tell(path, text, list, a, out);
     }
     if wish.rows {
         list_refusal(list, a.code, a.at, a.start, a.end, a.expected);
@@ -197,20 +204,20 @@ fn show_refused(
 }
 
 // Rooms of 4,096 rows, zero throughout, with so many numbers a row.
-fn two_each() -> [u32; 8192] {
+pub(crate) fn two_each() -> [u32; 8192] {
     [0; 8192]
 }
 
-fn three_each() -> [u32; 12288] {
+pub(crate) fn three_each() -> [u32; 12288] {
     [0; 12288]
 }
 
-fn ten_each() -> [u32; 40960] {
+pub(crate) fn ten_each() -> [u32; 40960] {
     [0; 40960]
 }
 
 // The symbol room has 64 rows more, for built-in names.
-fn symbol_room() -> [u32; 8320] {
+pub(crate) fn symbol_room() -> [u32; 8320] {
     [0; 8320]
 }
 
@@ -236,6 +243,7 @@ pub(crate) fn script(
         rows,
         text,
         &mut list,
+        wish.edition,
         64,
         &mut nodes,
         &mut links,

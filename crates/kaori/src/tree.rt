@@ -21,7 +21,7 @@ use diagnostics::line::place;
 ghost use Prim.Native.Nat.{_+_, _≤_, _<_};
 
 // Line and column of an offset.
-fn put_place(text: &[u8], offset: u32, out: &mut [u8; 4096], at: usize) -> usize
+pub(crate) fn put_place(text: &[u8], offset: u32, out: &mut [u8; 4096], at: usize) -> usize
     requires { ⌜ at ≤ 4096 ⌝ }
     ensures { λ r. ⌜ r ≤ 4096 ⌝ }
 {

@@ -89,7 +89,7 @@ pub(crate) fn put_sign(kind: u32, operator: u32, out: &mut [u8; 4096], at: usize
 }
 
 // The least of two numbers.
-fn least(a: usize, b: usize) -> usize
+pub(crate) fn least(a: usize, b: usize) -> usize
     ensures { λ r. ⌜ (r ≤ a) × (r ≤ b) ⌝ }
 {
     if a < b {

@@ -11,5 +11,5 @@ slice-aggregate-run c = sym (length-take-le _ _ (search needs))
 pub run-named-spec : {M : Type 1} → statement M
 run-named-spec =
     tie.close
-    (tie.spec (λ c. search needs) (λ c κs. search needs) (λ c. search needs) (λ c. search needs) (λ c. search needs) slice-aggregate-run (λ c κs. search needs)
-    (λ c. search needs))
+    (tie.spec (λ c κs. search needs) (λ c. search needs) (λ c. search needs) (λ c κs. search needs) (λ c. search needs) (λ c. search needs) (λ c. search needs)
+    slice-aggregate-run (λ c κs. search needs) (λ c. search needs))
