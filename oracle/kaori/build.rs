@@ -1,6 +1,9 @@
 //! Names the source documents where they stand, and derives two more parsers from parser.rs: one counts openings, the
-//! other also records the rows that it asks for, over a tree derived from ast.rs.
+//! other also records the rows that it asks for, over a tree derived from ast.rs. The same of edition 2, whose parser and
+//! tree are parser.rs and ast.rs with the changes of second.rs.
 use std::{env, fs, path::Path, path::PathBuf};
+
+mod second;
 
 /// The functions of parser.rs that counting.rs wraps, and those that recording.rs does.
 const COUNTED: [&str; 5] =
@@ -14,6 +17,7 @@ fn main() {
     let out = PathBuf::from(env::var("OUT_DIR").unwrap());
     println!("cargo::rerun-if-env-changed=KAORI_SRC");
     println!("cargo::rerun-if-changed=build.rs");
+    println!("cargo::rerun-if-changed=second.rs");
 
     let root = match env::var_os("KAORI_SRC") {
         Some(folder) => PathBuf::from(folder),
@@ -32,16 +36,18 @@ fn main() {
         println!("cargo::rerun-if-changed={name}");
         fs::read_to_string(manifest.join(name)).unwrap()
     };
-    let derived = |name: &str, text: String| {
-        let path = out.join(name);
-        fs::write(&path, text).unwrap();
-        path
-    };
 
     let (parser, ast) = (source("syntax/parser.rs"), source("syntax/ast.rs"));
-    let counted = renamed(&fs::read_to_string(&parser).unwrap(), &COUNTED) + &wrappers("counting.rs");
-    let recorded = renamed(&over_recorded_tree(&counted), &RECORDED) + &wrappers("recording.rs");
-    let tree = renamed(&fs::read_to_string(&ast).unwrap(), &INSERTED) + &wrappers("inserting.rs");
+    let [parser_text, ast_text] = [&parser, &ast].map(|path| fs::read_to_string(path).unwrap());
+    let [counting, recording, inserting] = ["counting.rs", "recording.rs", "inserting.rs"].map(wrappers);
+    let counted = |parser: &str, counting: &str| renamed(parser, &COUNTED) + counting;
+    let recorded = |counted: &str| renamed(counted, &RECORDED) + &recording;
+    let inserted = |ast: &str| renamed(ast, &INSERTED) + &inserting;
+
+    let first_counted = counted(&parser_text, &counting);
+    let second_parser = changed(&parser_text, &second::PARSER);
+    let second_ast = changed(&ast_text, &second::AST);
+    let second_counted = counted(&second_parser, &changed(&counting, &second::COUNTING));
 
     let token = source("syntax/token.rs");
     let syntax = [
@@ -49,12 +55,25 @@ fn main() {
         module("ops", &source("syntax/ops.rs")),
         module("token", &token),
         module("parser", &parser),
-        module("counted", &derived("counted.rs", counted)),
-        module("recorded", &derived("recorded.rs", recorded)),
-        module("recorded_ast", &derived("recorded_ast.rs", tree)),
     ];
+    let derived = [
+        ("recorded_ast", inserted(&ast_text)),
+        ("recorded", over("recorded_ast", &recorded(&first_counted))),
+        ("counted", first_counted),
+        ("second_recorded_ast", inserted(&second_ast)),
+        ("second_recorded", over("second_recorded_ast", &recorded(&second_counted))),
+        ("second_counted", over("second_ast", &second_counted)),
+        ("second_parser", over("second_ast", &second_parser)),
+        ("second_ast", second_ast),
+    ];
+    let derived = derived.map(|(name, text)| {
+        let path = out.join(name).with_extension("rs");
+        fs::write(&path, text).unwrap();
+        module(name, &path)
+    });
     let util = module("string_interner", &source("util/string_interner.rs"));
-    let tree = format!("pub mod syntax {{\n{}}}\npub mod util {{\n{util}}}\n", syntax.concat());
+    let syntax = syntax.concat() + &derived.concat();
+    let tree = format!("pub mod syntax {{\n{syntax}}}\npub mod util {{\n{util}}}\n");
     let text = format!("/// The text of token.rs.\npub const TOKEN_RS: &str = include_str!({token:?});\n");
     fs::write(out.join("kaori.rs"), tree + &text).unwrap();
 }
@@ -70,13 +89,15 @@ fn renamed(source: &str, functions: &[&str]) -> String {
     })
 }
 
-/// A parser that makes the derived tree.
-fn over_recorded_tree(parser: &str) -> String {
-    replaced(
-        parser,
-        "        ast::{Ast, NodeId, Spanned},\n",
-        "        recorded_ast::{Ast, NodeId, Spanned},\n",
-    )
+/// A parser that makes a derived tree.
+fn over(tree: &str, parser: &str) -> String {
+    let imported = |tree: &str| format!("        {tree}::{{Ast, NodeId, Spanned}},\n");
+    replaced(parser, &imported("ast"), &imported(tree))
+}
+
+/// A source with all of these changes.
+fn changed(source: &str, changes: &[second::Change]) -> String {
+    changes.iter().fold(source.to_string(), |text, (old, new)| replaced(&text, old, new))
 }
 
 fn replaced(text: &str, old: &str, new: &str) -> String {

@@ -12,6 +12,7 @@ use crate::{
     random::Random,
     rooms::{Known, LARGEST, Lent, MAX_NAMES_NUMBERS, MAX_NAMES_TEXT, NAMES_HEAD, SCRATCH, SYMBOLS, WIDTHS},
     scripts::any_name,
+    terms::FIRST,
     tight::{limit, settings},
 };
 
@@ -78,6 +79,11 @@ pub const WRONG: &[(&[u8], &[u32])] = &[
 
 fn builtins((text, rows): (&[u8], &[u32])) -> Builtins {
     Builtins { text: text.into(), rows: rows.into() }
+}
+
+/// Two names, and one that stands there twice.
+pub fn right_and_wrong() -> [Builtins; 2] {
+    [builtins((b"print advance", &[0, 5, 6, 13])), builtins((b"ab ab", &[3, 5, 0, 2, 9]))]
 }
 
 /// So many different names.
@@ -178,8 +184,7 @@ pub fn chosen() -> Vec<Vec<u8>> {
     let known = Known::beside(many(64), script("n63; n64;"), LIMIT);
     calls.push(Lent { names: Some(many(64)), ..known.lent(known.fitting(known.asked().len())) });
     calls.push(faulty(&many(65), 0));
-    let [right, twice] =
-        [builtins((b"print advance", &[0, 5, 6, 13])), builtins((b"ab ab", &[3, 5, 0, 2, 9]))];
+    let [right, twice] = right_and_wrong();
     calls.extend(WRONG.iter().map(|names| faulty(&builtins(*names), 0)));
     for fault in 0..FAULTS {
         calls.extend([faulty(&twice, 1 << fault), faulty(&right, 1 << SHORT_SYMBOLS | 1 << fault)]);
@@ -226,14 +231,15 @@ pub fn frames(seed: u64) -> impl Iterator<Item = Vec<u8>> + Send {
     let cases = Cases::new(seed);
     let drawn = (0..).flat_map(move |index| {
         let random = &mut Random::of(seed.rotate_left(32), index);
-        let case = if random.once_in(8) { Some(mangled(random)) } else { Case::decode(&cases.get(index)) };
+        let case =
+            if random.once_in(8) { Some(mangled(FIRST, random)) } else { Case::decode(&cases.get(index)) };
         let Some(case) = case else {
             let rooms = LARGEST.map(|largest| random.below(largest as usize) as u32);
             let names = Some(for_case(&Case::default(), MAX_NAMES, random));
-            return vec![Lent { names, limit: LIMIT, rooms, input: cases.get(index) }];
+            return vec![Lent { edition: None, names, limit: LIMIT, rooms, input: cases.get(index) }];
         };
         let mut names = for_case(&case, MAX_NAMES, random);
-        let limit = limit(&case, random);
+        let limit = limit(&case, FIRST, random);
         if !random.once_in(4) {
             return in_rooms(names, case, limit, random);
         }
@@ -330,7 +336,7 @@ const NO_NAMES: &[&[u8]] =
 const KEYWORDS: &[&str] = &["and", "fun", "if", "nil", "true", "import", "for"];
 
 /// Makes one name wrong, or puts a wrong one among them; now and then 65 or 66 names of them.
-fn spoil(names: &mut Builtins, random: &mut Random) {
+pub fn spoil(names: &mut Builtins, random: &mut Random) {
     let size = names.text.len() as u32;
     let count = names.places().len();
     if random.once_in(8) {

@@ -88,6 +88,35 @@ pub const RULES: &[&str] = &[
     "\"x\"; \"y\"; y; x;", "f(f, f);", "#{a: a};", "\"\\n\"; n;", "android; iff; not1; nil_;",
 ];
 
+/// Scripts that tell the editions apart, or would if a rule were wrong.
+#[rustfmt::skip]
+pub const EDITIONS: &[&str] = &[
+    // `not` binds like a sign, and its span runs to its operand's end
+    "not a and b;", "not (a);", "not (a and b) or c;", "not a.b;", "not a(b) + c;", "not not a;", "- not a * b;", "not -a;", "not ^ + a;", "not a == b;",
+    "a and not b or c;", "x = not a;", "not a = not b;", "if not typed and refreshed { advance(); }", "while not a or b {}", "not {};", "not {} + 1;",
+    "not if a {} else {} * b;", "not |x| x and y;", "not |x| not x and y;", "not #{};", "not \"s\";", "not 1 * 2;", "not true or not nil;", "not ((a));", "not ((a) + b);",
+    "not not (a) and b;", "a * not b + c;", "a == not b == c;", "-not-not a;", "^not+a(b).c - d;", "f(not a, not b or c);", "#{not a: not b and c};", "return not a or b;",
+    "let x = not a and b;", "|x| not x or y;", "{ not a }", "{ not a and b; }", "not", "not;", "not not;", "not )", "not = a;", "not not", "not let", "a not b;", "not for;",
+    // `return` before `;` or `}` has no child and opens nothing; before anything else it has one
+    "return;", "{return}", "{return;}", "{ return } a;", "{ a; return }", "{ a; return; }", "{ return; return }", "fun f() { return; }", "fun f() { return }", "return a;",
+    "return (a);", "return -(a);", "return {};", "return #{};", "return |x| {};", "return (a)(b);", "return not a;", "if a { return } else { return; }", "while a { return }",
+    "let f = |x| { return };", "let f = |x| { return; };", "f({ return });", "{ { return } }", "{ return {} }", "{ return { return } }", "{ return { return; }; }", "return", "return )",
+    "return }", "return; }", "return = a;", "return return;", "return return", "return import a;", "return for;", "|x| return;", "{ return a }", "{ return", "{ return;", "return,", "{return)",
+    "return ; ;", "fun f() { return } return; return a;", "return let a = b;",
+    // a chain after the `)` of an expression, and after nothing else
+    "(a)(b);", "(a).b;", "(a).b(c)(d);", "((a))(b);", "((a)(b))(c);", "((a).b)(c).d;", "(f)(x) + 1;", "1 + (f)(x);", "- (a)(b);", "not (a)(b);", "not (a).b and c;", "(a and b)(c);",
+    "(a + b).c;", "(1)(a);", "(\"s\").b;", "(#{}).b;", "(|x| x)(y);", "({})(a);", "(if a {} else {})(b);", "(-a)(b);", "(not a)(b);", "(a)();", "(a)(b, c,);", "(a)(b)(c);",
+    "(a).b.c;", "(a)((b)(c));", "(a) = b;", "(a)(b) = (c).d;", "((a)) (b) . c;", "(a)(b).c * (d)(e);", "if (a)(b) {}", "while (a).b {}", "f((a)(b));", "#{(a)(b): (c).d};",
+    "|x| (x)(y);", "{ (a)(b) }", "{ (a).b; }", "let f = (a)(b);", "({ return })(a);",
+    "{}(a);", "{ a }(b);", "1(a);", "\"s\".b;", "#{}.b;", "#{}(a);", "|x| {}(a);", "if a {} (b);", "x = {}(a);", "x = if a {} else {}(b);", "true(a);", "nil.a;", "-a(b);",
+    "f(a)(b);", "fun f() {}(a);", "(a", "(a)(", "(a).;", "(a).", "(a)(b", "(a)(b,", "(a)(b;", "(a).1;", "(a)(,);", "(a))(b);", "((a)(b);", "(a) b;", "()(a);", "(a)()", "(a)(b c);", "(a) {} ;",
+    "(a)#{};", "(a) not b;", "(a)(b).c(", "(a)..b;",
+];
+
+pub fn editions() -> Vec<Case> {
+    EDITIONS.iter().map(|text| script(text)).collect()
+}
+
 /// What stands where one opening is left.
 #[rustfmt::skip]
 const ONE_LEFT: &[&str] = &[

@@ -1,21 +1,23 @@
 //! Checks 1 to 7 of document 01. Check 4 is of the scratch room alone: document 02, L6. After it come those of built-in
-//! names, 18 and another 4: L10.
+//! names, 18 and another 4: L10. Before it comes that of the edition, 21: L14, '21, after 3, for any other number'.
 use crate::{
     builtins::Builtins,
     case::{Case, Token},
     kinds::{EOF, fits},
     rooms::{Rooms, SCRATCH, SYMBOLS, WIDTHS},
     rows::{NO_KIND, Refusal},
+    terms::{FIRST, SECOND, Terms},
 };
 
 /// With scratch enough, as `rows` lends it, and no built-in names.
-pub fn refusal(case: &Case, limit: u32) -> Option<Refusal> {
+pub fn refusal(case: &Case, terms: impl Into<Terms>) -> Option<Refusal> {
     let scratch = WIDTHS[SCRATCH] * case.tokens.len() as u32;
-    refusal_with(&Builtins::default(), case, limit, [0, 0, 0, scratch])
+    refusal_with(&Builtins::default(), case, terms, [0, 0, 0, scratch])
 }
 
 /// With these built-in names and in these rooms.
-pub fn refusal_with(names: &Builtins, case: &Case, limit: u32, rooms: Rooms) -> Option<Refusal> {
+pub fn refusal_with(names: &Builtins, case: &Case, terms: impl Into<Terms>, rooms: Rooms) -> Option<Refusal> {
+    let Terms { edition, limit } = terms.into();
     let rows = |room: usize| (rooms[room] / WIDTHS[room]) as usize;
     if !(1..=4_096).contains(&case.tokens.len()) {
         return Some(placeless(1));
@@ -25,6 +27,9 @@ pub fn refusal_with(names: &Builtins, case: &Case, limit: u32, rooms: Rooms) -> 
     }
     if !(1..=64).contains(&limit) {
         return Some(placeless(3));
+    }
+    if ![FIRST, SECOND].contains(&edition) {
+        return Some(placeless(21));
     }
     if rows(SCRATCH) < case.tokens.len() {
         return Some(placeless(4));

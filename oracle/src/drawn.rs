@@ -1,14 +1,16 @@
-//! The cases of a run: case `index` of `seed` is always the same.
+//! The cases of a run: case `index` of `seed` is always the same. Those of edition 2 are other ones than those of edition 1.
 use crate::{
     case::{Case, MAX_TEXT, MAX_TOKENS, Token},
-    corners::{self, RULES, SAMPLES},
+    corners::{self, EDITIONS, RULES, SAMPLES},
     kinds::EOF,
     list::{self, Gaps, Word, printed, words},
     random::Random,
     scripts::{any_word, any_words, script, script_of},
+    terms::{FIRST, SECOND},
 };
 
 pub struct Cases {
+    edition: u32,
     seed: u64,
     corners: Vec<Vec<u8>>,
 }
@@ -18,12 +20,17 @@ const SHORT_LISTS: u64 = 44 + 44 * 44 + 44 * 44 * 44;
 
 impl Cases {
     pub fn new(seed: u64) -> Cases {
-        use corners::{at_door, at_limit, each_kind, nested, scripts};
-        let cases = [scripts(), at_door(), each_kind(), nested(), at_limit()].concat();
+        Cases::of(FIRST, seed)
+    }
+
+    pub fn of(edition: u32, seed: u64) -> Cases {
+        use corners::{at_door, at_limit, each_kind, editions, nested, scripts};
+        let own = if edition == SECOND { editions() } else { Vec::new() };
+        let cases = [own, scripts(), at_door(), each_kind(), nested(), at_limit()].concat();
         let mut corners: Vec<_> = cases.iter().map(Case::encode).collect();
         corners.extend(corners::broken());
         corners.extend(corners::at_sizes());
-        Cases { seed, corners }
+        Cases { edition, seed, corners }
     }
 
     /// First the corners; then every third case is a short list, until there are no more of them.
@@ -35,7 +42,7 @@ impl Cases {
         if index % 3 == 0 && index / 3 < SHORT_LISTS {
             return short_list(index / 3 * 31_337 % SHORT_LISTS).encode();
         }
-        random_input(&mut Random::of(self.seed, index))
+        random_input(self.edition, &mut Random::of(self.seed, index))
     }
 }
 
@@ -51,17 +58,17 @@ fn short_list(number: u64) -> Case {
     printed(&list, Gaps::Space, &mut Random::of(0, 0))
 }
 
-fn random_input(random: &mut Random) -> Vec<u8> {
+fn random_input(edition: u32, random: &mut Random) -> Vec<u8> {
     let list = match random.below(20) {
-        0..8 => grown(random),
-        8..16 => damaged(random),
+        0..8 => grown(edition, random),
+        8..16 => damaged(edition, random),
         16 => {
             let count = random.between(1, 16);
             any_words(random, count)
         }
-        17 => nested(random),
-        18 => return mangled(random).encode(),
-        _ => return broken(random),
+        17 => nested(edition, random),
+        18 => return mangled(edition, random).encode(),
+        _ => return broken(edition, random),
     };
     dressed(&list, random).encode()
 }
@@ -75,12 +82,12 @@ fn size(random: &mut Random) -> usize {
     }
 }
 
-fn grown(random: &mut Random) -> Vec<Word> {
+fn grown(edition: u32, random: &mut Random) -> Vec<Word> {
     if random.once_in(40) {
-        return script_of(random, MAX_TOKENS - 1);
+        return script_of(edition, random, MAX_TOKENS - 1);
     }
     let size = size(random);
-    let mut list = script(random, size);
+    let mut list = script(edition, random, size);
     list.truncate(MAX_TOKENS - 1);
     list
 }
@@ -88,13 +95,13 @@ fn grown(random: &mut Random) -> Vec<Word> {
 /// A case of as many tokens as `rows` takes.
 pub fn exact(index: u64) -> Case {
     let random = &mut Random::of(0, index);
-    let list = script_of(random, MAX_TOKENS - 1);
+    let list = script_of(FIRST, random, MAX_TOKENS - 1);
     printed(&list, Gaps::Blanks, random)
 }
 
 /// A script with one to three faults.
-pub fn damaged(random: &mut Random) -> Vec<Word> {
-    let mut list = grown(random);
+pub fn damaged(edition: u32, random: &mut Random) -> Vec<Word> {
+    let mut list = grown(edition, random);
     for _ in 0..random.between(1, 3) {
         damage(&mut list, random);
     }
@@ -118,13 +125,14 @@ pub fn damage(list: &mut Vec<Word>, random: &mut Random) {
 }
 
 /// A small case, and random numbers to go with it: first the corners, then scripts, often damaged.
-pub fn small(seed: u64, index: u64) -> (Case, Random) {
+pub fn small(edition: u32, seed: u64, index: u64) -> (Case, Random) {
     let mut random = Random::of(seed, index);
-    if let Some(text) = SAMPLES.iter().chain(RULES).nth(index as usize) {
+    let own = if edition == SECOND { EDITIONS } else { &[] };
+    if let Some(text) = own.iter().chain(SAMPLES).chain(RULES).nth(index as usize) {
         return (list::script(text), random);
     }
     let size = random.between(1, 18);
-    let mut list = script(&mut random, size);
+    let mut list = script(edition, &mut random, size);
     if random.once_in(2) {
         (0..random.between(1, 2)).for_each(|_| damage(&mut list, &mut random));
     }
@@ -166,17 +174,37 @@ const IN_EXPRESSION: &[(&str, Place, &str)] = &[
     ("1 +", Place::Expression, "* 2"),
 ];
 
+/// More of them in edition 2.
+const IN_SECOND_STATEMENT: &[(&str, Place, &str)] = &[
+    ("{ return;", Place::Statement, "}"),
+    ("if not a { return } else {", Place::Statement, "}"),
+    ("not", Place::Expression, "= (a).b;"),
+    ("(", Place::Expression, ")(a);"),
+];
+const IN_SECOND_EXPRESSION: &[(&str, Place, &str)] = &[
+    ("not", Place::Expression, ""),
+    ("not -", Place::Expression, "and not a"),
+    ("(", Place::Expression, ")(a)"),
+    ("(", Place::Expression, ").b(c)()"),
+    ("(a)(", Place::Expression, ")"),
+    ("((a).b)(c,", Place::Expression, ",).d"),
+    ("|a| { return;", Place::Statement, "}"),
+];
+
 #[derive(Clone, Copy)]
 enum Place {
     Statement,
     Expression,
 }
 
-fn nested(random: &mut Random) -> Vec<Word> {
+fn nested(edition: u32, random: &mut Random) -> Vec<Word> {
     let (mut front, mut back) = (Vec::new(), Vec::new());
     let mut place = Place::Statement;
     for _ in 0..random.between(40, 66) {
+        let own = edition == SECOND && random.once_in(2);
         let forms = match place {
+            Place::Statement if own => IN_SECOND_STATEMENT,
+            Place::Expression if own => IN_SECOND_EXPRESSION,
             Place::Statement => IN_STATEMENT,
             Place::Expression => IN_EXPRESSION,
         };
@@ -211,9 +239,9 @@ fn dressed(list: &[Word], random: &mut Random) -> Case {
 }
 
 /// A case with a fault that the door sees, or perhaps not.
-pub fn mangled(random: &mut Random) -> Case {
+pub fn mangled(edition: u32, random: &mut Random) -> Case {
     let size = random.between(1, 20);
-    let list = script(random, size);
+    let list = script(edition, random, size);
     let mut case = dressed(&list, random);
     let place = random.below(case.tokens.len());
     let near = |number: u32, random: &mut Random| match random.below(4) {
@@ -241,9 +269,9 @@ pub fn mangled(random: &mut Random) -> Case {
 }
 
 /// An input with a fault in its records, or perhaps in its text.
-fn broken(random: &mut Random) -> Vec<u8> {
+fn broken(edition: u32, random: &mut Random) -> Vec<u8> {
     let size = random.between(1, 10);
-    let list = script(random, size);
+    let list = script(edition, random, size);
     let mut input = dressed(&list, random).encode();
     let place = random.below(input.len());
     match random.below(4) {

@@ -8,7 +8,7 @@ use crate::{
     case::Case,
     corners::{self, NESTINGS},
     drawn::{Cases, exact},
-    frame,
+    editions, frame,
     list::script,
     rooms::Judge,
     rows::Outcome,
@@ -81,12 +81,13 @@ pub fn file() -> Vec<u8> {
 }
 
 /// What `batch` reads, and what it must write: some inputs of `rows`, whole and broken, the corners of rooms of any size, and
-/// some of built-in names.
+/// some of built-in names and of editions.
 pub fn batch_files() -> (Vec<u8>, Vec<u8>) {
     let whole = script("a;").encode();
     let plain = [whole.clone(), Vec::new(), [&whole[..], &[0]].concat(), whole[..8].to_vec()];
     let (mut read, mut written, mut judge) = (Vec::new(), Vec::new(), Judge::default());
-    for case in plain.into_iter().chain(tight::corners()).chain(beside::chosen()) {
+    let chosen = tight::corners().into_iter().chain(beside::chosen()).chain(editions::chosen());
+    for case in plain.into_iter().chain(chosen) {
         frame::write(&mut read, &case).expect("memory");
         frame::write(&mut written, &judge.answer(&case)).expect("memory");
     }

@@ -1,4 +1,5 @@
-//! Runs the original parser, and the derived ones that count openings and record rows, and holds one against the other.
+//! Runs the original parser, and the derived ones that count openings and record rows, and holds one against the other. In
+//! edition 2 the changed parser stands for the original.
 use std::{
     cell::Cell,
     panic::{self, AssertUnwindSafe},
@@ -9,15 +10,16 @@ use kaori::{
     compiler::{Compiler, FOR, NESTED, fresh_interner},
     diagnostics::error::Error,
     recorder::{self, Asked, Row},
-    syntax::{ast::Ast, counted, parser, recorded, token},
+    syntax::{counted, parser, recorded, second_counted, second_parser, second_recorded, token},
 };
 
 use crate::{
     builtins::Builtins,
     case::Case,
     kinds::TOKENS,
-    rows::{NO_KIND, Outcome, Refusal, Rows, rows},
+    rows::{NO_KIND, Outcome, Refusal, Rows, Tree},
     show,
+    terms::{SECOND, Terms},
 };
 
 pub struct Reading {
@@ -29,19 +31,28 @@ pub struct Reading {
 static TURN: Mutex<()> = Mutex::new(()); // there is one interner
 
 /// Reads a case that has passed the door, with an interner that is given the built-in names first.
-pub fn read(names: &Builtins, case: &Case, limit: u32) -> Reading {
+pub fn read(names: &Builtins, case: &Case, terms: impl Into<Terms>) -> Reading {
     let _turn = TURN.lock().unwrap_or_else(PoisonError::into_inner);
 
-    let text = text(case);
+    let Terms { edition, limit } = terms.into();
+    let (text, tokens) = (text(case), || tokens(case));
     let compiler = Compiler::with_limit(limit);
-    let counted = result(names, case, || counted::Parser::new(text, tokens(case), &compiler).parse());
+    let counted = match edition {
+        SECOND => result(names, case, || second_counted::Parser::new(text, tokens(), &compiler).parse()),
+        _ => result(names, case, || counted::Parser::new(text, tokens(), &compiler).parse()),
+    };
     let deepest = compiler.deepest();
 
     let outcome = match counted {
         Parsed::Error(error) if error.message == NESTED => refused(case, 11, NO_KIND, &error),
         counted => {
             let compiler = Compiler::default();
-            let original = result(names, case, || parser::Parser::new(text, tokens(case), &compiler).parse());
+            let original = match edition {
+                SECOND => {
+                    result(names, case, || second_parser::Parser::new(text, tokens(), &compiler).parse())
+                }
+                _ => result(names, case, || parser::Parser::new(text, tokens(), &compiler).parse()),
+            };
             agreed(case, original, counted)
         }
     };
@@ -50,13 +61,18 @@ pub fn read(names: &Builtins, case: &Case, limit: u32) -> Reading {
 
 /// The rows that the reading of a case asks for, in order, up to its end or its refusal: what `read` gives. Those of the
 /// built-in names stand already. The case has passed the door.
-pub fn record(names: &Builtins, case: &Case, limit: u32, outcome: &Outcome) -> Vec<Asked> {
+pub fn record(names: &Builtins, case: &Case, terms: impl Into<Terms>, outcome: &Outcome) -> Vec<Asked> {
     let _turn = TURN.lock().unwrap_or_else(PoisonError::into_inner);
     let given = words(names);
     fresh_interner(&given);
     recorder::start(given.len() as u32);
+    let Terms { edition, limit } = terms.into();
     let compiler = Compiler::with_limit(limit);
-    let parsed = silently(|| recorded::Parser::new(text(case), tokens(case), &compiler).parse());
+    let (text, tokens) = (text(case), tokens(case));
+    let parsed = silently(|| match edition {
+        SECOND => second_recorded::Parser::new(text, tokens, &compiler).parse().map(drop),
+        _ => recorded::Parser::new(text, tokens, &compiler).parse().map(drop),
+    });
     let asked = recorder::asked();
     match (parsed, outcome) {
         (Ok(Ok(_)), Outcome::Accepted(rows)) => {
@@ -95,10 +111,10 @@ fn words(names: &Builtins) -> Vec<&str> {
     names.words().expect("the door lets right names alone through")
 }
 
-fn result(names: &Builtins, case: &Case, parse: impl FnOnce() -> Result<Ast, Error>) -> Parsed {
+fn result<T: Tree>(names: &Builtins, case: &Case, parse: impl FnOnce() -> Result<T, Error>) -> Parsed {
     fresh_interner(&words(names));
     match silently(parse) {
-        Ok(Ok(ast)) => Parsed::Rows(rows(names, case, &ast)),
+        Ok(Ok(tree)) => Parsed::Rows(tree.rows(names, case)),
         Ok(Err(error)) => Parsed::Error(error),
         Err(message) if message == "not yet implemented" => Parsed::Panic,
         Err(message) => panic!("the parser panicked: {message}"),

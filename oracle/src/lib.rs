@@ -7,6 +7,7 @@ pub mod corners;
 pub mod coverage;
 pub mod door;
 pub mod drawn;
+pub mod editions;
 pub mod fixed;
 pub mod frame;
 pub mod judge;
@@ -23,6 +24,7 @@ pub mod show;
 pub mod shrink;
 pub mod subject;
 pub mod table;
+pub mod terms;
 pub mod texts;
 pub mod tight;
 

@@ -1,6 +1,6 @@
 //! Request L6: rooms of any size. How they stand in a frame of the program `batch`, with built-in names (request L10) or
-//! without, and what its answer is. The answer comes from the rows that the derived parser records: the first that does not
-//! fit is refusal 4, at its token.
+//! without, with an edition (request L14) or without, and what its answer is. The answer comes from the rows that the derived
+//! parser records: the first that does not fit is refusal 4, at its token.
 use std::fmt::Write;
 
 use kaori::recorder::{Asked, Row};
@@ -11,6 +11,7 @@ use crate::{
     case::{Case, Token, number},
     door, judge,
     rows::{NO_KIND, NODE_WIDTH, Outcome, Refusal},
+    terms::{FIRST, Terms},
 };
 
 /// How many numbers the rooms have: of nodes, links, symbols and scratch.
@@ -28,16 +29,19 @@ const BEFORE: u32 = 7;
 
 const MARK: [u8; 2] = *b"RM";
 const NAMES_MARK: [u8; 2] = *b"RN";
+const EDITION_MARK: [u8; 2] = *b"RO";
 /// The largest built-in text that a frame may have, and the most numbers of rows: 66 rows and a number left over.
 pub const MAX_NAMES_TEXT: usize = 8_192;
 pub const MAX_NAMES_NUMBERS: usize = 133;
-/// The bytes before the built-in text: the mark and seven numbers.
+/// The bytes before the built-in text: the mark and seven numbers, and with an edition eight.
 pub const NAMES_HEAD: usize = 30;
+pub const EDITION_HEAD: usize = 34;
 const BAD: &[u8] = b"bad input\n";
 
-/// An input of `rows`, with a limit and rooms of its own, and perhaps with built-in names.
+/// An input of `rows`, with a limit and rooms of its own, and perhaps with built-in names. One with an edition has names.
 #[derive(Clone, PartialEq, Eq, Debug)]
 pub struct Lent {
+    pub edition: Option<u32>,
     pub names: Option<Builtins>,
     pub limit: u32,
     pub rooms: Rooms,
@@ -52,20 +56,30 @@ impl Lent {
             return [&MARK, &head[..], &self.input].concat();
         };
         let sizes = bytes(&[text.len() as u32, rows.len() as u32]);
-        [&NAMES_MARK, &head[..], &sizes, text, &bytes(rows), &self.input].concat()
+        let mark = match self.edition {
+            Some(edition) => [&EDITION_MARK[..], &bytes(&[edition])].concat(),
+            None => NAMES_MARK.into(),
+        };
+        [&mark, &head[..], &sizes, text, &bytes(rows), &self.input].concat()
+    }
+
+    pub fn terms(&self) -> Terms {
+        Terms { edition: self.edition.unwrap_or(FIRST), limit: self.limit }
     }
 
     /// None: the frame is an input of `rows` and nothing else, or its built-in names are broken, which is a bad input too.
     pub fn decode(frame: &[u8]) -> Option<Lent> {
-        let has_names = frame.starts_with(&NAMES_MARK);
-        let mut rest = frame.strip_prefix(if has_names { &NAMES_MARK } else { &MARK })?;
+        let marks = [MARK, NAMES_MARK, EDITION_MARK];
+        let mark = marks.into_iter().find(|mark| frame.starts_with(mark))?;
+        let mut rest = &frame[mark.len()..];
+        let edition = if mark == EDITION_MARK { Some(number(&mut rest)?) } else { None };
         let limit = number(&mut rest)?;
         let mut rooms = LARGEST;
         for room in &mut rooms {
             *room = number(&mut rest)?.min(*room);
         }
-        let names = if has_names { Some(names(&mut rest)?) } else { None };
-        Some(Lent { names, limit, rooms, input: rest.to_vec() })
+        let names = if mark == MARK { None } else { Some(names(&mut rest)?) };
+        Some(Lent { edition, names, limit, rooms, input: rest.to_vec() })
     }
 }
 
@@ -79,11 +93,11 @@ fn names(rest: &mut &[u8]) -> Option<Builtins> {
     Some(Builtins { text, rows })
 }
 
-/// What is known of a case, its built-in names and a limit, whatever is lent.
+/// What is known of a case, its built-in names, an edition and a limit, whatever is lent.
 pub struct Known {
     names: Builtins,
     case: Case,
-    limit: u32,
+    terms: Terms,
     /// What comes of it in rooms that are large enough.
     outcome: Outcome,
     /// The rows that its reading asks for, in order; none if the door refuses it.
@@ -91,22 +105,28 @@ pub struct Known {
 }
 
 impl Known {
-    pub fn of(case: Case, limit: u32) -> Known {
-        Known::beside(Builtins::default(), case, limit)
+    pub fn of(case: Case, terms: impl Into<Terms>) -> Known {
+        Known::beside(Builtins::default(), case, terms)
     }
 
-    pub fn beside(names: Builtins, case: Case, limit: u32) -> Known {
-        if let Some(refusal) = door::refusal_with(&names, &case, limit, ample(&names, &case)) {
-            return Known { names, case, limit, outcome: Outcome::Refused(refusal), asked: Vec::new() };
+    pub fn beside(names: Builtins, case: Case, terms: impl Into<Terms>) -> Known {
+        let terms = terms.into();
+        if let Some(refusal) = door::refusal_with(&names, &case, terms, ample(&names, &case)) {
+            return Known { names, case, terms, outcome: Outcome::Refused(refusal), asked: Vec::new() };
         }
-        let outcome = judge::read(&names, &case, limit).outcome;
-        let asked = judge::record(&names, &case, limit, &outcome);
-        Known { names, case, limit, outcome, asked }
+        let outcome = judge::read(&names, &case, terms).outcome;
+        let asked = judge::record(&names, &case, terms, &outcome);
+        Known { names, case, terms, outcome, asked }
     }
 
-    /// The case in these rooms, as `batch` gets it without built-in names.
+    /// The case in these rooms, as `batch` gets it without built-in names and without an edition.
     pub fn lent(&self, rooms: Rooms) -> Lent {
-        Lent { names: None, limit: self.limit, rooms, input: self.case.encode() }
+        Lent { edition: None, names: None, limit: self.terms.limit, rooms, input: self.case.encode() }
+    }
+
+    /// The case in these rooms, with its built-in names and its edition.
+    pub fn lent_all(&self, rooms: Rooms) -> Lent {
+        Lent { edition: Some(self.terms.edition), names: Some(self.names.clone()), ..self.lent(rooms) }
     }
 
     pub fn outcome(&self) -> &Outcome {
@@ -151,7 +171,7 @@ impl Known {
 
     /// The door's refusal in these rooms.
     pub fn turned_away(&self, rooms: Rooms) -> Option<Refusal> {
-        door::refusal_with(&self.names, &self.case, self.limit, rooms)
+        door::refusal_with(&self.names, &self.case, self.terms, rooms)
     }
 
     /// What comes of it in these rooms, if the door lets it in.
@@ -222,12 +242,12 @@ impl Judge {
 
     /// None: a broken input.
     pub fn known(&mut self, lent: &Lent) -> Option<&Known> {
-        let Lent { limit, input, .. } = lent;
+        let (input, terms) = (&lent.input, lent.terms());
         let names = lent.names.clone().unwrap_or_default();
         let is_last =
-            |(last, known): &(Vec<u8>, Known)| last == input && known.limit == *limit && known.names == names;
+            |(last, known): &(Vec<u8>, Known)| last == input && known.terms == terms && known.names == names;
         if !self.last.as_ref().is_some_and(is_last) {
-            let known = |case| (input.clone(), Known::beside(names, case, *limit));
+            let known = |case| (input.clone(), Known::beside(names, case, terms));
             self.last = Case::decode(input).map(known);
         }
         self.last.as_ref().map(|(_, known)| known)

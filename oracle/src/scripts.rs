@@ -1,10 +1,12 @@
-//! Random scripts: the grammar of document 01 read as a way to write.
+//! Random scripts: the grammar of document 01 read as a way to write, and for edition 2 with the changes of request L14, which
+//! then stand everywhere.
 use kaori::syntax::token::Token;
 
 use crate::{
     kinds::{IDENTIFIER, NUMBER, STRING, is_keyword},
     list::{Word, words},
     random::Random,
+    terms::SECOND,
 };
 
 /// Where names come from.
@@ -15,15 +17,16 @@ enum Names {
 }
 
 struct Writer<'r> {
+    edition: u32,
     random: &'r mut Random,
     names: Names,
     words: Vec<Word>,
 }
 
 /// A script of about so many words.
-pub fn script(random: &mut Random, size: usize) -> Vec<Word> {
+pub fn script(edition: u32, random: &mut Random, size: usize) -> Vec<Word> {
     let names = random.pick(&[Names::Few, Names::Many]);
-    let mut writer = Writer { random, names, words: Vec::new() };
+    let mut writer = Writer { edition, random, names, words: Vec::new() };
     while writer.words.len() < size {
         let left = size - writer.words.len();
         let share = if writer.random.once_in(3) { left } else { 1 + writer.random.below(left) };
@@ -36,10 +39,10 @@ pub fn script(random: &mut Random, size: usize) -> Vec<Word> {
 }
 
 /// A script of exactly so many words, which are not 1.
-pub fn script_of(random: &mut Random, size: usize) -> Vec<Word> {
-    let mut list = script(random, size.saturating_sub(20));
+pub fn script_of(edition: u32, random: &mut Random, size: usize) -> Vec<Word> {
+    let mut list = script(edition, random, size.saturating_sub(20));
     while list.len() > size || size - list.len() == 1 {
-        list = script(random, size.saturating_sub(20) / 2);
+        list = script(edition, random, size.saturating_sub(20) / 2);
     }
     while list.len() < size {
         let left = size - list.len();
@@ -47,6 +50,9 @@ pub fn script_of(random: &mut Random, size: usize) -> Vec<Word> {
     }
     list
 }
+
+/// In edition 2 `not` (2), signs, parentheses (6) and chains come more often.
+const SECOND_OPERANDS: [usize; 20] = [0, 1, 2, 2, 2, 2, 2, 3, 4, 6, 6, 6, 6, 6, 8, 9, 11, 12, 12, 13];
 
 const BINARY: [&str; 13] = ["or", "and", "==", "!=", ">", ">=", "<", "<=", "+", "-", "*", "/", "%"];
 
@@ -91,7 +97,9 @@ impl Writer<'_> {
             7 => self.push("continue"),
             8 => {
                 self.push("return");
-                self.expression(size.saturating_sub(2));
+                if self.edition != SECOND || self.random.once_in(2) {
+                    self.expression(size.saturating_sub(2));
+                }
             }
             9 | 10 => {
                 let word = self.random.pick(&["let", "const", "ref"]);
@@ -105,6 +113,7 @@ impl Writer<'_> {
                 self.push("=");
                 self.expression(size / 2);
             }
+            _ if self.edition == SECOND && self.random.once_in(4) => self.push("return"),
             _ => self.expression(size.saturating_sub(1)),
         }
         true
@@ -190,7 +199,11 @@ impl Writer<'_> {
         if size < 2 {
             return self.leaf();
         }
-        match self.random.below(14) {
+        let sort = match self.edition {
+            SECOND => self.random.pick(&SECOND_OPERANDS),
+            _ => self.random.below(14),
+        };
+        match sort {
             0 | 1 => {
                 let sign = self.random.pick(&["-", "^", "+"]);
                 self.push(sign);
@@ -198,14 +211,23 @@ impl Writer<'_> {
             }
             2 => {
                 self.push("not");
-                self.expression(size - 1);
+                match self.edition {
+                    SECOND => self.operand(size - 1),
+                    _ => self.expression(size - 1),
+                }
             }
             3 => self.conditional(size),
             4 | 5 => self.lambda(size),
             6 | 7 => {
+                let end = self.words.len() + size;
                 self.push("(");
-                self.expression(size - 2);
+                if self.edition != SECOND {
+                    self.expression(size - 2);
+                    return self.push(")");
+                }
+                self.expression(size.div_ceil(2) - 1);
                 self.push(")");
+                self.calls(end, size / 2);
             }
             8 => self.block(size),
             9 | 10 => self.map(size),
@@ -242,6 +264,11 @@ impl Writer<'_> {
     fn chain(&mut self, size: usize) {
         let end = self.words.len() + size;
         self.name();
+        self.calls(end, size);
+    }
+
+    /// Calls and properties up to about this place, with arguments of about this size.
+    fn calls(&mut self, end: usize, size: usize) {
         while self.words.len() < end && !self.random.once_in(4) {
             if self.random.once_in(2) {
                 self.push(".");

@@ -6,13 +6,15 @@ use crate::{
 };
 
 pub fn case(input: &[u8]) -> String {
-    if let Some(Lent { names, limit, rooms, input }) = Lent::decode(input) {
+    if let Some(Lent { edition, names, limit, rooms, input }) = Lent::decode(input) {
         let rows: Vec<_> = rooms.iter().zip(WIDTHS).map(|(size, width)| (size / width).to_string()).collect();
         let rows = rows.join(" ");
         let names = names.map_or(String::new(), |names| {
             format!("names    \"{}\" {:?}\n", names.text.escape_ascii(), names.rows)
         });
-        return format!("{}{names}limit    {limit}\nrooms    {rooms:?} numbers, {rows} rows\n", case(&input));
+        let edition = edition.map_or(String::new(), |edition| format!("edition  {edition}\n"));
+        let lent = format!("limit    {limit}\nrooms    {rooms:?} numbers, {rows} rows\n");
+        return format!("{}{names}{edition}{lent}", case(&input));
     }
     let Some(case) = Case::decode(input) else {
         return format!("bytes    {}\n", hex(input));

@@ -7,6 +7,7 @@ use crate::{
     rooms::{Lent, Rooms},
     rows::{self, Outcome},
     show,
+    terms::SECOND,
 };
 
 /// A row of a table: the table's `specs/Cases.antt` and `proofs/Cases.antt` of crate `grammar`.
@@ -20,9 +21,10 @@ pub trait Row: Clone {
     fn shown(&self) -> String;
 }
 
-/// A case with its built-in names, its limit, its rooms and what the original made of it.
+/// A case with its edition, its built-in names, its limit, its rooms and what the original made of it.
 #[derive(Clone)]
 pub struct Entry {
+    pub edition: u32,
     pub names: Builtins,
     pub case: Case,
     pub limit: u32,
@@ -42,6 +44,7 @@ impl Row for Entry {
             "\
 -- Cases and what the Rust makes of them.
 use mathlib.Core.List.{{List, [], _∷_}}
+use Rattle.grammar.specs.Edition.{{Edition}}
 use Rattle.grammar.specs.Outcome.{{refusal}}
 use Rattle.grammar.specs.Refusal.{{refused}}
 use Rattle.grammar.specs.Samples.{{Sample, writes}}
@@ -57,18 +60,18 @@ cases =
     fn proofs(model: &str) -> String {
         let model = replaced(
             model,
-            "specs.Samples.{Sample, All-right, samples, points, tight, named}",
+            "specs.Samples.{Sample, All-right, samples, points, tight, named, later}",
             "specs.Samples.{Sample, All-right}\nuse Rattle.grammar.specs.Cases.{cases}",
         );
         let model = replaced(&model, " 400 script", &format!(" {FUEL} script"));
         let model = replaced(
             &model,
-            "pub samples-right : All-right (samples ++ points ++ tight ++ named)",
+            "pub samples-right : All-right (samples ++ points ++ tight ++ named ++ later)",
             "pub cases-right : All-right cases",
         );
         replaced(
             &model,
-            "samples-right = all-right (samples ++ points ++ tight ++ named) refl",
+            "samples-right = all-right (samples ++ points ++ tight ++ named ++ later) refl",
             "cases-right = all-right cases refl",
         )
     }
@@ -78,8 +81,9 @@ cases =
     }
 
     fn shown(&self) -> String {
-        let Entry { names, case, limit, rooms, .. } = self.clone();
-        let case = show::case(&Lent { names: Some(names), limit, rooms, input: case.encode() }.encode());
+        let Entry { edition, names, case, limit, rooms, .. } = self.clone();
+        let (edition, names, input) = (Some(edition), Some(names), case.encode());
+        let case = show::case(&Lent { edition, names, limit, rooms, input }.encode());
         format!("{case}Rust\n         {:?}\n", self.outcome)
     }
 }
@@ -127,7 +131,7 @@ fn replaced(text: &str, old: &str, new: &str) -> String {
     text.replace(old, new)
 }
 
-fn sample(Entry { names, case, limit, rooms, outcome }: &Entry) -> String {
+fn sample(Entry { edition, names, case, limit, rooms, outcome }: &Entry) -> String {
     let built_in = [list(names.text.iter().map(|byte| *byte as u32)), list(names.rows.iter().copied())];
     let names = format!("names = record {{ text = {}; rows = {} }}", built_in[0], built_in[1]);
     let text = list(case.text.iter().map(|byte| *byte as u32));
@@ -145,9 +149,9 @@ fn sample(Entry { names, case, limit, rooms, outcome }: &Entry) -> String {
     };
     let [nodes, links, symbols, _] = rooms;
     let rooms = format!("space = record {{ nodes = {nodes}; links = {links} }}; room = {symbols}");
-    format!(
-        "record {{ {names}; text = {text}; tokens = {tokens}; limit = {limit}; {rooms}; outcome = {outcome} }}"
-    )
+    let edition = if *edition == SECOND { "second" } else { "first" };
+    let terms = format!("edition = Edition.{edition}; limit = {limit}");
+    format!("record {{ {terms}; {names}; text = {text}; tokens = {tokens}; {rooms}; outcome = {outcome} }}")
 }
 
 fn list(numbers: impl Iterator<Item = u32>) -> String {

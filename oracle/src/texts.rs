@@ -5,6 +5,7 @@ use crate::{
     list::Word,
     random::Random,
     scripts::{any_words, script, script_of},
+    terms::FIRST,
 };
 
 /// The program `texts` takes no larger list room.
@@ -273,7 +274,7 @@ fn size(random: &mut Random) -> usize {
 /// A script or any words, apart or not.
 fn grown(random: &mut Random) -> Vec<u8> {
     let size = size(random);
-    let words = if random.once_in(4) { any_words(random, size) } else { script(random, size) };
+    let words = if random.once_in(4) { any_words(random, size) } else { script(FIRST, random, size) };
     let gaps = random.pick(&[Gaps::Needed, Gaps::Blanks, Gaps::Blanks, Gaps::Careless]);
     printed(&words, gaps, random)
 }
@@ -363,7 +364,7 @@ fn pieces(random: &mut Random) -> Vec<u8> {
 /// A script of about 4,096 tokens.
 fn many(random: &mut Random) -> Vec<u8> {
     let count = random.between(MAX_TOKENS - 3, MAX_TOKENS + 1);
-    let words = script_of(random, count);
+    let words = script_of(FIRST, random, count);
     let gaps = random.pick(&[Gaps::Needed, Gaps::Blanks]);
     let mut text = printed(&words, gaps, random);
     if random.once_in(4) {
@@ -375,7 +376,7 @@ fn many(random: &mut Random) -> Vec<u8> {
 /// A text of about 65,536 bytes: a script, and blanks, a name, a number or a string put in.
 fn long(random: &mut Random) -> Vec<u8> {
     let size = random.between(1, 400);
-    let words = script(random, size);
+    let words = script(FIRST, random, size);
     let mut text = printed(&words, Gaps::Blanks, random);
     let more = random.between(MAX_TEXT - 2, MAX_TEXT + 1).saturating_sub(text.len());
     let place = random.below(text.len() + 1);

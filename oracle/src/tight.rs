@@ -12,6 +12,7 @@ use crate::{
     list::script,
     random::Random,
     rooms::{Known, LARGEST, Lent, Rooms, SCRATCH, SYMBOLS, WIDTHS},
+    terms::{FIRST, Terms},
 };
 
 /// What comes of a script in rooms of so many node, link and symbol rows.
@@ -118,7 +119,7 @@ pub fn rooms_of(case: &Case, [nodes, links, symbols]: [u32; 3]) -> Rooms {
 pub fn corners() -> Vec<Vec<u8>> {
     let mut frames = Vec::new();
     let mut add = |limit: u32, rooms: Rooms, case: &Case| {
-        frames.push(Lent { names: None, limit, rooms, input: case.encode() }.encode());
+        frames.push(Lent { edition: None, names: None, limit, rooms, input: case.encode() }.encode());
     };
     for (text, limit, steps) in LADDERS {
         let case = script(text);
@@ -145,7 +146,8 @@ pub fn corners() -> Vec<Vec<u8>> {
     }
     // rooms larger than any; and no input, a broken one, a head that is too short
     add(LIMIT, [LARGEST[0] + 1, LARGEST[1] + 1, LARGEST[2] + 1, u32::MAX], &case);
-    let whole = Lent { names: None, limit: LIMIT, rooms: [20, 3, 2, 9], input: case.encode() }.encode();
+    let whole = Lent { edition: None, names: None, limit: LIMIT, rooms: [20, 3, 2, 9], input: case.encode() }
+        .encode();
     frames.extend([22, 21, 2, whole.len() - 1].map(|length| whole[..length].to_vec()));
     frames
 }
@@ -220,21 +222,21 @@ pub fn lent(known: &Known, random: &mut Random) -> Vec<Lent> {
 fn of_input(input: Vec<u8>, random: &mut Random) -> Vec<Lent> {
     let Some(case) = Case::decode(&input) else {
         let rooms = LARGEST.map(|largest| random.below(largest as usize) as u32);
-        return vec![Lent { names: None, limit: LIMIT, rooms, input }];
+        return vec![Lent { edition: None, names: None, limit: LIMIT, rooms, input }];
     };
-    let limit = limit(&case, random);
+    let limit = limit(&case, FIRST, random);
     lent(&Known::of(case, limit), random)
 }
 
 /// The usual limit, one near the depth of the case, or rarely one that is refused.
-pub fn limit(case: &Case, random: &mut Random) -> u32 {
+pub fn limit(case: &Case, edition: u32, random: &mut Random) -> u32 {
     if random.once_in(100) {
         return random.pick(&[0, LIMIT + 1, u32::MAX]);
     }
     if random.once_in(2) || door::refusal(case, LIMIT).is_some() {
         return LIMIT;
     }
-    let depth = judge::read(&Builtins::default(), case, LIMIT).deepest;
+    let depth = judge::read(&Builtins::default(), case, Terms { edition, limit: LIMIT }).deepest;
     let near = [depth.saturating_sub(1), depth, depth + 1, 1 + random.below(LIMIT as usize) as u32];
     random.pick(&near).clamp(1, LIMIT)
 }
@@ -244,7 +246,7 @@ pub fn limit(case: &Case, random: &mut Random) -> u32 {
 pub fn tried(lent: &Lent) -> Vec<Vec<u8>> {
     let mut all = vec![lent.rooms];
     if let Some(case) = Case::decode(&lent.input) {
-        let known = Known::beside(lent.names.clone().unwrap_or_default(), case, lent.limit);
+        let known = Known::beside(lent.names.clone().unwrap_or_default(), case, lent.terms());
         all.extend(settings(&known, &mut Random::of(0, 0)));
         all.extend((0..known.asked().len()).take(100).map(|rows| known.fitting(rows)));
     }

@@ -4,6 +4,7 @@ use oracle::{
     lexer::Lexer,
     random::Random,
     scripts::{any_words, script},
+    terms::FIRST,
     texts::{Gaps, Text, Texts, printed},
 };
 
@@ -93,7 +94,7 @@ fn printed_words() {
     for index in 0..4_000 {
         let random = &mut Random::of(7, index);
         let size = random.between(1, 60);
-        let words = if index % 2 == 0 { script(random, size) } else { any_words(random, size) };
+        let words = if index % 2 == 0 { script(FIRST, random, size) } else { any_words(random, size) };
         let gaps = random.pick(&[Gaps::Needed, Gaps::Blanks]);
         let text = printed(&words, gaps, random);
         let made = lexer.tokens(&text).unwrap();

@@ -22,7 +22,7 @@ fn lines(lent: &Lent) -> Vec<Vec<u32>> {
 }
 
 fn answer(names: &Builtins, text: &str, rooms: Rooms) -> Vec<Vec<u32>> {
-    lines(&Lent { names: Some(names.clone()), limit: 64, rooms, input: script(text).encode() })
+    lines(&Lent { edition: None, names: Some(names.clone()), limit: 64, rooms, input: script(text).encode() })
 }
 
 /// The eight numbers, and the used node and symbol rows, of an accepted script.
@@ -132,7 +132,13 @@ fn the_order() {
 #[test]
 fn frames() {
     let built_in = names(b"ab", &[0, 2, 9]);
-    let lent = Lent { names: Some(built_in), limit: 64, rooms: [20, 3, 4, 9], input: script("ab;").encode() };
+    let lent = Lent {
+        edition: None,
+        names: Some(built_in),
+        limit: 64,
+        rooms: [20, 3, 4, 9],
+        input: script("ab;").encode(),
+    };
     let frame = lent.encode();
     let head = b"RN\x40\0\0\0\x14\0\0\0\x03\0\0\0\x04\0\0\0\x09\0\0\0\x02\0\0\0\x03\0\0\0ab\0\0\0\0\x02\0\0\0\x09\0\0\0";
     assert_eq!(frame[..head.len()], head[..]);

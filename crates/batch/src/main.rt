@@ -1,6 +1,7 @@
 // Answers a stream of cases, each in a frame, by a stream of frames. A case is an input of the program `rows`, and its answer what that prints. Or a limit and the
 // sizes of rooms stand before such an input, after the mark 52 4D; the answer is then what a call in these rooms answers, and all numbers that it leaves in them. Or
-// built-in names stand there, too, after the mark 52 4E; the call is then beside these names.
+// built-in names stand there, too, after the mark 52 4E; the call is then beside these names. Or after the mark 52 4F stands an edition, and then what stands after 52 4E;
+// the call is then of that edition, and otherwise of edition 1.
 use frames::Frame;
 use frames::read;
 use frames::write;
@@ -9,6 +10,7 @@ use listing::blank;
 use spelling::display::put;
 use syntax::Numbers;
 use syntax::parse_with;
+use token::editions::FIRST;
 use wire::input::Script;
 use wire::input::fill;
 use wire::input::four;
@@ -63,13 +65,14 @@ fn told(
     line(scratch, out, e)
 }
 
-// The answer to an input of a text of this size and n tokens, beside these built-in names and in these rooms.
+// The answer to an input of a text of this size and n tokens, beside these built-in names, in this edition and in these rooms.
 fn called(
     names: &[u8],
     rows: &[u32],
     input: &[u8],
     size: usize,
     n: usize,
+    edition: u32,
     limit: u32,
     nodes: &mut [u32],
     links: &mut [u32],
@@ -89,6 +92,7 @@ fn called(
         rows,
         &input[6..from],
         &tokens[..used],
+        edition,
         limit,
         nodes,
         links,
@@ -130,10 +134,17 @@ const SCRATCH: usize = 18;
 
 const INPUT: usize = 22;
 
-// The answer to a case with a limit and rooms of its own, whose input stands from `at` on, beside these built-in names. After the mark stand the limit, and how many
-// numbers the rooms of nodes, links, symbols and scratch have (4 bytes each, little-endian; at most 512 rows and what can be left over). Each number of the rooms is 7
-// before the call.
-fn lent(case: &[u8], at: usize, names: &[u8], rows: &[u32], out: &mut [u8; 262144]) -> usize
+// The answer to a case with a limit and rooms of its own, whose input stands from `at` on, beside these built-in names and in this edition. After the mark stand the
+// limit, and how many numbers the rooms of nodes, links, symbols and scratch have (4 bytes each, little-endian; at most 512 rows and what can be left over). Each number
+// of the rooms is 7 before the call.
+fn lent(
+    case: &[u8],
+    at: usize,
+    names: &[u8],
+    rows: &[u32],
+    edition: u32,
+    out: &mut [u8; 262144],
+) -> usize
     requires { ⌜ (22 ≤ length (now case)) × (at ≤ length (now case)) ⌝ }
     ensures { λ r. ⌜ r ≤ 262144 ⌝ }
 {
@@ -156,6 +167,7 @@ fn lent(case: &[u8], at: usize, names: &[u8], rows: &[u32], out: &mut [u8; 26214
         &case[at..],
         size,
         n,
+        edition,
         limit,
         &mut nodes[..ns],
         &mut links[..ls],
@@ -187,12 +199,14 @@ fn listed(case: &[u8], from: usize, n: usize, rows: &mut [u32])
     }
 }
 
-// The answer to a case with built-in names. After the sizes of the rooms stand those of the names' text and rows, then the text, the numbers of the rows (4 bytes each,
-// little-endian), and an input.
-fn beside(case: &[u8], out: &mut [u8; 262144]) -> usize
-    requires { ⌜ 30 ≤ length (now case) ⌝ }
+// The answer to a case with built-in names, in this edition. After the sizes of the rooms stand those of the names' text and rows, then the text, the numbers of the
+// rows (4 bytes each, little-endian), and an input.
+fn beside(case: &[u8], edition: u32, out: &mut [u8; 262144]) -> usize
     ensures { λ r. ⌜ r ≤ 262144 ⌝ }
 {
+    if case.len() < TEXT {
+        return bad(out);
+    }
     let size = four(case, TEXT_SIZE) as usize;
     let n = four(case, ROWS_SIZE) as usize;
     if MOST_BYTES < size {
@@ -208,15 +222,17 @@ fn beside(case: &[u8], out: &mut [u8; 262144]) -> usize
     }
     let mut rows: [u32; MOST_NUMBERS] = [0; MOST_NUMBERS];
     listed(case, from, n, &mut rows);
-    lent(case, at, &case[TEXT..from], &rows[..n], out)
+    lent(case, at, &case[TEXT..from], &rows[..n], edition, out)
 }
 
-// The first byte of a case that is no input of `rows`; the second tells whether it has names.
+// The first byte of a case that is no input of `rows`; the second tells whether it has names, and an edition.
 const MARK: u8 = 0x52;
 
 const ROOMS: u8 = 0x4D;
 
 const NAMES: u8 = 0x4E;
+
+const EDITION: u8 = 0x4F;
 
 // The answer to a case with this mark.
 fn marked(case: &[u8], out: &mut [u8; 262144]) -> usize
@@ -226,15 +242,16 @@ fn marked(case: &[u8], out: &mut [u8; 262144]) -> usize
     if case[1] == ROOMS {
         let names: [u8; 0] = [0; 0];
         let rows: [u32; 0] = [0; 0];
-        return lent(case, INPUT, &names, &rows, out);
+        return lent(case, INPUT, &names, &rows, FIRST, out);
     }
-    if case[1] != NAMES {
+    if case[1] == NAMES {
+        return beside(case, FIRST, out);
+    }
+    if case[1] != EDITION {
         return bad(out);
     }
-    if case.len() < TEXT {
-        return bad(out);
-    }
-    beside(case, out)
+    // the last two bytes of the edition stand where the mark would
+    beside(&case[4..], four(case, 2), out)
 }
 
 // Answers one case, and says whether there was one.

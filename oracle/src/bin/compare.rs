@@ -1,4 +1,5 @@
-//! compare N [--tight | --names] [--batch] [--seed S] COMMAND..: runs N cases through the original and through COMMAND.
+//! compare N [--tight | --names] [--edition E] [--batch] [--seed S] COMMAND..: runs N cases through the original and through
+//! COMMAND.
 use std::{
     process::ExitCode,
     time::{Duration, Instant},
@@ -7,6 +8,7 @@ use std::{
 use oracle::{
     beside,
     drawn::Cases,
+    editions::{self, Sort},
     rooms::{Judge, Lent},
     show,
     shrink::{shrunk, shrunk_names},
@@ -14,26 +16,22 @@ use oracle::{
     tight,
 };
 
-const USAGE: &str =
-    "compare N [--seed S] COMMAND.. | compare N [--tight | --names] [--seed S] --batch COMMAND..";
+const USAGE: &str = "compare N [--seed S] COMMAND.. | compare N [--tight | --names] [--edition E] [--seed S] --batch COMMAND..";
 
-/// Which cases are run: inputs of `rows`, in rooms of chosen sizes, or beside built-in names.
-#[derive(Clone, Copy, PartialEq)]
-enum Sort {
-    Plain,
-    Tight,
-    Named,
-}
-
+/// Which cases are run: inputs of `rows`, in rooms of chosen sizes, or beside built-in names; and with an edition or without.
 struct Options {
     count: u64,
     seed: u64,
     sort: Sort,
+    edition: Option<u32>,
     subject: Subject,
 }
 
 impl Options {
     fn cases(&self) -> Box<dyn Iterator<Item = Vec<u8>> + Send> {
+        if let Some(edition) = self.edition {
+            return Box::new(editions::frames(edition, self.seed, self.sort));
+        }
         match self.sort {
             Sort::Plain => {
                 let cases = Cases::new(self.seed);
@@ -56,10 +54,13 @@ fn main() -> ExitCode {
 fn options(words: Vec<String>) -> Option<Options> {
     let mut words = words.into_iter().peekable();
     let count = words.next()?.parse().ok()?;
-    let (mut seed, mut batch, mut sort) = (1, false, Sort::Plain);
+    let (mut seed, mut batch, mut sort, mut edition) = (1, false, Sort::Plain, None);
     loop {
         match words.peek()?.as_str() {
             "--seed" => seed = words.nth(1)?.parse().ok()?,
+            "--edition" => {
+                edition = Some(words.nth(1)?.parse().ok().filter(|edition| [1, 2].contains(edition))?)
+            }
             word => {
                 match word {
                     "--batch" => batch = true,
@@ -72,7 +73,8 @@ fn options(words: Vec<String>) -> Option<Options> {
         }
     }
     let subject = Subject { words: words.collect(), batch };
-    (batch || sort == Sort::Plain).then_some(Options { count, seed, sort, subject })
+    let is_plain = sort == Sort::Plain && edition.is_none();
+    (batch || is_plain).then_some(Options { count, seed, sort, edition, subject })
 }
 
 /// The differences met so far.

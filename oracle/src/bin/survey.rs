@@ -1,13 +1,20 @@
-//! survey N [--tight | --names] [SEED]: what N generated cases cover.
+//! survey N [--tight | --names | --edition] [SEED]: what N generated cases cover.
 use std::process::ExitCode;
 
-use oracle::{beside, coverage::Coverage, drawn::Cases, tight};
+use oracle::{
+    beside,
+    coverage::Coverage,
+    drawn::Cases,
+    editions::{self, Sort},
+    terms::SECOND,
+    tight,
+};
 
 fn main() -> ExitCode {
     let (words, sort): (Vec<_>, Vec<_>) = std::env::args().skip(1).partition(|word| !word.starts_with("--"));
     let mut words = words.iter().map(|word| word.parse::<u64>());
     let Some(Ok(count)) = words.next() else {
-        eprintln!("usage: survey N [--tight | --names] [SEED]");
+        eprintln!("usage: survey N [--tight | --names | --edition] [SEED]");
         return ExitCode::from(2);
     };
     let seed = words.next().and_then(Result::ok).unwrap_or(1);
@@ -19,6 +26,7 @@ fn main() -> ExitCode {
                 return ExitCode::from(!covered as u8);
             }
             Some("--names") => Box::new(beside::frames(seed)),
+            Some("--edition") => Box::new(editions::frames(SECOND, seed, Sort::Plain)),
             Some(_) => Box::new(tight::frames(seed)),
         };
         Coverage::of_rooms(frames.take(count as usize)).print_shown();

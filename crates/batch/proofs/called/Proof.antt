@@ -17,7 +17,7 @@ told-requires : tie.Need-told-requires
 told-requires c κs =
     let call = c .before .before .before .before .before .before .before .before .before .before .before .before .before .parse-with in
     let pre = c .before .before .before .before .before .before .before .before .before .before .before .before .before .before .before .before .before .before .before .before .before .before .before .before .before .before .before .before .before .before .pre in
-    (omega (arith, call .kept .1 .1 .1 .1 .1 .0, pre .1), omega (arith, call .kept .1 .1 .1 .1 .1 .1 .0, pre .2), omega (arith, call .kept .1 .1 .1 .1 .1 .1 .1 .0, pre .3), omega (arith, call .kept .1 .1 .1 .1 .1 .1 .1 .1 .0, pre .4))
+    (omega (arith, call .kept .1 .1 .1 .1 .1 .1 .0, pre .1), omega (arith, call .kept .1 .1 .1 .1 .1 .1 .1 .0, pre .2), omega (arith, call .kept .1 .1 .1 .1 .1 .1 .1 .1 .0, pre .3), omega (arith, call .kept .1 .1 .1 .1 .1 .1 .1 .1 .1 .0, pre .4))
 
 pub called-spec : {M : Type 1} → statement M
 called-spec = tie.close (tie.spec (λ c. search needs) (λ c. search needs) (λ c. search needs) fill-requires (λ c. search needs) (λ c. search needs) (λ c. search needs) (λ c. search needs) slice-aggregate-parse-with (λ c κs. search needs) told-requires (λ c. search needs) (λ c. search needs) (λ c. search needs) (λ c. search needs) (λ c. search needs))
