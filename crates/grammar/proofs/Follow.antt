@@ -55,7 +55,7 @@ unfoldable thin : Form → Bool
 thin empty = true
 thin (token x p) = false
 thin (part p q) = thin p && thin q
-thin (nested p) = thin p
+thin (nested k p) = thin p
 thin (node f p) = thin p
 thin (choice n) = traits n .2
 thin (chain p n) = true
@@ -66,7 +66,7 @@ unfoldable leads : Form → Bool
 leads empty = true
 leads (token x p) = calm x
 leads (part p q) = leads p && leads q
-leads (nested p) = leads p
+leads (nested k p) = leads p
 leads (node f p) = leads p
 leads (choice n) = traits n .3
 leads (chain p n) = false
@@ -78,7 +78,7 @@ unfoldable ends : Form → Bool
 ends empty = false
 ends (token x p) = ends p
 ends (part p q) = ends q || (ends p && thin q)
-ends (nested p) = ends p
+ends (nested k p) = ends p
 ends (node f p) = ends p
 ends (choice n) = traits n .1
 ends (chain p n) = (ends p || traits n .1) && traits n .2
@@ -90,7 +90,7 @@ unfoldable fit : Form → Bool
 fit empty = true
 fit (token x p) = fit p
 fit (part p q) = cond (ends p) (leads q) true && (fit p && fit q)
-fit (nested p) = fit p
+fit (nested k p) = fit p
 fit (node f p) = fit p
 fit (choice n) = true
 fit (chain p n) = cond (ends p || traits n .1) (traits n .3) true && fit p

@@ -48,7 +48,7 @@ unfoldable pub least : Form → ℕ
 least empty = 0
 least (token x p) = suc (least p)
 least (part p q) = least p + least q
-least (nested p) = least p
+least (nested k p) = least p
 least (node f p) = least p
 least (choice n) = traits n .0
 least (chain p n) = least p
@@ -59,7 +59,7 @@ unfoldable pub avoids : Form → Bool
 avoids empty = false
 avoids (token x p) = not (eqb RightBrace x)
 avoids (part p q) = avoids p
-avoids (nested p) = avoids p
+avoids (nested k p) = avoids p
 avoids (node f p) = avoids p
 avoids (choice n) = traits n .2
 avoids (chain p n) = avoids p
@@ -134,7 +134,7 @@ ends : Form → Bool
 ends empty = false
 ends (token x p) = false
 ends (part p q) = false
-ends (nested p) = false
+ends (nested k p) = false
 ends (node f p) = false
 ends (choice n) = false
 ends (chain p n) = false

@@ -203,7 +203,7 @@ module _ (e : Edition) (ts : List ℕ) (σ : ℕ → ℕ) (space : Space) (kind 
   never (Refuses.in-only x) h i j v = never x h i j v
   never (Refuses.in-joined {n = m} {f = f} {r = r} x k y) h i j v = never y (paid-node f r (paid-entry e m _ k) .1) (proper-link e m _ k) (reading-ends e kind n last (x .reads) i j) (paid-on (x .reads) h v)
   never (Refuses.no-room-joined x k y l) h i j v = λ c. within (Reads.joined (x .reads) k (y .reads)) h i j v l
-  never (Refuses.stopped {e = k}) h i j v = λ c. omega (arith, leb→le 9 k (both (leb 9 k) (leb k 11) i .0))
+  never (Refuses.stopped {e = k}) h i j v = λ c. omega (arith, leb→le 9 k (both (leb 9 k) (leb k 10) i .0))
 
   script-never : {limit : ℕ} {q : Refused} → Refuses ts σ limit space (kaori e) kind script 0 0 blank q → code-of q ≡ 4 → ⊥
   unfolding paid proper unparented

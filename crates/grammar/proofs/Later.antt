@@ -9,7 +9,7 @@ use native.Mathlib.Decide.{ℕ-discrete}
 use native.Mathlib.Omega.{arith}
 use lib.Dec.{eqb, T}
 use Rattle.grammar.specs.Edition.{Edition}
-use Rattle.grammar.specs.Kaori.{Table, Form, above, expression, denial, unary, rules, look, kaori, script}
+use Rattle.grammar.specs.Kaori.{an-expression, a-sign, Table, Form, above, expression, denial, unary, rules, look, kaori, script}
 use Rattle.grammar.specs.Kind.{Plus, Minus, Caret, Not}
 use Rattle.grammar.specs.Label.{Node, Label}
 use Rattle.grammar.specs.Operator.{joining}
@@ -31,8 +31,8 @@ data Sort : Role → Aim Table Label → Type 0 where
   empty : Sort plain (whole Phrase.empty)
   token : {x : ℕ} {p : Form} → Sort plain (whole p) → Sort plain (whole (Phrase.token x p))
   part : {p q : Form} → Sort plain (whole p) → Sort plain (whole q) → Sort plain (whole (Phrase.part p q))
-  nested : {p : Form} → Sort plain (whole p) → Sort plain (whole (Phrase.nested p))
-  phrase : {p : Form} → p ≡ above 6 → Sort (level 6) (whole p) → Sort plain (whole (Phrase.nested p))
+  nested : {s : ℕ} {p : Form} → Sort plain (whole p) → Sort plain (whole (Phrase.nested s p))
+  phrase : {s : ℕ} {p : Form} → p ≡ above 6 → Sort (level 6) (whole p) → Sort plain (whole (Phrase.nested s p))
   node : {f : Label} {p : Form} → Sort plain (whole p) → Sort plain (whole (Phrase.node f p))
   choice : {n : Table} → T (other n) → Sort plain (whole (Phrase.choice n))
   chain : {n : Table} {p : Form} → T (other n) → Sort plain (whole p) → Sort plain (whole (Phrase.chain p n))
@@ -40,9 +40,9 @@ data Sort : Role → Aim Table Label → Type 0 where
   once : {n : Table} {p : Form} → T (other n) → Sort plain (whole p) → Sort plain (whole (Phrase.once p n))
   refusal : {e : ℕ} → Sort plain (whole (Phrase.refusal e))
   operand : Sort (level zero) (whole (Phrase.choice Table.operand))
-  plus : Sort (level zero) (whole (Phrase.nested (Phrase.token Plus (Phrase.choice Table.operand))))
-  sign : {x : ℕ} {f : Label} → kaori Edition.second Table.operand x ≡ Phrase.nested (Phrase.node f (Phrase.token x (Phrase.choice Table.operand))) → ((t : Tally) → counted f t ≡ row-more t 0) → Sort (level zero) (whole (Phrase.nested (Phrase.node f (Phrase.token x (Phrase.choice Table.operand)))))
-  denied : {p : Form} → Sort (level 6) (whole p) → Sort (level zero) (whole (Phrase.node (Label.Row (Node.LogicalNot Edition.first)) (Phrase.token Not (Phrase.nested p))))
+  plus : Sort (level zero) (whole (Phrase.nested a-sign (Phrase.token Plus (Phrase.choice Table.operand))))
+  sign : {x : ℕ} {f : Label} → kaori Edition.second Table.operand x ≡ Phrase.nested a-sign (Phrase.node f (Phrase.token x (Phrase.choice Table.operand))) → ((t : Tally) → counted f t ≡ row-more t 0) → Sort (level zero) (whole (Phrase.nested a-sign (Phrase.node f (Phrase.token x (Phrase.choice Table.operand)))))
+  denied : {p : Form} → Sort (level 6) (whole p) → Sort (level zero) (whole (Phrase.node (Label.Row (Node.LogicalNot Edition.first)) (Phrase.token Not (Phrase.nested an-expression p))))
   climb : {k : ℕ} {p : Form} → Sort (level k) (whole p) → Sort (level (suc k)) (whole (Phrase.chain p (Table.operators k)))
   climbing : {k : ℕ} {p : Form} → Sort (level k) (whole p) → Sort (level k) (begun p (Table.operators k))
   right : {k x : ℕ} {p : Form} → Sort (level k) (whole p) → Sort (joint k) (whole (Phrase.token x p))
@@ -171,7 +171,7 @@ module _ {kind : ℕ → ℕ} where
       record { operands = rw (g, counted-joining (kind b) (together (tally t) (tally u))) (following (raised (omega arith) (l .operands)) j (raised (omega arith) (r .operands))); stops = r .stops }
 
   -- a sign before operands
-  sign-before : (x : ℕ) {f : Label} {d a b : ℕ} {s : Tally} → kaori Edition.second Table.operand x ≡ Phrase.nested (Phrase.node f (Phrase.token x (Phrase.choice Table.operand))) → ((s : Tally) → counted f s ≡ row-more s 0) → kind a ≡ x → Operands kind d (a + 1) b s → Operands kind (suc d) a b (row-more s 0)
+  sign-before : (x : ℕ) {f : Label} {d a b : ℕ} {s : Tally} → kaori Edition.second Table.operand x ≡ Phrase.nested a-sign (Phrase.node f (Phrase.token x (Phrase.choice Table.operand))) → ((s : Tally) → counted f s ≡ row-more s 0) → kind a ≡ x → Operands kind d (a + 1) b s → Operands kind (suc d) a b (row-more s 0)
   unfolding depth tally
   sign-before x {f} {a} e g h o = signed (λ s. row-more s 0) sum-signed (λ c u r. record { tree = deeper (made f a c u); reads = Reads.chosen (ap (kaori Edition.second Table.operand) h ∙ e) (Reads.opened (Reads.labelled (Reads.taken h r))); deep = omega arith; is = g (tally u) }) o
 
@@ -184,7 +184,7 @@ module _ {kind : ℕ → ℕ} where
   denial-before h o = sign-before Not {f = Label.Row (Node.LogicalNot Edition.second)} refl (λ s. refl) h o
 
   -- all of them are an expression
-  expressed : {a b : ℕ} {p : Form} {t : Tree Label} → p ≡ above 6 → Level kind 6 a b t → Later kind (whole (Phrase.nested p)) a b (deeper t)
+  expressed : {s a b : ℕ} {p : Form} {t : Tree Label} → p ≡ above 6 → Level kind 6 a b t → Later kind (whole (Phrase.nested s p)) a b (deeper t)
   unfolding depth tally
   expressed e l = let j = all-joined (l .stops) (l .operands) in rw e (record { tree = deeper (j .tree); reads = Reads.opened (j .reads); deep = omega (arith, j .deep); is = j .is })
 

@@ -41,6 +41,18 @@ pub mod Tallies
 pub mod Operands
 pub mod Later
 pub mod Editions
+-- what could have stood at a place, and what is open there
+pub mod Stack
+pub mod Finish
+pub mod Expected
+pub mod Verdicts
+pub mod Stopping
+pub mod Height
+pub mod Unexpected
+pub mod Fares
+pub mod Refusing
+pub mod Openings
+pub mod Overflow
 -- samples
 pub mod Reader
 pub mod Doors

@@ -35,7 +35,7 @@ unfoldable pub spare : Form → ℕ
 spare empty = 0
 spare (token x p) = suc (spare p)
 spare (part p q) = spare p + spare q
-spare (nested p) = spare p
+spare (nested k p) = spare p
 spare (node f p) = spare p - cost f
 spare (choice n) = 0
 spare (chain p n) = spare p
@@ -47,7 +47,7 @@ unfoldable pub paid : Form → Bool
 paid empty = true
 paid (token x p) = paid p
 paid (part p q) = paid p && paid q
-paid (nested p) = paid p
+paid (nested k p) = paid p
 paid (node f p) = leb (cost f) (spare p) && paid p
 paid (choice n) = true
 paid (chain p n) = paid p

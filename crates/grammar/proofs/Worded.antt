@@ -34,7 +34,7 @@ abbrev is-empty : Form → Bool
 is-empty empty = true
 is-empty (token x p) = false
 is-empty (part p q) = false
-is-empty (nested p) = false
+is-empty (nested k p) = false
 is-empty (node f p) = false
 is-empty (choice n) = false
 is-empty (chain p n) = false
@@ -46,7 +46,7 @@ abbrev alone : Form → Bool
 alone empty = false
 alone (token x p) = a-name x && is-empty p
 alone (part p q) = false
-alone (nested p) = false
+alone (nested k p) = false
 alone (node f p) = false
 alone (choice n) = false
 alone (chain p n) = false
@@ -58,7 +58,7 @@ unfoldable pub spoken : Form → Bool
 spoken empty = true
 spoken (token x p) = not (a-name x) && spoken p
 spoken (part p q) = spoken p && spoken q
-spoken (nested p) = spoken p
+spoken (nested k p) = spoken p
 spoken (node f p) = cond (has-word f) (alone p) (spoken p)
 spoken (choice n) = true
 spoken (chain p n) = spoken p

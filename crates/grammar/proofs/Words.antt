@@ -30,7 +30,7 @@ unfoldable pub spells : Form → Bool
 spells empty = false
 spells (token x p) = eqb x Identifier
 spells (part p q) = false
-spells (nested p) = false
+spells (nested k p) = false
 spells (node f p) = false
 spells (choice n) = false
 spells (chain p n) = false
@@ -51,7 +51,7 @@ unfoldable pub named : Form → Bool
 named empty = true
 named (token x p) = named p
 named (part p q) = named p && named q
-named (nested p) = named p
+named (nested k p) = named p
 named (node f p) = leads f p && named p
 named (choice n) = true
 named (chain p n) = named p

@@ -24,6 +24,7 @@ pub mod Outcome
 pub mod Call
 pub mod Door
 pub mod Answer
+pub mod Expected
 -- no answer depends on these: a grammar of the Rust library, a test of patterns, runs of bytes, tables
 pub mod Float
 pub mod Derivative

@@ -127,7 +127,7 @@ module _ {ts : List ℕ} {terms : Terms} {o : ℕ} {s : State} where
       }
 
   module _ {xs ys : List Handle} {s′ : State} where
-    pub opened : {p : Form} → Reading ts terms (whole p) (o + 1) s xs ys s′ → Reading ts terms (whole (nested p)) o s xs ys s′
+    pub opened : {k : ℕ} {p : Form} → Reading ts terms (whole p) (o + 1) s xs ys s′ → Reading ts terms (whole (nested k p)) o s xs ys s′
     unfolding walk depth Named
     opened r = record { tree = deeper (r .tree); reads = Reads.opened (r .reads); fits = omega arith; named = r .named; rows = r .rows; holds = r .holds; same = r .same; rooms = r .rooms; kept = r .kept }
 

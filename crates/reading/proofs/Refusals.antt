@@ -22,14 +22,14 @@ module _ {ts : List ℕ} {terms : Terms} {o : ℕ} where
     pub stopped : {e : ℕ} → Refusing ts terms (refusal e) o s (refused e (s .cursor .at) 255)
     stopped = record { refuses = Of.stopped }
 
-    pub too-deep : {p : Form} → terms .limit ≤ o → Refusing ts terms (nested p) o s (refused 11 (s .cursor .at) 255)
+    pub too-deep : {k : ℕ} {p : Form} → terms .limit ≤ o → Refusing ts terms (nested k p) o s (refused 11 (s .cursor .at) 255)
     too-deep h = record { refuses = Of.too-deep h }
 
     module _ {p : Form} {q : Refused} where
       pub in-first : {r : Form} → Refusing ts terms p o s q → Refusing ts terms (part p r) o s q
       in-first x = record { refuses = Of.in-first (x .refuses) }
 
-      pub inside : o < terms .limit → Refusing ts terms p (o + 1) s q → Refusing ts terms (nested p) o s q
+      pub inside : {k : ℕ} → o < terms .limit → Refusing ts terms p (o + 1) s q → Refusing ts terms (nested k p) o s q
       inside h x = record { refuses = Of.inside h (rw add-one at (x .refuses)) }
 
       pub in-node : {f : Label} → Refusing ts terms p o s q → Refusing ts terms (node f p) o s q

@@ -134,6 +134,6 @@ module _ {ts : List ℕ} {terms : Terms} {o : ℕ} {s s₁ : State} {f : Label} 
   built-once h u a z g y (Tries.lacking l) = refuse (full-joined z g y l)
 
 -- one opening deeper
-pub nested-answer : {ts : List ℕ} {terms : Terms} {o : ℕ} {s : State} {p : Form} {ns ls ss : List ℕ} (r : Read) → o < terms .limit → Answered ts terms node-of (whole p) (o + 1) s ns ls ss r →
-    Answered ts terms node-of (whole (nested p)) o s ns ls ss r
+pub nested-answer : {ts : List ℕ} {terms : Terms} {k o : ℕ} {s : State} {p : Form} {ns ls ss : List ℕ} (r : Read) → o < terms .limit → Answered ts terms node-of (whole p) (o + 1) s ns ls ss r →
+    Answered ts terms node-of (whole (nested k p)) o s ns ls ss r
 nested-answer r h a = mapped r (omega arith) a (λ n c z. opened z) (λ x y. inside h y)
