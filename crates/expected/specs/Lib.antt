@@ -1,0 +1,5 @@
+pub mod Cells
+pub mod Steps
+pub mod Chains
+pub mod Left
+pub mod Tells
