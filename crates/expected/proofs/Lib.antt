@@ -6,3 +6,4 @@ pub mod Chaining
 pub mod Gathering
 pub mod Leaving
 pub mod Telling
+pub mod Once
