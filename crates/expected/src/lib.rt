@@ -1,7 +1,7 @@
 // What could have stood at a refused token, and what was open there: document 02, L2. A pass of its own over the tokens up to the place: reading does not change, and a
 // script that is read pays nothing.
-pub mod stack;
-pub mod tables;
+mod stack;
+mod tables;
 
 use crate::stack::Step;
 use crate::stack::admits;
@@ -147,7 +147,7 @@ fn kinds(room: &[u32], top: usize, edition: u32) -> u64
 }
 
 // The tokens before a place are taken within the limit: the stack's top, and how many constructs are open. Or they are not.
-pub enum Rest {
+enum Rest {
     At(usize, usize),
     Gone,
 }

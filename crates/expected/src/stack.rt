@@ -15,7 +15,7 @@ ghost use Rattle.expected.specs.Steps.{Stepped, Admits};
 
 // A kind is taken: the stack's top is then here, and so many constructs are open. Or nothing was left to read. Or the cell here bars it, with so many open below it, by
 // this number of the table's.
-pub enum Step {
+pub(crate) enum Step {
     Took(usize, usize),
     Over,
     Barred(usize, usize, usize),
@@ -28,7 +28,7 @@ fn size(x: u32) -> usize
 }
 
 // What comes of a kind before a stack whose top is here, with so many constructs open.
-pub fn advance(room: &mut [u32], top: usize, depth: usize, edition: u32, kind: u32, at: u32) -> Step
+pub(crate) fn advance(room: &mut [u32], top: usize, depth: usize, edition: u32, kind: u32, at: u32) -> Step
     requires { ⌜ kind < 45 ⌝ }
     requires { ⌜ at < 4096 ⌝ }
     requires { ⌜ 8 ≤ top ⌝ }
@@ -62,7 +62,7 @@ pub fn advance(room: &mut [u32], top: usize, depth: usize, edition: u32, kind: u
 }
 
 // Whether a kind is not barred before a stack whose top is here.
-pub fn admits(room: &[u32], top: usize, edition: u32, kind: u32) -> bool
+pub(crate) fn admits(room: &[u32], top: usize, edition: u32, kind: u32) -> bool
     requires { ⌜ kind < 45 ⌝ }
     requires { ⌜ top ≤ length (now room) ⌝ }
     requires { ⌜ Sound (drop top (now room)) ⌝ }

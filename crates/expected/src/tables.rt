@@ -10,19 +10,19 @@ ghost use Rattle.expected.specs.Cells.{column-of, Acts, opens-of, Celled
 
 // The numbers of the table. A kind is barred: a token is missing, or an operand, or it is `for`; the operand is missing in an expression that opens at this token, or a
 // brace in a block that does. Or the state passes the kind on to what stands below it. From TAKES on it takes it, and a list stands for the state.
-pub const NO_TOKEN: usize = 0;
+pub(crate) const NO_TOKEN: usize = 0;
 
-pub const NO_OPERAND: usize = 1;
+pub(crate) const NO_OPERAND: usize = 1;
 
-pub const NO_FOR: usize = 2;
+pub(crate) const NO_FOR: usize = 2;
 
-pub const NO_OPERAND_OPENED: usize = 3;
+pub(crate) const NO_OPERAND_OPENED: usize = 3;
 
-pub const NO_BLOCK: usize = 4;
+pub(crate) const NO_BLOCK: usize = 4;
 
-pub const PASSES: usize = 5;
+pub(crate) const PASSES: usize = 5;
 
-pub const TAKES: usize = 6;
+pub(crate) const TAKES: usize = 6;
 
 // The columns of the table: one for each kind, and one more for each that edition 2 reads in another way.
 const COLUMNS: usize = 49;
@@ -172,7 +172,7 @@ fn column(edition: u32, kind: u32) -> usize
 }
 
 // What the table has for a state before a kind.
-pub fn action(edition: u32, state: usize, kind: u32) -> usize
+pub(crate) fn action(edition: u32, state: usize, kind: u32) -> usize
     requires { ⌜ state < 54 ⌝ }
     requires { ⌜ kind < 45 ⌝ }
     ensures { λ r. ⌜ Acts (the-edition edition) state kind r ⌝ }
@@ -181,7 +181,7 @@ pub fn action(edition: u32, state: usize, kind: u32) -> usize
 }
 
 // How many constructs a list opens.
-pub fn opens(list: usize) -> usize
+pub(crate) fn opens(list: usize) -> usize
     requires { ⌜ list < 171 ⌝ }
     ensures { λ r. ⌜ r ≡ opens-of list ⌝ }
 {
@@ -197,7 +197,7 @@ pub fn opens(list: usize) -> usize
 // The first number of a list that is a mark's, and of a cell that is.
 const MARKS: u32 = 60;
 
-pub const MARK: u32 = 64;
+pub(crate) const MARK: u32 = 64;
 
 // The cell of a number of a list: a state, or a mark at this token.
 fn cell(v: u32, at: u32) -> u32
@@ -212,7 +212,7 @@ fn cell(v: u32, at: u32) -> u32
 }
 
 // A list, put on a stack whose top is here: its cells stand from the top on.
-pub fn push(room: &mut [u32], top: usize, list: usize, at: u32) -> usize
+pub(crate) fn push(room: &mut [u32], top: usize, list: usize, at: u32) -> usize
     requires { ⌜ list < 171 ⌝ }
     requires { ⌜ 8 ≤ top ⌝ }
     requires { ⌜ top ≤ length (now room) ⌝ }

@@ -10,6 +10,7 @@ use crate::report::line_start;
 use crate::report::put_columns;
 use crate::report::put_where;
 use crate::report::show_written;
+use crate::script::DEPTH;
 use crate::script::count;
 use crate::script::symbol_room;
 use crate::script::tell;
@@ -79,7 +80,7 @@ fn read_ends(
         text,
         list,
         edition,
-        64,
+        DEPTH,
         &mut nodes,
         &mut links,
         &mut symbols,
@@ -201,7 +202,7 @@ fn show_refused(
     code: u32,
     out: &mut [u8; 4096],
 ) {
-    tell(path, text, list, a, out);
+    tell(editions::FIRST, path, text, list, a, out);
     if code != 0 {
         conclude(path, b": refused in both editions", out);
         return;

@@ -2,9 +2,11 @@
 mod at;
 mod builtin;
 mod compare;
+mod could;
 mod cover;
 mod listing;
 mod load;
+mod open;
 mod page;
 mod reads;
 mod report;

@@ -1,9 +1,11 @@
 // One file: its text is read, then its tokens and rows are made, and what the command asks for is shown.
 use crate::at::show_at;
+use crate::could::show_could;
 use crate::cover::cover;
 use crate::cover::part_of;
 use crate::listing::list_refusal;
 use crate::listing::list_rows;
+use crate::open::show_open;
 use crate::page::end_line;
 use crate::page::put;
 use crate::page::put_byte;
@@ -23,8 +25,10 @@ use children::node;
 use children::places;
 use diagnostics::line::offset;
 use diagnostics::line::place;
+use expected::expected;
 use libc::STDERR_FILENO;
 use reader::read_with;
+use reading::codes;
 use syntax::Numbers;
 use token::kinds;
 use wire::output::found;
@@ -175,8 +179,29 @@ fn show_place(
     0
 }
 
-// Says what is wrong with a script that is refused.
-pub(crate) fn tell(path: &[u8], text: &[u8], list: &[u32], a: Numbers, out: &mut [u8; 4096]) {
+// Says what could have stood at a token, and what is open there, where reading in an edition is refused by this code.
+fn tell_more(edition: u32, text: &[u8], list: &[u32], code: u32, at: u32, out: &mut [u8; 4096]) {
+    if code < codes::KIND_REQUIRED {
+        return;
+    }
+    if code > codes::TOO_DEEP {
+        return;
+    }
+    let told = expected(list, edition, DEPTH, code, at);
+    show_could(told.kinds, out);
+    let chain = told.chain;
+    show_open(text, list, chain, at, code == codes::TOO_DEEP, out);
+}
+
+// Says what is wrong with a script that is refused in an edition.
+pub(crate) fn tell(
+    edition: u32,
+    path: &[u8],
+    text: &[u8],
+    list: &[u32],
+    a: Numbers,
+    out: &mut [u8; 4096],
+) {
     let why = Why {
         code: a.code,
         start: a.start,
@@ -184,6 +209,7 @@ pub(crate) fn tell(path: &[u8], text: &[u8], list: &[u32], a: Numbers, out: &mut
         found: found(list, a.at),
     };
     report(path, text, why, out);
+    tell_more(edition, text, list, a.code, a.at, out);
 }
 
 // What is shown of a script that is refused: a report, and its numbers as the listing has them.
@@ -196,12 +222,15 @@ fn show_refused(
     out: &mut [u8; 4096],
 ) {
     if wish.report {
-        tell(path, text, list, a, out);
+        tell(wish.edition, path, text, list, a, out);
     }
     if wish.rows {
         list_refusal(list, a.code, a.at, a.start, a.end, a.expected);
     }
 }
+
+// How deep a script may be nested.
+pub(crate) const DEPTH: u32 = 64;
 
 // Rooms of 4,096 rows, zero throughout, with so many numbers a row.
 pub(crate) fn two_each() -> [u32; 8192] {
@@ -244,7 +273,7 @@ pub(crate) fn script(
         text,
         &mut list,
         wish.edition,
-        64,
+        DEPTH,
         &mut nodes,
         &mut links,
         &mut symbols,

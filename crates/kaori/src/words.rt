@@ -29,8 +29,22 @@ const SIGN_CELL: usize = 2;
 
 const OTHER_SIGN: usize = 11;
 
+// What a byte of a table is shown as: a blank for `_`.
+fn spaced(byte: u8) -> u8 {
+    if byte == b'_' {
+        return b' ';
+    }
+    byte
+}
+
 // The bytes of a table from one place up to another, or up to the first blank.
-fn put_cell(table: &[u8], from: usize, upto: usize, out: &mut [u8; 4096], at: usize) -> usize
+pub(crate) fn put_cell(
+    table: &[u8],
+    from: usize,
+    upto: usize,
+    out: &mut [u8; 4096],
+    at: usize,
+) -> usize
     requires { ⌜ (upto ≤ length (now table)) × (at ≤ 4096) ⌝ }
     ensures { λ r. ⌜ r ≤ 4096 ⌝ }
 {
@@ -41,7 +55,7 @@ fn put_cell(table: &[u8], from: usize, upto: usize, out: &mut [u8; 4096], at: us
         if byte == b' ' {
             return now;
         }
-        now = put_byte(byte, out, now);
+        now = put_byte(spaced(byte), out, now);
         i += 1;
     }
     now
