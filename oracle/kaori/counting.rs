@@ -1,8 +1,14 @@
 
-// What follows is not of parser.rs: it counts openings, each before its first token is looked at.
+// What follows is not of parser.rs: it counts openings, each before its first token is looked at, and keeps those that are not whole.
+use crate::compiler::Sort;
+
 impl<'a> Parser<'a> {
-    fn opened(&mut self, read: fn(&mut Self) -> Result<NodeId, Error>) -> Result<NodeId, Error> {
-        if !self.compiler.open() {
+    fn opened(
+        &mut self,
+        sort: Sort,
+        read: fn(&mut Self) -> Result<NodeId, Error>,
+    ) -> Result<NodeId, Error> {
+        if !self.compiler.open(sort, self.pos) {
             return self.stopped(crate::compiler::NESTED);
         }
         let node = read(self)?;
@@ -15,21 +21,21 @@ impl<'a> Parser<'a> {
     }
 
     fn parse_expression(&mut self) -> Result<NodeId, Error> {
-        self.opened(Self::parse_expression_inner)
+        self.opened(Sort::Expression, Self::parse_expression_inner)
     }
 
     fn parse_block(&mut self) -> Result<NodeId, Error> {
-        self.opened(Self::parse_block_inner)
+        self.opened(Sort::Block, Self::parse_block_inner)
     }
 
     fn parse_if(&mut self) -> Result<NodeId, Error> {
-        self.opened(Self::parse_if_inner)
+        self.opened(Sort::If, Self::parse_if_inner)
     }
 
     fn parse_prefix_unary(&mut self) -> Result<NodeId, Error> {
         match self.peek_token() {
             Token::Plus | Token::Minus | Token::Caret => {
-                self.opened(Self::parse_prefix_unary_inner)
+                self.opened(Sort::Sign, Self::parse_prefix_unary_inner)
             }
             _ => self.parse_prefix_unary_inner(),
         }

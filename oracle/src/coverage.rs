@@ -10,9 +10,11 @@ use crate::{
     answer::{LIMIT, outcome},
     builtins::{Builtins, MAX_NAMES},
     case::{self, Case},
+    could::Could,
     kinds,
     rooms::{Judge, Known, Lent, Rooms, SCRATCH},
     rows::{ABSENT, NO_KIND, Outcome, Rows},
+    told::{Question, TOLD, Told},
 };
 
 #[rustfmt::skip]
@@ -79,6 +81,25 @@ impl Coverage {
                 }
                 last = lent.input;
             }
+        }
+        coverage
+    }
+
+    /// Of frames of the program `batch` that ask about a refused token.
+    pub fn of_questions(frames: impl Iterator<Item = Vec<u8>>) -> Coverage {
+        let (mut coverage, mut could) = (Coverage::default(), Could::default());
+        for frame in frames {
+            coverage.cases += 1;
+            let Some(question) = Question::decode(&frame) else {
+                coverage.show("no head");
+                continue;
+            };
+            let Some(case) = Case::decode(&question.input) else {
+                coverage.show("bad input");
+                continue;
+            };
+            let told = question.told(&case, &mut could);
+            asked(&question, &told).into_iter().for_each(|name| coverage.show(&name));
         }
         coverage
     }
@@ -174,6 +195,29 @@ fn in_rooms(known: &Known, rooms: Rooms) -> Vec<String> {
         names.push(format!("{row}, before a symbol row at its token"));
     }
     names
+}
+
+/// What is shown by a question about a token: of which code and edition something is told, how many kinds could have stood there
+/// and how many constructs are open.
+fn asked(question: &Question, told: &Told) -> Vec<String> {
+    let Question { terms, code, .. } = question;
+    if *told == Told::default() {
+        let what = if TOLD.contains(code) { format!("code {code}") } else { "another code".into() };
+        return vec![format!("nothing told: {what}")];
+    }
+    let open = match told.chain.len() {
+        few @ 0..4 => few.to_string(),
+        4..16 => "4 to 15".into(),
+        16..64 => "16 to 63".into(),
+        all => all.to_string(),
+    };
+    vec![
+        format!("code {code}"),
+        format!("code {code} in edition {}", terms.edition),
+        format!("kinds: {}", told.members().count()),
+        format!("set {:#x} in edition {}", told.kinds, terms.edition),
+        format!("open: {open}"),
+    ]
 }
 
 /// What is shown by built-in names beside a case.

@@ -23,7 +23,7 @@ pub enum Sort {
 }
 
 /// Numbers that name no edition.
-const WRONG: [u32; 10] = [0, 3, 4, 255, 256, 257, 258, 0x0200_0000, 0x8000_0001, u32::MAX];
+pub const WRONG: [u32; 10] = [0, 3, 4, 255, 256, 257, 258, 0x0200_0000, 0x8000_0001, u32::MAX];
 
 /// The frames of a run, always the same for a seed: the corners, and then each case of `Cases`.
 pub fn frames(edition: u32, seed: u64, sort: Sort) -> impl Iterator<Item = Vec<u8>> + Send {

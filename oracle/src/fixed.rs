@@ -10,6 +10,7 @@ use crate::{
     drawn::{Cases, exact},
     editions, frame,
     list::script,
+    questions,
     rooms::Judge,
     rows::Outcome,
     tight,
@@ -81,12 +82,12 @@ pub fn file() -> Vec<u8> {
 }
 
 /// What `batch` reads, and what it must write: some inputs of `rows`, whole and broken, the corners of rooms of any size, and
-/// some of built-in names and of editions.
+/// some of built-in names, of editions and of refused tokens.
 pub fn batch_files() -> (Vec<u8>, Vec<u8>) {
     let whole = script("a;").encode();
     let plain = [whole.clone(), Vec::new(), [&whole[..], &[0]].concat(), whole[..8].to_vec()];
     let (mut read, mut written, mut judge) = (Vec::new(), Vec::new(), Judge::default());
-    let chosen = tight::corners().into_iter().chain(beside::chosen()).chain(editions::chosen());
+    let chosen = [tight::corners(), beside::chosen(), editions::chosen(), questions::chosen()].concat();
     for case in plain.into_iter().chain(chosen) {
         frame::write(&mut read, &case).expect("memory");
         frame::write(&mut written, &judge.answer(&case)).expect("memory");

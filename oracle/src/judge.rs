@@ -7,7 +7,7 @@ use std::{
 };
 
 use kaori::{
-    compiler::{Compiler, FOR, NESTED, fresh_interner},
+    compiler::{Compiler, FOR, NESTED, Opening, fresh_interner},
     diagnostics::error::Error,
     recorder::{self, Asked, Row},
     syntax::{counted, parser, recorded, second_counted, second_parser, second_recorded, token},
@@ -26,6 +26,8 @@ pub struct Reading {
     pub outcome: Outcome,
     /// The most openings taken at once, within the limit.
     pub deepest: u32,
+    /// The openings that were not whole at the end: none, or at a refusal what it lies inside of.
+    pub chain: Vec<Opening>,
 }
 
 static TURN: Mutex<()> = Mutex::new(()); // there is one interner
@@ -41,7 +43,7 @@ pub fn read(names: &Builtins, case: &Case, terms: impl Into<Terms>) -> Reading {
         SECOND => result(names, case, || second_counted::Parser::new(text, tokens(), &compiler).parse()),
         _ => result(names, case, || counted::Parser::new(text, tokens(), &compiler).parse()),
     };
-    let deepest = compiler.deepest();
+    let (deepest, chain) = (compiler.deepest(), compiler.chain());
 
     let outcome = match counted {
         Parsed::Error(error) if error.message == NESTED => refused(case, 11, NO_KIND, &error),
@@ -56,7 +58,31 @@ pub fn read(names: &Builtins, case: &Case, terms: impl Into<Terms>) -> Reading {
             agreed(case, original, counted)
         }
     };
-    Reading { outcome, deepest }
+    Reading { outcome, deepest, chain }
+}
+
+/// What the original says of a list.
+pub enum Said {
+    Whole,
+    Error(Error),
+    /// It comes to a `for`, and panics.
+    For,
+}
+
+/// Asks the original, which has no limit, and whose interner goes on from case to case.
+pub fn ask(edition: u32, text: &str, tokens: Vec<(token::Token, token::Span)>) -> Said {
+    let _turn = TURN.lock().unwrap_or_else(PoisonError::into_inner);
+    let compiler = Compiler::default();
+    let parsed = silently(|| match edition {
+        SECOND => second_parser::Parser::new(text, tokens, &compiler).parse().map(drop),
+        _ => parser::Parser::new(text, tokens, &compiler).parse().map(drop),
+    });
+    match parsed {
+        Ok(Ok(())) => Said::Whole,
+        Ok(Err(error)) => Said::Error(error),
+        Err(message) if message == UNFINISHED => Said::For,
+        Err(message) => panic!("the parser panicked: {message}"),
+    }
 }
 
 /// The rows that the reading of a case asks for, in order, up to its end or its refusal: what `read` gives. Those of the
@@ -91,6 +117,9 @@ pub fn record(names: &Builtins, case: &Case, terms: impl Into<Terms>, outcome: &
     asked
 }
 
+/// The message of `todo!()`.
+const UNFINISHED: &str = "not yet implemented";
+
 enum Parsed {
     Rows(Rows),
     Error(Error),
@@ -116,7 +145,7 @@ fn result<T: Tree>(names: &Builtins, case: &Case, parse: impl FnOnce() -> Result
     match silently(parse) {
         Ok(Ok(tree)) => Parsed::Rows(tree.rows(names, case)),
         Ok(Err(error)) => Parsed::Error(error),
-        Err(message) if message == "not yet implemented" => Parsed::Panic,
+        Err(message) if message == UNFINISHED => Parsed::Panic,
         Err(message) => panic!("the parser panicked: {message}"),
     }
 }
@@ -140,7 +169,7 @@ fn agreed(case: &Case, original: Parsed, counted: Parsed) -> Outcome {
 }
 
 /// Code and expected kind of a message of parser.rs.
-fn meaning(message: &str) -> (u32, u32) {
+pub fn meaning(message: &str) -> (u32, u32) {
     if message.starts_with("expected a <operand> and found: ") {
         return (9, NO_KIND);
     }

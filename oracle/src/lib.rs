@@ -4,6 +4,7 @@ pub mod beside;
 pub mod builtins;
 pub mod case;
 pub mod corners;
+pub mod could;
 pub mod coverage;
 pub mod door;
 pub mod drawn;
@@ -16,6 +17,7 @@ pub mod lexer;
 pub mod lines;
 pub mod list;
 pub mod numbers;
+pub mod questions;
 pub mod random;
 pub mod rooms;
 pub mod rows;
@@ -27,6 +29,7 @@ pub mod table;
 pub mod terms;
 pub mod texts;
 pub mod tight;
+pub mod told;
 
 pub use answer::{LIMIT, answer, answer_with};
 

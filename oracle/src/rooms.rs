@@ -9,9 +9,11 @@ use crate::{
     answer::answer,
     builtins::Builtins,
     case::{Case, Token, number},
+    could::Could,
     door, judge,
     rows::{NO_KIND, NODE_WIDTH, Outcome, Refusal},
     terms::{FIRST, Terms},
+    told::Question,
 };
 
 /// How many numbers the rooms have: of nodes, links, symbols and scratch.
@@ -228,14 +230,19 @@ fn lines(numbers: [u32; 8], rooms: [Vec<u32>; 4]) -> String {
     text
 }
 
-/// What `batch` must answer. It keeps what it knows of the last case, since the next is often the same in other rooms.
+/// What `batch` must answer. It keeps what it knows of the last case, since the next is often the same in other rooms, and which
+/// kinds could stand where (request L2).
 #[derive(Default)]
 pub struct Judge {
     last: Option<(Vec<u8>, Known)>,
+    could: Could,
 }
 
 impl Judge {
     pub fn answer(&mut self, frame: &[u8]) -> Vec<u8> {
+        if let Some(question) = Question::decode(frame) {
+            return question.answer(&mut self.could);
+        }
         let Some(lent) = Lent::decode(frame) else { return answer(frame) };
         self.known(&lent).map_or(BAD.into(), |known| known.answer(lent.rooms).into_bytes())
     }

@@ -3,9 +3,15 @@ use crate::{
     case::Case,
     kinds::name,
     rooms::{Lent, WIDTHS},
+    told::Question,
 };
 
 pub fn case(input: &[u8]) -> String {
+    if let Some(Question { terms, code, at, input }) = Question::decode(input) {
+        let asked =
+            format!("edition  {}\nlimit    {}\nasked    code {code} at {at}\n", terms.edition, terms.limit);
+        return case(&input) + &asked;
+    }
     if let Some(Lent { edition, names, limit, rooms, input }) = Lent::decode(input) {
         let rows: Vec<_> = rooms.iter().zip(WIDTHS).map(|(size, width)| (size / width).to_string()).collect();
         let rows = rows.join(" ");

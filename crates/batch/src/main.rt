@@ -1,7 +1,8 @@
 // Answers a stream of cases, each in a frame, by a stream of frames. A case is an input of the program `rows`, and its answer what that prints. Or a limit and the
 // sizes of rooms stand before such an input, after the mark 52 4D; the answer is then what a call in these rooms answers, and all numbers that it leaves in them. Or
 // built-in names stand there, too, after the mark 52 4E; the call is then beside these names. Or after the mark 52 4F stands an edition, and then what stands after 52 4E;
-// the call is then of that edition, and otherwise of edition 1.
+// the call is then of that edition, and otherwise of edition 1. Or after the mark 52 50 stand an edition, a limit, a code and a token, and an input; the answer is then
+// what could have stood at that token, and what was open there.
 use frames::Frame;
 use frames::read;
 use frames::write;
@@ -225,7 +226,93 @@ fn beside(case: &[u8], edition: u32, out: &mut [u8; 262144]) -> usize
     lent(case, at, &case[TEXT..from], &rows[..n], edition, out)
 }
 
-// The first byte of a case that is no input of `rows`; the second tells whether it has names, and an edition.
+// The halves of a number.
+fn low(x: u64) -> u32 {
+    (x % 4294967296) as u32
+}
+
+fn high(x: u64) -> u32 {
+    (x / 4294967296) as u32
+}
+
+// The entries of a chain, sort and token each: a line.
+fn chained(c: expected::Chain, out: &mut [u8; 262144], at: usize) -> usize
+    requires { ⌜ at ≤ 1000 ⌝ }
+    ensures { λ r. ⌜ r ≤ 262144 ⌝ }
+{
+    let mut pairs: [u32; 128] = [0; 128];
+    let mut i = 0;
+    while i < 64 {
+        let entry = c.entries[i];
+        pairs[2 * i] = entry.sort;
+        pairs[2 * i + 1] = entry.at;
+        i += 1;
+    }
+    line(&pairs, out, at)
+}
+
+// What could have stood at a token, and what was open there: a line with the halves of the set, how many kinds, the lowest and how many constructs, and a line with the
+// chain.
+fn stood(a: expected::Told, out: &mut [u8; 262144]) -> usize
+    ensures { λ r. ⌜ r ≤ 262144 ⌝ }
+{
+    let c = a.chain;
+    let open = c.count as u64;
+    let values = [low(a.kinds), high(a.kinds), a.count, a.lowest, low(open)];
+    let b = line(&values, out, 0);
+    chained(c, out, b)
+}
+
+// The answer to an input of a text of this size and n tokens, of this edition and limit, about a code and a token.
+fn asked(
+    input: &[u8],
+    size: usize,
+    n: usize,
+    edition: u32,
+    limit: u32,
+    code: u32,
+    at: u32,
+    out: &mut [u8; 262144],
+) -> usize
+    requires { ⌜ Sizes (now input) size n ⌝ }
+    ensures { λ r. ⌜ r ≤ 262144 ⌝ }
+{
+    let from = 6 + size;
+    let used = 3 * n;
+    let mut tokens: [u32; 1536] = [0; 1536];
+    fill(input, from, n, &mut tokens);
+    let a = expected::expected(&tokens[..used], edition, limit, code, at);
+    stood(a, out)
+}
+
+// Where the edition, the limit, the code and the token of a case about a refused token stand (4 bytes each, little-endian), and its input.
+const OF_EDITION: usize = 2;
+
+const WITHIN: usize = 6;
+
+const CODE: usize = 10;
+
+const TOKEN: usize = 14;
+
+const REFUSED: usize = 18;
+
+// The answer to a case about a refused token.
+fn refused(case: &[u8], out: &mut [u8; 262144]) -> usize
+    requires { ⌜ 22 ≤ length (now case) ⌝ }
+    ensures { λ r. ⌜ r ≤ 262144 ⌝ }
+{
+    let form = scan(&case[REFUSED..]);
+    let Script::Sized(size, n) = form else {
+        return bad(out);
+    };
+    let edition = four(case, OF_EDITION);
+    let limit = four(case, WITHIN);
+    let code = four(case, CODE);
+    let at = four(case, TOKEN);
+    asked(&case[REFUSED..], size, n, edition, limit, code, at, out)
+}
+
+// The first byte of a case that is no input of `rows`; the second tells whether it has names, and an edition, or is about a refused token.
 const MARK: u8 = 0x52;
 
 const ROOMS: u8 = 0x4D;
@@ -233,6 +320,8 @@ const ROOMS: u8 = 0x4D;
 const NAMES: u8 = 0x4E;
 
 const EDITION: u8 = 0x4F;
+
+const KINDS: u8 = 0x50;
 
 // The answer to a case with this mark.
 fn marked(case: &[u8], out: &mut [u8; 262144]) -> usize
@@ -246,6 +335,9 @@ fn marked(case: &[u8], out: &mut [u8; 262144]) -> usize
     }
     if case[1] == NAMES {
         return beside(case, FIRST, out);
+    }
+    if case[1] == KINDS {
+        return refused(case, out);
     }
     if case[1] != EDITION {
         return bad(out);

@@ -10,7 +10,8 @@ use lib.Seq.{slice, slice-empty, slice-cons, drop-cons, drop-set-lt, getD-set-sa
 use borrow.Author.Tests.{lt-ltb, le-ltb}
 use Rattle.grammar.proofs.Stopping.{marks}
 use Rattle.grammar.proofs.Tests.{both, passes, within}
-use Rattle.expected.specs.Cells.{states, lengths, lists, state, cell, joined, list, opens-of, decoded, sound, listed, Sound, bare, more, Celled, Pushed}
+use Rattle.expected.specs.Cells.{states, state, cell, joined, list, opens-of, decoded, sound, listed, Sound, bare, more, Celled, Pushed}
+use Rattle.expected.specs.Tables.{lengths, lists}
 
 -- where a list ends
 abbrev pub end-of : ℕ → ℕ

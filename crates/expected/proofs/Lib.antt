@@ -1,4 +1,5 @@
 pub mod Numbering
+pub mod Lent
 pub mod Laws
 pub mod Passing
 pub mod Counting

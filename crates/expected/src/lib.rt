@@ -11,6 +11,7 @@ use crate::tables::NO_BLOCK;
 use crate::tables::NO_FOR;
 use crate::tables::NO_OPERAND;
 use crate::tables::NO_OPERAND_OPENED;
+use crate::tables::made;
 use token::editions;
 use token::kinds::EOF;
 use token::list::kind_at;
@@ -25,6 +26,7 @@ ghost use Rattle.grammar.proofs.Stopping.{opened, marks};
 ghost use Rattle.expected.specs.Cells.{decoded, Sound};
 ghost use Rattle.expected.specs.Steps.{Gathers};
 ghost use Rattle.expected.specs.Chains.{Chained, Extends, Inside};
+ghost use Rattle.expected.specs.Tables.{tables};
 ghost use Rattle.expected.specs.Left.{Asked-of, Asks, Asked, Reached, Left-at};
 ghost use Rattle.expected.specs.Tells.{lowest-of, code-of, opened-by, Filled, Nothing, Tells};
 
@@ -99,10 +101,15 @@ fn open(room: &[u32], top: usize, most: usize) -> Chain
         i = i - 1;
         let v = room[i];
         if MARK <= v {
-            if most <= c.count {
+            let n = c.count;
+            if most <= n {
                 return c;
             }
-            c = with(c, v % 4, v / 4 - 16);
+            c.entries[n] = Opening {
+                sort: v % 4,
+                at: v / 4 - 16,
+            };
+            c.count = n + 1;
         }
     }
     c
@@ -130,7 +137,8 @@ fn chosen(b: bool, bit: u64) -> u64
 }
 
 // The kinds that a stack whose top is here does not bar, as one set.
-fn kinds(room: &[u32], top: usize, edition: u32) -> u64
+fn kinds(table: &[u8], room: &[u32], top: usize, edition: u32) -> u64
+    requires { ⌜ now table ≡ tables ⌝ }
     requires { ⌜ top ≤ length (now room) ⌝ }
     requires { ⌜ Sound (drop top (now room)) ⌝ }
     ensures { λ r. ⌜ Gathers (the-edition edition) (decoded (drop top (now (room .entry)))) 45 r ⌝ }
@@ -139,7 +147,7 @@ fn kinds(room: &[u32], top: usize, edition: u32) -> u64
     let mut bit = 1u64;
     let mut kind = 0u32;
     while kind < KINDS {
-        set = set + chosen(admits(room, top, edition, kind), bit);
+        set = set + chosen(admits(table, room, top, edition, kind), bit);
         bit = bit * 2;
         kind = kind + 1;
     }
@@ -166,7 +174,8 @@ fn size(x: u32) -> usize
 }
 
 // What is left to read after the tokens before a place.
-fn left(tokens: &[u32], edition: u32, limit: u32, at: usize, room: &mut [u32]) -> Rest
+fn left(table: &[u8], tokens: &[u32], edition: u32, limit: u32, at: usize, room: &mut [u32]) -> Rest
+    requires { ⌜ now table ≡ tables ⌝ }
     requires { ⌜ Asked (now tokens) limit at ⌝ }
     requires { ⌜ length (now room) ≡ 1024 ⌝ }
     ensures { λ r. ⌜ Left-at edition (now (tokens .entry)) limit at (now (room .exit)) r ⌝ }
@@ -180,7 +189,7 @@ fn left(tokens: &[u32], edition: u32, limit: u32, at: usize, room: &mut [u32]) -
         if EOF < kind {
             return Rest::Gone;
         }
-        let step = advance(room, top, depth, edition, kind, narrow(i));
+        let step = advance(table, room, top, depth, edition, kind, narrow(i));
         let Step::Took(t, d) = step else {
             return Rest::Gone;
         };
@@ -282,6 +291,7 @@ fn opened_by(number: usize) -> usize
 // What is told at a token up to which all tokens are taken within the limit: the cells from the top on are left, with so many constructs open. The kind there is taken,
 // and only an opening that passes the limit is a refusal; or nothing is left; or it is barred, by the code that the table says.
 fn tell(
+    table: &[u8],
     tokens: &[u32],
     edition: u32,
     limit: u32,
@@ -291,6 +301,7 @@ fn tell(
     top: usize,
     depth: usize,
 ) -> Told
+    requires { ⌜ now table ≡ tables ⌝ }
     requires { ⌜ Asked-of (length (now tokens)) edition limit code at ⌝ }
     requires { ⌜ Reached (the-edition edition) (now tokens) limit at (now room) top depth ⌝ }
     ensures { λ r. ⌜ Tells (now (tokens .entry)) edition limit code at r ⌝ }
@@ -300,7 +311,7 @@ fn tell(
         return nothing();
     }
     let most = size(limit);
-    let step = advance(room, top, depth, edition, kind, at);
+    let step = advance(table, room, top, depth, edition, kind, at);
     match step {
         Step::Took(t, d) => {
             if code != DEEP {
@@ -323,7 +334,7 @@ fn tell(
                 return nothing();
             }
             let outer = open(room, t + 1, most);
-            fill(kinds(room, top, edition), inside(outer, number, at))
+            fill(kinds(table, room, top, edition), inside(outer, number, at))
         }
     }
 }
@@ -339,10 +350,21 @@ pub fn expected(tokens: &[u32], edition: u32, limit: u32, code: u32, at: u32) ->
     if !asks(tokens.len(), edition, limit, code, place) {
         return nothing();
     }
+    let table = made();
     let mut room = [0u32; ROOM];
-    let left = left(tokens, edition, limit, place, &mut room);
+    let left = left(&table, tokens, edition, limit, place, &mut room);
     let Rest::At(top, depth) = left else {
         return nothing();
     };
-    tell(tokens, edition, limit, code, at, &mut room, top, depth)
+    tell(
+        &table,
+        tokens,
+        edition,
+        limit,
+        code,
+        at,
+        &mut room,
+        top,
+        depth,
+    )
 }

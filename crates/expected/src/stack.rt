@@ -12,6 +12,7 @@ ghost use Rattle.grammar.specs.Edition.{edition as the-edition};
 ghost use Rattle.grammar.proofs.Stopping.{marks};
 ghost use Rattle.expected.specs.Cells.{decoded, Sound};
 ghost use Rattle.expected.specs.Steps.{Stepped, Admits};
+ghost use Rattle.expected.specs.Tables.{tables};
 
 // A kind is taken: the stack's top is then here, and so many constructs are open. Or nothing was left to read. Or the cell here bars it, with so many open below it, by
 // this number of the table's.
@@ -28,7 +29,16 @@ fn size(x: u32) -> usize
 }
 
 // What comes of a kind before a stack whose top is here, with so many constructs open.
-pub(crate) fn advance(room: &mut [u32], top: usize, depth: usize, edition: u32, kind: u32, at: u32) -> Step
+pub(crate) fn advance(
+    table: &[u8],
+    room: &mut [u32],
+    top: usize,
+    depth: usize,
+    edition: u32,
+    kind: u32,
+    at: u32,
+) -> Step
+    requires { ⌜ now table ≡ tables ⌝ }
     requires { ⌜ kind < 45 ⌝ }
     requires { ⌜ at < 4096 ⌝ }
     requires { ⌜ 8 ≤ top ⌝ }
@@ -43,13 +53,13 @@ pub(crate) fn advance(room: &mut [u32], top: usize, depth: usize, edition: u32, 
     while t < room.len() {
         let v = room[t];
         if v < MARK {
-            let a = action(edition, size(v), kind);
+            let a = action(table, edition, size(v), kind);
             if a < PASSES {
                 return Step::Barred(t, d, a);
             }
             if PASSES < a {
                 let list = a - TAKES;
-                let r = push(room, t + 1, list, at);
+                let r = push(table, room, t + 1, list, at);
                 return Step::Took(r, d + opens(list));
             }
             t = t + 1;
@@ -62,7 +72,8 @@ pub(crate) fn advance(room: &mut [u32], top: usize, depth: usize, edition: u32, 
 }
 
 // Whether a kind is not barred before a stack whose top is here.
-pub(crate) fn admits(room: &[u32], top: usize, edition: u32, kind: u32) -> bool
+pub(crate) fn admits(table: &[u8], room: &[u32], top: usize, edition: u32, kind: u32) -> bool
+    requires { ⌜ now table ≡ tables ⌝ }
     requires { ⌜ kind < 45 ⌝ }
     requires { ⌜ top ≤ length (now room) ⌝ }
     requires { ⌜ Sound (drop top (now room)) ⌝ }
@@ -72,7 +83,7 @@ pub(crate) fn admits(room: &[u32], top: usize, edition: u32, kind: u32) -> bool
     while t < room.len() {
         let v = room[t];
         if v < MARK {
-            let a = action(edition, size(v), kind);
+            let a = action(table, edition, size(v), kind);
             if a < PASSES {
                 return false;
             }

@@ -1,6 +1,6 @@
-//! Stands in for compiler.rs: the interner behind its lock, and the count of openings for the derived parser.
+//! Stands in for compiler.rs: the interner behind its lock, and the openings for the derived parser.
 use std::{
-    cell::Cell,
+    cell::{Cell, RefCell},
     sync::{LazyLock, Mutex},
 };
 
@@ -22,11 +22,27 @@ pub fn fresh_interner(names: &[&str]) {
 pub const NESTED: &str = "nested too deep";
 pub const FOR: &str = "for is not supported";
 
+/// What the depth counts, in document 02's order (L2).
+#[derive(Clone, Copy, PartialEq, Eq, Debug)]
+pub enum Sort {
+    Expression,
+    Block,
+    If,
+    Sign,
+}
+
+/// An open construct: its sort, and its first token.
+#[derive(Clone, Copy, PartialEq, Eq, Debug)]
+pub struct Opening {
+    pub sort: Sort,
+    pub at: usize,
+}
+
 #[derive(Default)]
 pub struct Compiler {
     pub current_file: Symbol,
     limit: u32,
-    open: Cell<u32>,
+    open: RefCell<Vec<Opening>>,
     deepest: Cell<u32>,
 }
 
@@ -36,18 +52,24 @@ impl Compiler {
     }
 
     /// Takes an opening, if the limit allows one more.
-    pub fn open(&self) -> bool {
-        let open = self.open.get() + 1;
-        if open > self.limit {
+    pub fn open(&self, sort: Sort, at: usize) -> bool {
+        let mut open = self.open.borrow_mut();
+        if open.len() as u32 == self.limit {
             return false;
         }
-        self.open.set(open);
-        self.deepest.set(self.deepest.get().max(open));
+        open.push(Opening { sort, at });
+        self.deepest.set(self.deepest.get().max(open.len() as u32));
         true
     }
 
+    /// Takes off the innermost opening: it is whole.
     pub fn close(&self) {
-        self.open.set(self.open.get() - 1);
+        self.open.borrow_mut().pop().expect("an opening");
+    }
+
+    /// The openings that are not whole, outermost first.
+    pub fn chain(&self) -> Vec<Opening> {
+        self.open.borrow().clone()
     }
 
     /// The most openings that were taken at once.

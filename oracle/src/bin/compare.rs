@@ -1,5 +1,5 @@
-//! compare N [--tight | --names] [--edition E] [--batch] [--seed S] COMMAND..: runs N cases through the original and through
-//! COMMAND.
+//! compare N [--tight | --names | --expected] [--edition E] [--batch] [--seed S] COMMAND..: runs N cases through the original and
+//! through COMMAND.
 use std::{
     process::ExitCode,
     time::{Duration, Instant},
@@ -9,26 +9,33 @@ use oracle::{
     beside,
     drawn::Cases,
     editions::{self, Sort},
+    questions,
     rooms::{Judge, Lent},
     show,
     shrink::{shrunk, shrunk_names},
     subject::{Answer, PATIENCE, Subject},
     tight,
+    told::Question,
 };
 
-const USAGE: &str = "compare N [--seed S] COMMAND.. | compare N [--tight | --names] [--edition E] [--seed S] --batch COMMAND..";
+const USAGE: &str = "compare N [--seed S] COMMAND.. | compare N [--tight | --names | --expected] [--edition E] [--seed S] --batch COMMAND..";
 
-/// Which cases are run: inputs of `rows`, in rooms of chosen sizes, or beside built-in names; and with an edition or without.
+/// Which cases are run: inputs of `rows`, in rooms of chosen sizes, or beside built-in names, or asked about a refused token; and with
+/// an edition or without.
 struct Options {
     count: u64,
     seed: u64,
     sort: Sort,
+    asks: bool,
     edition: Option<u32>,
     subject: Subject,
 }
 
 impl Options {
     fn cases(&self) -> Box<dyn Iterator<Item = Vec<u8>> + Send> {
+        if self.asks {
+            return Box::new(questions::frames(self.edition, self.seed));
+        }
         if let Some(edition) = self.edition {
             return Box::new(editions::frames(edition, self.seed, self.sort));
         }
@@ -54,7 +61,7 @@ fn main() -> ExitCode {
 fn options(words: Vec<String>) -> Option<Options> {
     let mut words = words.into_iter().peekable();
     let count = words.next()?.parse().ok()?;
-    let (mut seed, mut batch, mut sort, mut edition) = (1, false, Sort::Plain, None);
+    let (mut seed, mut batch, mut sort, mut asks, mut edition) = (1, false, Sort::Plain, false, None);
     loop {
         match words.peek()?.as_str() {
             "--seed" => seed = words.nth(1)?.parse().ok()?,
@@ -66,6 +73,7 @@ fn options(words: Vec<String>) -> Option<Options> {
                     "--batch" => batch = true,
                     "--tight" => sort = Sort::Tight,
                     "--names" => sort = Sort::Named,
+                    "--expected" => asks = true,
                     _ => break,
                 }
                 words.next();
@@ -73,8 +81,9 @@ fn options(words: Vec<String>) -> Option<Options> {
         }
     }
     let subject = Subject { words: words.collect(), batch };
-    let is_plain = sort == Sort::Plain && edition.is_none();
-    (batch || is_plain).then_some(Options { count, seed, sort, edition, subject })
+    let is_plain = sort == Sort::Plain && edition.is_none() && !asks;
+    let is_one = sort == Sort::Plain || !asks;
+    (is_one && (batch || is_plain)).then_some(Options { count, seed, sort, asks, edition, subject })
 }
 
 /// The differences met so far.
@@ -154,6 +163,8 @@ fn show_smallest(case: Vec<u8>, subject: &Subject) {
         case // to run it again and again would take too long
     } else if let Some(lent) = Lent::decode(&case) {
         shrunk_in_rooms(case, lent, subject, &mut judge)
+    } else if let Some(question) = Question::decode(&case) {
+        shrunk_question(case, question, subject, &mut judge)
     } else {
         shrunk(case, |case| differs(case, subject, &mut judge))
     };
@@ -169,23 +180,28 @@ fn differs(case: &[u8], subject: &Subject, judge: &mut Judge) -> bool {
     subject.one(case).as_ref() != Ok(&judge.answer(case))
 }
 
+/// The first of these frames that differs.
+fn differing(frames: Vec<Vec<u8>>, subject: &Subject, judge: &mut Judge) -> Option<Vec<u8>> {
+    let (mut compared, mut found) = (0, None);
+    let failure = subject.stream(frames.clone().into_iter(), |given| {
+        let Some(frame) = frames.get(compared) else { return false };
+        compared += 1;
+        if given.as_ref() != Ok(&judge.answer(frame)) {
+            found = Some(frame.clone());
+        }
+        found.is_none()
+    });
+    if failure.is_err() {
+        found = found.or(frames.get(compared).cloned());
+    }
+    found
+}
+
 /// A smaller input, or fewer names, make for other rooms, so for each all rooms are tried that may tell.
 fn shrunk_in_rooms(case: Vec<u8>, lent: Lent, subject: &Subject, judge: &mut Judge) -> Vec<u8> {
     let mut smallest = case;
     let mut differs = |lent: &Lent| {
-        let frames = tight::tried(lent);
-        let (mut compared, mut found) = (0, None);
-        let failure = subject.stream(frames.clone().into_iter(), |given| {
-            let Some(frame) = frames.get(compared) else { return false };
-            compared += 1;
-            if given.as_ref() != Ok(&judge.answer(frame)) {
-                found = Some(frame.clone());
-            }
-            found.is_none()
-        });
-        if failure.is_err() {
-            found = found.or(frames.get(compared).cloned());
-        }
+        let found = differing(tight::tried(lent), subject, judge);
         smallest = found.clone().unwrap_or(std::mem::take(&mut smallest));
         found.is_some()
     };
@@ -194,5 +210,17 @@ fn shrunk_in_rooms(case: Vec<u8>, lent: Lent, subject: &Subject, judge: &mut Jud
     if let Some(names) = lent.names.clone() {
         shrunk_names(names, |names| differs(&Lent { names: Some(names.clone()), ..with_input(&input) }));
     }
+    smallest
+}
+
+/// A smaller input is refused elsewhere, so for each all codes and tokens are tried.
+fn shrunk_question(case: Vec<u8>, question: Question, subject: &Subject, judge: &mut Judge) -> Vec<u8> {
+    let mut smallest = case;
+    shrunk(question.input.clone(), |input| {
+        let found =
+            differing(questions::tried(&Question { input: input.to_vec(), ..question }), subject, judge);
+        smallest = found.clone().unwrap_or(std::mem::take(&mut smallest));
+        found.is_some()
+    });
     smallest
 }

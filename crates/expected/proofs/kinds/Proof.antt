@@ -12,10 +12,10 @@ use Rattle.expected.proofs.kinds.Statement.{statement}
 use Rattle.expected.proofs.kinds.Tie as tie
 
 abbrev Inv-loop : tie.InvT-loop
-Inv-loop room top edition set₀ bit₀ kind₀ set bit kind = Gathering (the-edition edition) (decoded (drop top room)) kind set bit
+Inv-loop table room top edition set₀ bit₀ kind₀ set bit kind = Gathering (the-edition edition) (decoded (drop top room)) kind set bit
 
 abbrev μ-loop : tie.MeasureT-loop
-μ-loop room top edition set₀ bit₀ kind₀ set bit kind = 45 - kind
+μ-loop table room top edition set₀ bit₀ kind₀ set bit kind = 45 - kind
 
 loop-holds : tie.Need-loop-holds Inv-loop μ-loop
 loop-holds c = none-yet
@@ -30,7 +30,7 @@ loop-again : tie.Need-loop-again Inv-loop μ-loop
 loop-again c = gathering (c .before .before .before .loop .inv) (c .before .admits .result) (c .chosen .ensures) (search needs) (c .before .admits .ensures)
 
 returns : tie.Need-returns Inv-loop μ-loop
-returns c = let i = c .before .loop .inv in let a = c .before .before .before .args in let e : c .before .loop .kind ≡ 45 = omega (arith, i .upto) in subst (λ n. Gathers (the-edition (a .edition)) (decoded (drop (a .top) (a .room .now))) n (c .before .loop .set)) e (i .so-far)
+returns c = let i = c .before .loop .inv in let a = c .before .before .before .before .args in let e : c .before .loop .kind ≡ 45 = omega (arith, i .upto) in subst (λ n. Gathers (the-edition (a .edition)) (decoded (drop (a .top) (a .room .now))) n (c .before .loop .set)) e (i .so-far)
 
 pub kinds-spec : {M : Type 1} → statement M
 kinds-spec = tie.close (tie.spec Inv-loop μ-loop loop-holds (λ c κs. search needs) (λ c κs. search needs) add-set mul-bit (λ c. search needs) (λ c. search needs) loop-again returns)

@@ -21,7 +21,7 @@ nothing-requires c κs = search needs
 
 returns : tie.Need-returns
 returns c =
-    let here = c .before .before .kind-at .ensures ∙ ap (kind (c .before .before .before .before .before .before .args .tokens .now)) (c .before .before .before .size .ensures) in
+    let here = c .before .before .kind-at .ensures ∙ ap (kind (c .before .before .before .before .before .before .before .args .tokens .now)) (c .before .before .before .size .ensures) in
     nothing-told (λ l u m. unknown-kind (omega (arith, here, c .before .if1 .taken)) m) (c .nothing .ensures)
 
 size-requires-2 : tie.Need-size-requires-2
@@ -29,12 +29,12 @@ size-requires-2 c κs = search needs
 
 advance-requires : tie.Need-advance-requires
 advance-requires c κs =
-    let a = c .before .before .before .before .before .before .before .args in
-    let asked = c .before .before .before .before .before .before .before .pre .0 in
-    let reached = c .before .before .before .before .before .before .before .pre .1 in
+    let a = c .before .before .before .before .before .before .before .before .args in
+    let asked = c .before .before .before .before .before .before .before .before .pre .1 .0 in
+    let reached = c .before .before .before .before .before .before .before .before .pre .1 .1 in
     let here = c .before .before .before .kind-at .ensures ∙ ap (kind (a .tokens .now)) (c .before .before .before .before .size .ensures) in
     let known : kind (a .tokens .now) (a .at) ≤ Eof = omega (arith, here, c .before .before .if1 .left) in
-    (omega (arith, c .before .before .if1 .left), (omega (arith, asked .inside, asked .whole .most), (reached .spare, (reached .fits, (reached .sounds, (reached .deep, omega (arith, reached .deep, reached .within .marked, asked .least-depth)))))))
+    (c .before .before .before .before .before .before .before .before .pre .0, (omega (arith, c .before .before .if1 .left), (omega (arith, asked .inside, asked .whole .most), (reached .spare, (reached .fits, (reached .sounds, (reached .deep, omega (arith, reached .deep, reached .within .marked, asked .least-depth))))))))
 
 enum-known-step : tie.Need-enum-known-step
 enum-known-step c = search needs
@@ -47,9 +47,9 @@ same-length c = search needs
 
 returns-2 : tie.Need-returns-2
 returns-2 c =
-    let a = c .before .before .before .before .before .before .before .before .before .before .before .before .before .before .before .args in
-    let asked = c .before .before .before .before .before .before .before .before .before .before .before .before .before .before .before .pre .0 in
-    let reached = c .before .before .before .before .before .before .before .before .before .before .before .before .before .before .before .pre .1 in
+    let a = c .before .before .before .before .before .before .before .before .before .before .before .before .before .before .before .before .args in
+    let asked = c .before .before .before .before .before .before .before .before .before .before .before .before .before .before .before .before .pre .1 .0 in
+    let reached = c .before .before .before .before .before .before .before .before .before .before .before .before .before .before .before .before .pre .1 .1 in
     let here = c .before .before .before .before .before .before .before .before .before .before .before .kind-at .ensures ∙ ap (kind (a .tokens .now)) (c .before .before .before .before .before .before .before .before .before .before .before .before .size .ensures) in
     let known : kind (a .tokens .now) (a .at) ≤ Eof = omega (arith, here, c .before .before .before .before .before .before .before .before .before .before .if1 .left) in
     let stepped = rw here at (c .before .before .before .before .before .before .before .advance .ensures) in
@@ -64,9 +64,9 @@ same-length-2 c = search needs
 
 returns-3 : tie.Need-returns-3
 returns-3 c =
-    let a = c .before .before .before .before .before .before .before .before .before .before .before .before .before .before .before .before .args in
-    let asked = c .before .before .before .before .before .before .before .before .before .before .before .before .before .before .before .before .pre .0 in
-    let reached = c .before .before .before .before .before .before .before .before .before .before .before .before .before .before .before .before .pre .1 in
+    let a = c .before .before .before .before .before .before .before .before .before .before .before .before .before .before .before .before .before .args in
+    let asked = c .before .before .before .before .before .before .before .before .before .before .before .before .before .before .before .before .before .pre .1 .0 in
+    let reached = c .before .before .before .before .before .before .before .before .before .before .before .before .before .before .before .before .before .pre .1 .1 in
     let here = c .before .before .before .before .before .before .before .before .before .before .before .before .kind-at .ensures ∙ ap (kind (a .tokens .now)) (c .before .before .before .before .before .before .before .before .before .before .before .before .before .size .ensures) in
     let known : kind (a .tokens .now) (a .at) ≤ Eof = omega (arith, here, c .before .before .before .before .before .before .before .before .before .before .before .if1 .left) in
     let stepped = rw here at (c .before .before .before .before .before .before .before .before .advance .ensures) in
@@ -75,9 +75,9 @@ returns-3 c =
 
 open-requires : tie.Need-open-requires
 open-requires c κs =
-    let a = c .before .before .before .before .before .before .before .before .before .before .before .before .before .before .before .before .args in
-    let asked = c .before .before .before .before .before .before .before .before .before .before .before .before .before .before .before .before .pre .0 in
-    let reached = c .before .before .before .before .before .before .before .before .before .before .before .before .before .before .before .before .pre .1 in
+    let a = c .before .before .before .before .before .before .before .before .before .before .before .before .before .before .before .before .before .args in
+    let asked = c .before .before .before .before .before .before .before .before .before .before .before .before .before .before .before .before .before .pre .1 .0 in
+    let reached = c .before .before .before .before .before .before .before .before .before .before .before .before .before .before .before .before .before .pre .1 .1 in
     let here = c .before .before .before .before .before .before .before .before .before .before .before .before .kind-at .ensures ∙ ap (kind (a .tokens .now)) (c .before .before .before .before .before .before .before .before .before .before .before .before .before .size .ensures) in
     let known : kind (a .tokens .now) (a .at) ≤ Eof = omega (arith, here, c .before .before .before .before .before .before .before .before .before .before .before .if1 .left) in
     let stepped = rw here at (c .before .before .before .before .before .before .before .before .advance .ensures) in
@@ -98,9 +98,9 @@ enum-known-step-2 c = search needs
 
 opened-by-requires : tie.Need-opened-by-requires
 opened-by-requires c κs =
-    let a = c .before .before .before .before .before .before .before .before .before .before .before .before .before .args in
-    let asked = c .before .before .before .before .before .before .before .before .before .before .before .before .before .pre .0 in
-    let reached = c .before .before .before .before .before .before .before .before .before .before .before .before .before .pre .1 in
+    let a = c .before .before .before .before .before .before .before .before .before .before .before .before .before .before .args in
+    let asked = c .before .before .before .before .before .before .before .before .before .before .before .before .before .before .pre .1 .0 in
+    let reached = c .before .before .before .before .before .before .before .before .before .before .before .before .before .before .pre .1 .1 in
     let here = c .before .before .before .before .before .before .before .before .before .kind-at .ensures ∙ ap (kind (a .tokens .now)) (c .before .before .before .before .before .before .before .before .before .before .size .ensures) in
     let known : kind (a .tokens .now) (a .at) ≤ Eof = omega (arith, here, c .before .before .before .before .before .before .before .before .if1 .left) in
     let stepped = rw here at (c .before .before .before .before .before .advance .ensures) in
@@ -109,9 +109,9 @@ opened-by-requires c κs =
 
 add-if4 : tie.Need-add-if4
 add-if4 c =
-    let a = c .before .before .before .before .before .before .before .before .before .before .before .before .before .before .args in
-    let asked = c .before .before .before .before .before .before .before .before .before .before .before .before .before .before .pre .0 in
-    let reached = c .before .before .before .before .before .before .before .before .before .before .before .before .before .before .pre .1 in
+    let a = c .before .before .before .before .before .before .before .before .before .before .before .before .before .before .before .args in
+    let asked = c .before .before .before .before .before .before .before .before .before .before .before .before .before .before .before .pre .1 .0 in
+    let reached = c .before .before .before .before .before .before .before .before .before .before .before .before .before .before .before .pre .1 .1 in
     let here = c .before .before .before .before .before .before .before .before .before .before .kind-at .ensures ∙ ap (kind (a .tokens .now)) (c .before .before .before .before .before .before .before .before .before .before .before .size .ensures) in
     let known : kind (a .tokens .now) (a .at) ≤ Eof = omega (arith, here, c .before .before .before .before .before .before .before .before .before .if1 .left) in
     let stepped = rw here at (c .before .before .before .before .before .before .advance .ensures) in
@@ -126,9 +126,9 @@ same-length-3 c = search needs
 
 returns-4 : tie.Need-returns-4
 returns-4 c =
-    let a = c .before .before .before .before .before .before .before .before .before .before .before .before .before .before .before .before .before .args in
-    let asked = c .before .before .before .before .before .before .before .before .before .before .before .before .before .before .before .before .before .pre .0 in
-    let reached = c .before .before .before .before .before .before .before .before .before .before .before .before .before .before .before .before .before .pre .1 in
+    let a = c .before .before .before .before .before .before .before .before .before .before .before .before .before .before .before .before .before .before .args in
+    let asked = c .before .before .before .before .before .before .before .before .before .before .before .before .before .before .before .before .before .before .pre .1 .0 in
+    let reached = c .before .before .before .before .before .before .before .before .before .before .before .before .before .before .before .before .before .before .pre .1 .1 in
     let here = c .before .before .before .before .before .before .before .before .before .before .before .before .before .kind-at .ensures ∙ ap (kind (a .tokens .now)) (c .before .before .before .before .before .before .before .before .before .before .before .before .before .before .size .ensures) in
     let known : kind (a .tokens .now) (a .at) ≤ Eof = omega (arith, here, c .before .before .before .before .before .before .before .before .before .before .before .before .if1 .left) in
     let stepped = rw here at (c .before .before .before .before .before .before .before .before .before .advance .ensures) in
@@ -137,9 +137,9 @@ returns-4 c =
 
 add-open : tie.Need-add-open
 add-open c =
-    let a = c .before .before .before .before .before .before .before .before .before .before .before .before .before .before .before .before .before .args in
-    let asked = c .before .before .before .before .before .before .before .before .before .before .before .before .before .before .before .before .before .pre .0 in
-    let reached = c .before .before .before .before .before .before .before .before .before .before .before .before .before .before .before .before .before .pre .1 in
+    let a = c .before .before .before .before .before .before .before .before .before .before .before .before .before .before .before .before .before .before .args in
+    let asked = c .before .before .before .before .before .before .before .before .before .before .before .before .before .before .before .before .before .before .pre .1 .0 in
+    let reached = c .before .before .before .before .before .before .before .before .before .before .before .before .before .before .before .before .before .before .pre .1 .1 in
     let here = c .before .before .before .before .before .before .before .before .before .before .before .before .before .kind-at .ensures ∙ ap (kind (a .tokens .now)) (c .before .before .before .before .before .before .before .before .before .before .before .before .before .before .size .ensures) in
     let known : kind (a .tokens .now) (a .at) ≤ Eof = omega (arith, here, c .before .before .before .before .before .before .before .before .before .before .before .before .if1 .left) in
     let stepped = rw here at (c .before .before .before .before .before .before .before .before .before .advance .ensures) in
@@ -148,9 +148,9 @@ add-open c =
 
 open-requires-2 : tie.Need-open-requires-2
 open-requires-2 c κs =
-    let a = c .before .before .before .before .before .before .before .before .before .before .before .before .before .before .before .before .before .args in
-    let asked = c .before .before .before .before .before .before .before .before .before .before .before .before .before .before .before .before .before .pre .0 in
-    let reached = c .before .before .before .before .before .before .before .before .before .before .before .before .before .before .before .before .before .pre .1 in
+    let a = c .before .before .before .before .before .before .before .before .before .before .before .before .before .before .before .before .before .before .args in
+    let asked = c .before .before .before .before .before .before .before .before .before .before .before .before .before .before .before .before .before .before .pre .1 .0 in
+    let reached = c .before .before .before .before .before .before .before .before .before .before .before .before .before .before .before .before .before .before .pre .1 .1 in
     let here = c .before .before .before .before .before .before .before .before .before .before .before .before .before .kind-at .ensures ∙ ap (kind (a .tokens .now)) (c .before .before .before .before .before .before .before .before .before .before .before .before .before .before .size .ensures) in
     let known : kind (a .tokens .now) (a .at) ≤ Eof = omega (arith, here, c .before .before .before .before .before .before .before .before .before .before .before .before .if1 .left) in
     let stepped = rw here at (c .before .before .before .before .before .before .before .before .before .advance .ensures) in
@@ -165,9 +165,9 @@ same-length-4 c = search needs
 
 returns-5 : tie.Need-returns-5
 returns-5 c =
-    let a = c .before .before .before .before .before .before .before .before .before .before .before .before .before .before .before .before .before .before .before .args in
-    let asked = c .before .before .before .before .before .before .before .before .before .before .before .before .before .before .before .before .before .before .before .pre .0 in
-    let reached = c .before .before .before .before .before .before .before .before .before .before .before .before .before .before .before .before .before .before .before .pre .1 in
+    let a = c .before .before .before .before .before .before .before .before .before .before .before .before .before .before .before .before .before .before .before .before .args in
+    let asked = c .before .before .before .before .before .before .before .before .before .before .before .before .before .before .before .before .before .before .before .before .pre .1 .0 in
+    let reached = c .before .before .before .before .before .before .before .before .before .before .before .before .before .before .before .before .before .before .before .before .pre .1 .1 in
     let here = c .before .before .before .before .before .before .before .before .before .before .before .before .before .before .before .kind-at .ensures ∙ ap (kind (a .tokens .now)) (c .before .before .before .before .before .before .before .before .before .before .before .before .before .before .before .before .size .ensures) in
     let known : kind (a .tokens .now) (a .at) ≤ Eof = omega (arith, here, c .before .before .before .before .before .before .before .before .before .before .before .before .before .before .if1 .left) in
     let stepped = rw here at (c .before .before .before .before .before .before .before .before .before .before .before .advance .ensures) in
@@ -176,9 +176,9 @@ returns-5 c =
 
 code-of-requires : tie.Need-code-of-requires
 code-of-requires c κs =
-    let a = c .before .before .before .before .before .before .before .before .before .before .before .before .before .before .before .args in
-    let asked = c .before .before .before .before .before .before .before .before .before .before .before .before .before .before .before .pre .0 in
-    let reached = c .before .before .before .before .before .before .before .before .before .before .before .before .before .before .before .pre .1 in
+    let a = c .before .before .before .before .before .before .before .before .before .before .before .before .before .before .before .before .args in
+    let asked = c .before .before .before .before .before .before .before .before .before .before .before .before .before .before .before .before .pre .1 .0 in
+    let reached = c .before .before .before .before .before .before .before .before .before .before .before .before .before .before .before .before .pre .1 .1 in
     let here = c .before .before .before .before .before .before .before .before .before .before .before .kind-at .ensures ∙ ap (kind (a .tokens .now)) (c .before .before .before .before .before .before .before .before .before .before .before .before .size .ensures) in
     let known : kind (a .tokens .now) (a .at) ≤ Eof = omega (arith, here, c .before .before .before .before .before .before .before .before .before .before .if1 .left) in
     let stepped = rw here at (c .before .before .before .before .before .before .before .advance .ensures) in
@@ -193,9 +193,9 @@ same-length-5 c = search needs
 
 returns-6 : tie.Need-returns-6
 returns-6 c =
-    let a = c .before .before .before .before .before .before .before .before .before .before .before .before .before .before .before .before .before .before .args in
-    let asked = c .before .before .before .before .before .before .before .before .before .before .before .before .before .before .before .before .before .before .pre .0 in
-    let reached = c .before .before .before .before .before .before .before .before .before .before .before .before .before .before .before .before .before .before .pre .1 in
+    let a = c .before .before .before .before .before .before .before .before .before .before .before .before .before .before .before .before .before .before .before .args in
+    let asked = c .before .before .before .before .before .before .before .before .before .before .before .before .before .before .before .before .before .before .before .pre .1 .0 in
+    let reached = c .before .before .before .before .before .before .before .before .before .before .before .before .before .before .before .before .before .before .before .pre .1 .1 in
     let here = c .before .before .before .before .before .before .before .before .before .before .before .before .before .before .kind-at .ensures ∙ ap (kind (a .tokens .now)) (c .before .before .before .before .before .before .before .before .before .before .before .before .before .before .before .size .ensures) in
     let known : kind (a .tokens .now) (a .at) ≤ Eof = omega (arith, here, c .before .before .before .before .before .before .before .before .before .before .before .before .before .if1 .left) in
     let stepped = rw here at (c .before .before .before .before .before .before .before .before .before .before .advance .ensures) in
@@ -204,9 +204,9 @@ returns-6 c =
 
 add-open-2 : tie.Need-add-open-2
 add-open-2 c =
-    let a = c .before .before .before .before .before .before .before .before .before .before .before .before .before .before .before .before .before .before .args in
-    let asked = c .before .before .before .before .before .before .before .before .before .before .before .before .before .before .before .before .before .before .pre .0 in
-    let reached = c .before .before .before .before .before .before .before .before .before .before .before .before .before .before .before .before .before .before .pre .1 in
+    let a = c .before .before .before .before .before .before .before .before .before .before .before .before .before .before .before .before .before .before .before .args in
+    let asked = c .before .before .before .before .before .before .before .before .before .before .before .before .before .before .before .before .before .before .before .pre .1 .0 in
+    let reached = c .before .before .before .before .before .before .before .before .before .before .before .before .before .before .before .before .before .before .before .pre .1 .1 in
     let here = c .before .before .before .before .before .before .before .before .before .before .before .before .before .before .kind-at .ensures ∙ ap (kind (a .tokens .now)) (c .before .before .before .before .before .before .before .before .before .before .before .before .before .before .before .size .ensures) in
     let known : kind (a .tokens .now) (a .at) ≤ Eof = omega (arith, here, c .before .before .before .before .before .before .before .before .before .before .before .before .before .if1 .left) in
     let stepped = rw here at (c .before .before .before .before .before .before .before .before .before .before .advance .ensures) in
@@ -215,9 +215,9 @@ add-open-2 c =
 
 open-requires-3 : tie.Need-open-requires-3
 open-requires-3 c κs =
-    let a = c .before .before .before .before .before .before .before .before .before .before .before .before .before .before .before .before .before .before .args in
-    let asked = c .before .before .before .before .before .before .before .before .before .before .before .before .before .before .before .before .before .before .pre .0 in
-    let reached = c .before .before .before .before .before .before .before .before .before .before .before .before .before .before .before .before .before .before .pre .1 in
+    let a = c .before .before .before .before .before .before .before .before .before .before .before .before .before .before .before .before .before .before .before .args in
+    let asked = c .before .before .before .before .before .before .before .before .before .before .before .before .before .before .before .before .before .before .before .pre .1 .0 in
+    let reached = c .before .before .before .before .before .before .before .before .before .before .before .before .before .before .before .before .before .before .before .pre .1 .1 in
     let here = c .before .before .before .before .before .before .before .before .before .before .before .before .before .before .kind-at .ensures ∙ ap (kind (a .tokens .now)) (c .before .before .before .before .before .before .before .before .before .before .before .before .before .before .before .size .ensures) in
     let known : kind (a .tokens .now) (a .at) ≤ Eof = omega (arith, here, c .before .before .before .before .before .before .before .before .before .before .before .before .before .if1 .left) in
     let stepped = rw here at (c .before .before .before .before .before .before .before .before .before .before .advance .ensures) in
@@ -226,20 +226,20 @@ open-requires-3 c κs =
 
 kinds-requires : tie.Need-kinds-requires
 kinds-requires c κs =
-    let a = c .before .before .before .before .before .before .before .before .before .before .before .before .before .before .before .before .before .before .before .before .args in
-    let asked = c .before .before .before .before .before .before .before .before .before .before .before .before .before .before .before .before .before .before .before .before .pre .0 in
-    let reached = c .before .before .before .before .before .before .before .before .before .before .before .before .before .before .before .before .before .before .before .before .pre .1 in
+    let a = c .before .before .before .before .before .before .before .before .before .before .before .before .before .before .before .before .before .before .before .before .before .args in
+    let asked = c .before .before .before .before .before .before .before .before .before .before .before .before .before .before .before .before .before .before .before .before .before .pre .1 .0 in
+    let reached = c .before .before .before .before .before .before .before .before .before .before .before .before .before .before .before .before .before .before .before .before .before .pre .1 .1 in
     let here = c .before .before .before .before .before .before .before .before .before .before .before .before .before .before .before .before .kind-at .ensures ∙ ap (kind (a .tokens .now)) (c .before .before .before .before .before .before .before .before .before .before .before .before .before .before .before .before .before .size .ensures) in
     let known : kind (a .tokens .now) (a .at) ≤ Eof = omega (arith, here, c .before .before .before .before .before .before .before .before .before .before .before .before .before .before .before .if1 .left) in
     let stepped = rw here at (c .before .before .before .before .before .before .before .before .before .before .before .before .advance .ensures) in
     let s = as-barred (c .before .before .before .before .before .before .before .before .before .before .before .before .advance .result) (c .before .before .before .before .before .before .before .before .step2 .given .1) stepped in
-    (omega (arith, reached .fits, stepped .same-length), rw (s .kept) (reached .sounds))
+    (c .before .before .before .before .before .before .before .before .before .before .before .before .before .before .before .before .before .before .before .before .before .pre .0, (omega (arith, reached .fits, stepped .same-length), rw (s .kept) (reached .sounds)))
 
 inside-requires : tie.Need-inside-requires
 inside-requires c κs =
-    let a = c .before .before .before .before .before .before .before .before .before .before .before .before .before .before .before .before .before .before .before .before .before .args in
-    let asked = c .before .before .before .before .before .before .before .before .before .before .before .before .before .before .before .before .before .before .before .before .before .pre .0 in
-    let reached = c .before .before .before .before .before .before .before .before .before .before .before .before .before .before .before .before .before .before .before .before .before .pre .1 in
+    let a = c .before .before .before .before .before .before .before .before .before .before .before .before .before .before .before .before .before .before .before .before .before .before .args in
+    let asked = c .before .before .before .before .before .before .before .before .before .before .before .before .before .before .before .before .before .before .before .before .before .before .pre .1 .0 in
+    let reached = c .before .before .before .before .before .before .before .before .before .before .before .before .before .before .before .before .before .before .before .before .before .before .pre .1 .1 in
     let here = c .before .before .before .before .before .before .before .before .before .before .before .before .before .before .before .before .before .kind-at .ensures ∙ ap (kind (a .tokens .now)) (c .before .before .before .before .before .before .before .before .before .before .before .before .before .before .before .before .before .before .size .ensures) in
     let known : kind (a .tokens .now) (a .at) ≤ Eof = omega (arith, here, c .before .before .before .before .before .before .before .before .before .before .before .before .before .before .before .before .if1 .left) in
     let stepped = rw here at (c .before .before .before .before .before .before .before .before .before .before .before .before .before .advance .ensures) in
@@ -254,9 +254,9 @@ same-length-6 c = search needs
 
 returns-7 : tie.Need-returns-7
 returns-7 c =
-    let a = c .before .before .before .before .before .before .before .before .before .before .before .before .before .before .before .before .before .before .args in
-    let asked = c .before .before .before .before .before .before .before .before .before .before .before .before .before .before .before .before .before .before .pre .0 in
-    let reached = c .before .before .before .before .before .before .before .before .before .before .before .before .before .before .before .before .before .before .pre .1 in
+    let a = c .before .before .before .before .before .before .before .before .before .before .before .before .before .before .before .before .before .before .before .args in
+    let asked = c .before .before .before .before .before .before .before .before .before .before .before .before .before .before .before .before .before .before .before .pre .1 .0 in
+    let reached = c .before .before .before .before .before .before .before .before .before .before .before .before .before .before .before .before .before .before .before .pre .1 .1 in
     let here = c .before .before .before .before .before .before .before .before .before .before .before .before .before .before .kind-at .ensures ∙ ap (kind (a .tokens .now)) (c .before .before .before .before .before .before .before .before .before .before .before .before .before .before .before .size .ensures) in
     let known : kind (a .tokens .now) (a .at) ≤ Eof = omega (arith, here, c .before .before .before .before .before .before .before .before .before .before .before .before .before .if1 .left) in
     let stepped = rw here at (c .before .before .before .before .before .before .before .before .before .before .advance .ensures) in
@@ -268,9 +268,9 @@ same-length-7 c = search needs
 
 returns-8 : tie.Need-returns-8
 returns-8 c =
-    let a = c .before .before .before .before .before .before .before .before .before .before .before .before .before .args in
-    let asked = c .before .before .before .before .before .before .before .before .before .before .before .before .before .pre .0 in
-    let reached = c .before .before .before .before .before .before .before .before .before .before .before .before .before .pre .1 in
+    let a = c .before .before .before .before .before .before .before .before .before .before .before .before .before .before .args in
+    let asked = c .before .before .before .before .before .before .before .before .before .before .before .before .before .before .pre .1 .0 in
+    let reached = c .before .before .before .before .before .before .before .before .before .before .before .before .before .before .pre .1 .1 in
     let here = c .before .before .before .before .before .before .before .before .before .kind-at .ensures ∙ ap (kind (a .tokens .now)) (c .before .before .before .before .before .before .before .before .before .before .size .ensures) in
     let known : kind (a .tokens .now) (a .at) ≤ Eof = omega (arith, here, c .before .before .before .before .before .before .before .before .if1 .left) in
     let stepped = rw here at (c .before .before .before .before .before .advance .ensures) in
@@ -281,9 +281,9 @@ same-length-8 c = search needs
 
 returns-9 : tie.Need-returns-9
 returns-9 c =
-    let a = c .before .before .before .before .before .before .before .before .before .before .before .before .before .before .before .before .before .before .before .before .before .before .before .args in
-    let asked = c .before .before .before .before .before .before .before .before .before .before .before .before .before .before .before .before .before .before .before .before .before .before .before .pre .0 in
-    let reached = c .before .before .before .before .before .before .before .before .before .before .before .before .before .before .before .before .before .before .before .before .before .before .before .pre .1 in
+    let a = c .before .before .before .before .before .before .before .before .before .before .before .before .before .before .before .before .before .before .before .before .before .before .before .before .args in
+    let asked = c .before .before .before .before .before .before .before .before .before .before .before .before .before .before .before .before .before .before .before .before .before .before .before .before .pre .1 .0 in
+    let reached = c .before .before .before .before .before .before .before .before .before .before .before .before .before .before .before .before .before .before .before .before .before .before .before .before .pre .1 .1 in
     let here = c .before .before .before .before .before .before .before .before .before .before .before .before .before .before .before .before .before .before .before .kind-at .ensures ∙ ap (kind (a .tokens .now)) (c .before .before .before .before .before .before .before .before .before .before .before .before .before .before .before .before .before .before .before .before .size .ensures) in
     let known : kind (a .tokens .now) (a .at) ≤ Eof = omega (arith, here, c .before .before .before .before .before .before .before .before .before .before .before .before .before .before .before .before .before .before .if1 .left) in
     let stepped = rw here at (c .before .before .before .before .before .before .before .before .before .before .before .before .before .before .before .advance .ensures) in

@@ -9,16 +9,16 @@ use Rattle.expected.proofs.stack.admits.Statement.{statement}
 use Rattle.expected.proofs.stack.admits.Tie as tie
 
 abbrev Inv-loop : tie.InvT-loop
-Inv-loop room top edition kind t₀ t = (c : ℕ) → Passing (the-edition edition) kind c top room room t
+Inv-loop table room top edition kind t₀ t = (c : ℕ) → Passing (the-edition edition) kind c top room room t
 
 abbrev μ-loop : tie.MeasureT-loop
-μ-loop room top edition kind t₀ t = length room - t
+μ-loop table room top edition kind t₀ t = length room - t
 
 loop-holds : tie.Need-loop-holds Inv-loop μ-loop
 loop-holds c = λ n. starting (search needs) (search needs)
 
 action-requires : tie.Need-action-requires Inv-loop μ-loop
-action-requires c κs = let n = state-number (c .before .before .before .before .loop .inv 0) (search needs) (search needs) in (omega (arith, n, c .size .ensures), search needs)
+action-requires c κs = let n = state-number (c .before .before .before .before .loop .inv 0) (search needs) (search needs) in (search needs, (omega (arith, n, c .size .ensures), search needs))
 
 returns : tie.Need-returns Inv-loop μ-loop
 returns c = admits-not (c .before .before .before .before .before .before .loop .inv) (search needs) (search needs) (rw (c .before .before .size .ensures) at (c .before .action .ensures)) (search needs)

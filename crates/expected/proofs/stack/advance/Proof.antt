@@ -14,10 +14,10 @@ use Rattle.expected.proofs.stack.advance.Statement.{statement}
 use Rattle.expected.proofs.stack.advance.Tie as tie
 
 abbrev Inv-loop : tie.InvT-loop
-Inv-loop room₀ top depth edition kind at t₀ d₀ room t d = Passing (the-edition edition) kind at top room₀ room t × (d ≡ marks (decoded (drop t room)))
+Inv-loop table room₀ top depth edition kind at t₀ d₀ room t d = Passing (the-edition edition) kind at top room₀ room t × (d ≡ marks (decoded (drop t room)))
 
 abbrev μ-loop : tie.MeasureT-loop
-μ-loop room₀ top depth edition kind at t₀ d₀ room t d = length room - t
+μ-loop table room₀ top depth edition kind at t₀ d₀ room t d = length room - t
 
 loop-holds : tie.Need-loop-holds Inv-loop μ-loop
 loop-holds c = (starting (search needs) (search needs), search needs)
@@ -32,7 +32,7 @@ size-requires : tie.Need-size-requires Inv-loop μ-loop
 size-requires c κs = search needs
 
 action-requires : tie.Need-action-requires Inv-loop μ-loop
-action-requires c κs = let n = state-number (c .before .before .before .before .loop .inv .0) (search needs) (search needs) in (omega (arith, n, c .size .ensures), search needs)
+action-requires c κs = let n = state-number (c .before .before .before .before .loop .inv .0) (search needs) (search needs) in (search needs, (omega (arith, n, c .size .ensures), search needs))
 
 same-length : tie.Need-same-length Inv-loop μ-loop
 same-length c = ap length (c .before .before .before .before .before .before .loop .inv .0 .same)
@@ -48,15 +48,15 @@ add-push : tie.Need-add-push Inv-loop μ-loop
 add-push c = let e = ap length (c .before .before .before .before .before .before .before .before .loop .inv .0 .same) in omega (arith, e)
 
 push-requires : tie.Need-push-requires Inv-loop μ-loop
-push-requires c κs = let p = c .before .before .before .before .before .before .before .before .loop .inv .0 in (omega (arith, c .before .before .before .action .ensures .bound), (omega (arith, p .past), (search needs, search needs)))
+push-requires c κs = let p = c .before .before .before .before .before .before .before .before .loop .inv .0 in (search needs, (omega (arith, c .before .before .before .action .ensures .bound), (omega (arith, p .past), (search needs, search needs))))
 
 opens-requires : tie.Need-opens-requires Inv-loop μ-loop
 opens-requires c κs = omega (arith, c .before .before .before .before .before .before .action .ensures .bound)
 
-add-t22 : tie.Need-add-t22 Inv-loop μ-loop
-add-t22 c =
+add-t23 : tie.Need-add-t23 Inv-loop μ-loop
+add-t23 c =
     let l = c .before .before .before .before .before .before .before .before .before .before .before .before .loop in
-    let a = c .before .before .before .before .before .before .before .before .before .before .before .before .before .before .args in
+    let a = c .before .before .before .before .before .before .before .before .before .before .before .before .before .before .before .args in
     let p = l .inv .0 in
     let f = fewer (a .top) (l .t) (l .room) (p .past) in
     let b : marks (decoded (drop (a .top) (l .room))) ≡ marks (decoded (drop (a .top) (a .room .now))) = ap (λ r. marks (decoded (drop (a .top) r))) (p .same) in
@@ -103,4 +103,4 @@ unfolding Case
 returns-3 c = let p = c .before .loop .inv .0 in record { says = finished p (search needs); same-length = ap length (p .same) }
 
 pub advance-spec : {M : Type 1} → statement M
-advance-spec = tie.close (tie.spec Inv-loop μ-loop loop-holds mul-v slice-read-v size-requires action-requires same-length returns sub-list add-push push-requires opens-requires add-t22 same-length-2 returns-2 add-t loop-less loop-again sub-d add-t-2 loop-less-2 loop-again-2 same-length-3 returns-3)
+advance-spec = tie.close (tie.spec Inv-loop μ-loop loop-holds mul-v slice-read-v size-requires action-requires same-length returns sub-list add-push push-requires opens-requires add-t23 same-length-2 returns-2 add-t loop-less loop-again sub-d add-t-2 loop-less-2 loop-again-2 same-length-3 returns-3)
