@@ -84,17 +84,28 @@ const STATION: [&str; 64] = [
     "stop", "next", "previous", "first", "last", "find", "sort", "filter", "join", "split",
 ];
 
+/// The screen again and again, in so many tokens.
+fn screens(tokens: usize) -> String {
+    SCREEN.repeat(tokens / (tokens_of(SCREEN).len() / 3))
+}
+
+/// 60 parentheses or blocks in each other, 33 times.
+fn parentheses() -> String {
+    format!("{}a{};", "(".repeat(60), ")".repeat(60)).repeat(33)
+}
+
+fn blocks() -> String {
+    format!("{}a;{}", "{".repeat(60), "}".repeat(60)).repeat(33)
+}
+
 pub fn all() -> Vec<Input> {
-    let screens = |tokens: usize| SCREEN.repeat(tokens / (tokens_of(SCREEN).len() / 3));
-    let parentheses = format!("{}a{};", "(".repeat(60), ")".repeat(60));
-    let blocks = format!("{}a;{}", "{".repeat(60), "}".repeat(60));
     // no two names of a script stand side by side, so that 4,096 tokens, Eof among them, hold 2,047 of these and no more
     let names = |count: usize| (0..count).map(|i| format!("n{i};")).collect::<String>();
     vec![
         Input { typical: true, ..input("screen", SCREEN.to_string()) },
         Input { typical: true, ..input("large script", screens(4000)) },
-        input("nesting, parentheses", parentheses.repeat(33)),
-        input("nesting, blocks", blocks.repeat(33)),
+        input("nesting, parentheses", parentheses()),
+        input("nesting, blocks", blocks()),
         input("different names, 32", names(32)),
         input("different names, 128", names(128)),
         input("different names, 512", names(512)),
@@ -104,6 +115,17 @@ pub fn all() -> Vec<Input> {
         input("refusal at the end", screens(4000) + "return;"),
         beside("screen, 64 names", &STATION, SCREEN.to_string()),
         beside("large script, 64 names", &STATION, screens(4000)),
+    ]
+}
+
+/// Scripts that are refused at their end: by 9 for the `return;`, then by 9 and by 8 with 60 constructs open, and by 11.
+pub fn refusals() -> Vec<Input> {
+    vec![
+        input("screen", SCREEN.to_string() + "return;"),
+        input("large script", screens(4000) + "return;"),
+        input("nesting, parentheses", parentheses() + &"(".repeat(60) + ";"),
+        input("nesting, blocks", blocks() + &"{".repeat(60) + "a b"),
+        input("too deep, blocks", blocks() + &"{".repeat(65)),
     ]
 }
 

@@ -10,6 +10,9 @@
 //!
 //! Two inputs stand beside 64 built-in names, outside the ratios of the last line. The proved reader looks the names over in
 //! each call, in its time; the Rust's interner is given them before the clock starts.
+//!
+//! A second table has scripts that are refused at their end: what reading them up to there takes, and what it takes to tell
+//! what could have stood there. The Rust has nothing to compare with.
 mod inputs;
 mod lexer;
 
@@ -29,7 +32,7 @@ use kaori::{
         token::{Span, Token},
     },
 };
-use kaori_syntax::Rooms;
+use kaori_syntax::{Rooms, expected};
 use oracle::lexer::Lexer;
 
 const LIMIT: u32 = 64;
@@ -130,7 +133,41 @@ fn bench(time: Duration) {
     println!(
         "64 names: this reader looks the names over in each call; the Rust's interner has them before the clock starts"
     );
+    refusals(time);
     println!("typical {typical:.2}, worst {worst:.2}");
+}
+
+/// What it adds to a refusal to tell what could have stood there.
+fn refusals(time: Duration) {
+    println!("refusals; median nanoseconds a token");
+    println!(
+        "{:<22}{:>7}{:>6}{:>7}{:>6}{:>8}{:>8}{:>7}{:>8}",
+        "input", "tokens", "code", "kinds", "open", "read", "told", "ratio", "runs"
+    );
+    for input in inputs::refusals() {
+        let mut rooms = input.rooms();
+        let why = input.parse(&mut rooms, &input.tokens, LIMIT).expect_err("a refusal");
+        let answer = expected(&input.tokens, why);
+        let [mut read, mut told]: [Vec<u64>; 2] = Default::default();
+        let end = Instant::now() + time;
+        while read.is_empty() || Instant::now() < end {
+            read.push(second(|| clock(|| input.parse(&mut rooms, &input.tokens, LIMIT).is_ok())));
+            told.push(second(|| clock(|| expected(&input.tokens, why))));
+        }
+        let (runs, tokens) = (read.len(), (input.tokens.len() / 3) as f64);
+        let [read, told] = [read, told].map(median);
+        println!(
+            "{:<22}{tokens:>7}{:>6}{:>7}{:>6}{:>8.1}{:>8.1}{:>7.2}{runs:>8}",
+            input.name,
+            why.code,
+            answer.count(),
+            answer.open().len(),
+            read / tokens,
+            told / tokens,
+            (read + told) / read,
+        );
+    }
+    println!("read: tokens to the refusal; told: what could have stood there; ratio: both by the first");
 }
 
 fn measure(input: &Input, time: Duration) -> Times {

@@ -1,4 +1,5 @@
-/* Reads a script and prints what the program `rows` prints of it, and the line of a refusal: `example LIMIT EDITION < script`. */
+/* Reads a script and prints what the program `rows` prints of it. Of a refusal it prints its line as well, what could have
+   stood there, and what was open: `example LIMIT EDITION < script`. */
 #include "kaori.h"
 
 #include <inttypes.h>
@@ -20,6 +21,31 @@ static void print(const char *name, const uint32_t *rows, size_t width, uint32_t
         for (size_t i = 0; i < width; i++) printf(" %" PRIu32, rows[width * row + i]);
         printf("\n");
     }
+}
+
+/* A kind as messages write it: between `expected ` and ` and found `, where it stands on both sides. */
+static void spell(uint32_t kind) {
+    uint8_t message[KAORI_MESSAGE_ROOM];
+    size_t written = kaori_message(KAORI_REQUIRED, kind, kind, message, LENGTH(message));
+    printf(" %.*s", (int)((written - 20) / 2), (const char *)message + 9);
+}
+
+/* What could have stood at the place of a refusal, and what was open there, each with the number of its token. */
+static void tell(const uint32_t *answer, uint32_t edition, uint32_t limit) {
+    static const char *const sorts[] = {"expression", "block", "if", "sign"};
+    uint32_t told[KAORI_TOLD_ROOM], at = answer[KAORI_AT];
+    uint64_t set = kaori_expected(tokens, LENGTH(tokens), edition, limit, answer[KAORI_CODE], at, told, LENGTH(told));
+    if (set != 0) {
+        printf("%" PRIu32 " could have stood there:", told[KAORI_TOLD_COUNT]);
+        for (uint32_t kind = told[KAORI_TOLD_LOWEST]; kind <= KAORI_EOF; kind++)
+            if (kaori_expects(set, kind)) spell(kind);
+        printf("\n");
+    }
+    for (uint32_t i = 0; i < told[KAORI_TOLD_OPEN]; i++) {
+        const uint32_t *opening = told + KAORI_TOLD_CHAIN + KAORI_OPENING_WIDTH * i;
+        printf("%s%s %" PRIu32, i == 0 ? "open: " : ", ", sorts[opening[0]], opening[1]);
+    }
+    if (told[KAORI_TOLD_OPEN] != 0) printf("\n");
 }
 
 static void explain(const uint32_t *answer, size_t length) {
@@ -44,6 +70,7 @@ int main(int argc, char **argv) {
                         links, LENGTH(links), symbols, LENGTH(symbols), scratch, LENGTH(scratch), answer,
                         LENGTH(answer)) != KAORI_OK) {
         explain(answer, length);
+        tell(answer, edition, limit);
         return 1;
     }
     printf("ok %" PRIu32 " %" PRIu32 " %" PRIu32 "\n", answer[KAORI_NODES], answer[KAORI_LINKS], answer[KAORI_SYMBOLS]);

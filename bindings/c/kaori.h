@@ -37,9 +37,15 @@ enum { KAORI_TOKENS_MAX = 4096, KAORI_TEXT_MAX = 65536, KAORI_LIMIT_MAX = 64, KA
    may follow a `)` that closes an expression. */
 enum { KAORI_FIRST_EDITION = 1, KAORI_SECOND_EDITION = 2 };
 
-/* The least room for an answer of the four functions that read a script, for one of kaori_place, for one of kaori_name, and
-   for a message. */
-enum { KAORI_ANSWER_ROOM = 8, KAORI_PLACE_ROOM = 3, KAORI_NAME_ROOM = 3, KAORI_MESSAGE_ROOM = 52 };
+/* The least room for an answer of the four functions that read a script, for one of kaori_place, for one of kaori_name, for
+   a message, and for what kaori_expected tells. */
+enum {
+    KAORI_ANSWER_ROOM = 8,
+    KAORI_PLACE_ROOM = 3,
+    KAORI_NAME_ROOM = 3,
+    KAORI_MESSAGE_ROOM = 52,
+    KAORI_TOLD_ROOM = 131
+};
 
 /* What stands where in an answer of the four that read a script. After 0: code, three counts of rows, 0, 0, 0, 255. After
    a refusal: code, 0, 0, 0, the number of the token, where it starts and ends in the text, and the kind of token that
@@ -59,6 +65,16 @@ enum {
 /* And in an answer of kaori_place and of kaori_name, after its code. */
 enum { KAORI_LINE = 1, KAORI_COLUMN };
 enum { KAORI_NAME_START = 1, KAORI_NAME_END };
+
+/* And in what kaori_expected tells: how many kinds could have stood there, the lowest of them (KAORI_NO_KIND where there is
+   none), how many constructs are open, and from KAORI_TOLD_CHAIN on two numbers for each of these, the outermost first: its
+   sort, and the number of the token that opens it. There are KAORI_OPEN_MAX such pairs; those that are not used are 0. */
+enum { KAORI_TOLD_COUNT, KAORI_TOLD_LOWEST, KAORI_TOLD_OPEN, KAORI_TOLD_CHAIN };
+enum { KAORI_OPENING_WIDTH = 2, KAORI_OPEN_MAX = 64 };
+
+/* Sorts of open constructs, which are those that the depth counts. A sign is a prefix `+`, `-` or `^`, in edition 2 a `not`
+   too. */
+enum { KAORI_EXPRESSION, KAORI_BLOCK, KAORI_IF, KAORI_SIGN };
 
 /* Codes. The first that applies is the answer; in reading, from left to right, the first that is met. At one token a 4 for
    a link's or a node's row comes first, then 11, then a 4 for a symbol's row, then 8, 9 and 10. 12 is not used. */
@@ -235,6 +251,26 @@ uint32_t kaori_read_with(const uint8_t *names, size_t names_len, const uint32_t 
    and for a room under 52 bytes.
    Leaves: the text at the room's start, all bytes past it as they were. */
 size_t kaori_message(uint32_t code, uint32_t expected, uint32_t found, uint8_t *room, size_t room_len);
+
+/* What could have stood at a token where reading is refused, and what was open there.
+   Takes: the tokens that were read, as kaori_parse takes them or kaori_read leaves them (the numbers past the token do not
+   matter, but their count does: it is three times 1 to 4,096); the edition and the limit that they were read by; the
+   refusal's code and the number of its token; and a room of 131 numbers or more for all but the set.
+   Answers: the set of kinds: kind k is in it where its binary digit k, counted from 0 at the lowest, is 1 (kaori_expects).
+   A kind is in the set exactly when some script, however long and deep, begins with the tokens before the place and then
+   that kind; Eof, when the tokens before it are a whole script. The refused token's kind never is, and `for` is in no set.
+   For 8, 9 and 10 that is the set; after 11 it is empty. An 8's own `expected` need not be in it: of `import` and then Eof
+   it is `;`, and only a name could have stood there.
+   Leaves: in the room the 131 numbers, the rest as it was. The chain has what the refusal lies inside of, each closed once
+   it is whole: what opens at the refused token is open there. After 11 there are as many as the limit. A room of fewer
+   numbers stays as it was, and the set is answered all the same.
+   For any other code, a list, an edition or a limit that is refused before reading, or a token at which reading is not
+   refused by this code, the set and the chain are empty: 0, and in the room 0, KAORI_NO_KIND and zeros. */
+uint64_t kaori_expected(const uint32_t *tokens, size_t tokens_len, uint32_t edition, uint32_t limit, uint32_t code,
+                        uint32_t at, uint32_t *told, size_t told_len);
+
+/* Whether a kind is in a set. */
+static inline int kaori_expects(uint64_t set, uint32_t kind) { return kind < 64 && (set >> kind & 1) != 0; }
 
 /* The line and the column of an offset. A line ends at a byte 10, at 13 10 together, or at a 13 alone; the 10 of a pair
    is still on the old line. Columns count bytes; both count from 1.

@@ -345,6 +345,142 @@ static void editions(void) {
     EXPECT(in_edition(&r, "a;", 2, 64, 0) == KAORI_SMALL_ROOM && four_are(&r, OLD));
 }
 
+/* A text that is refused in an edition, by a code at a token; and then what kaori_expected has of it: how many kinds could
+   have stood there, the lowest, the set, and the open constructs. */
+typedef struct {
+    const char *text;
+    uint32_t edition, limit, code, at, count, lowest;
+    uint64_t set;
+    uint32_t open, chain[2 * KAORI_OPENING_WIDTH];
+} sample;
+
+static const sample samples[] = {
+    {"f(a", 1, 64, 8, 3, 17, KAORI_PLUS, 0xc6bfee, 1, {KAORI_EXPRESSION, 0}},
+    {"f(a,", 1, 64, 8, 4, 16, KAORI_PLUS, 0xde2011f0016, 1, {KAORI_EXPRESSION, 0}},
+    {"{ let x }", 1, 64, 8, 3, 1, KAORI_ASSIGN, 1, 1, {KAORI_BLOCK, 0}},
+    {"x = y = z;", 1, 64, 8, 3, 16, KAORI_PLUS, 0x20000c29fee, 0, {0}},
+    {"if a b", 1, 64, 8, 2, 16, KAORI_PLUS, 0xd29fee, 2, {KAORI_IF, 0, KAORI_BLOCK, 2}},
+    {"import", 1, 64, 8, 1, 1, KAORI_IDENTIFIER, 0x80000000000, 0, {0}},
+    {"for", 1, 64, 10, 0, 25, KAORI_PLUS, 0x1dfbdf1b0016, 0, {0}},
+    {";", 1, 64, 9, 0, 25, KAORI_PLUS, 0x1dfbdf1b0016, 1, {KAORI_EXPRESSION, 0}},
+    {"-", 1, 64, 9, 1, 15, KAORI_PLUS, 0xde2011b0016, 2, {KAORI_EXPRESSION, 0, KAORI_SIGN, 0}},
+    /* what the editions have of their own */
+    {"return;", 1, 64, 9, 1, 15, KAORI_PLUS, 0xde2011b0016, 1, {KAORI_EXPRESSION, 1}},
+    {"return", 2, 64, 9, 1, 16, KAORI_PLUS, 0xfe2011b0016, 1, {KAORI_EXPRESSION, 1}},
+    {"{ return", 2, 64, 9, 2, 17, KAORI_PLUS, 0xfe2013b0016, 2, {KAORI_BLOCK, 0, KAORI_EXPRESSION, 2}},
+    {"(f)(x);", 1, 64, 8, 3, 15, KAORI_ASSIGN, 0x20000c01fef, 0, {0}},
+    {"(f) x;", 2, 64, 8, 3, 17, KAORI_ASSIGN, 0x20000c29fef, 0, {0}},
+    {"not", 1, 64, 9, 1, 15, KAORI_PLUS, 0xde2011b0016, 2, {KAORI_EXPRESSION, 0, KAORI_EXPRESSION, 1}},
+    {"not", 2, 64, 9, 1, 15, KAORI_PLUS, 0xde2011b0016, 2, {KAORI_EXPRESSION, 0, KAORI_SIGN, 0}},
+    /* 11: no set, and as many as the limit */
+    {"((a));", 1, 2, 11, 2, 0, KAORI_NO_KIND, 0, 2, {KAORI_EXPRESSION, 0, KAORI_EXPRESSION, 1}},
+    {"{-a;}", 1, 2, 11, 1, 0, KAORI_NO_KIND, 0, 2, {KAORI_BLOCK, 0, KAORI_EXPRESSION, 1}},
+    {"not a;", 2, 1, 11, 0, 0, KAORI_NO_KIND, 0, 1, {KAORI_EXPRESSION, 0}},
+};
+
+/* A room for what is told, with a number on each side. */
+typedef struct {
+    uint32_t before, numbers[KAORI_TOLD_ROOM], after;
+} told_room;
+
+static told_room untold(void) {
+    told_room t;
+    memset(&t, 7, sizeof t);
+    return t;
+}
+
+static int told(const told_room *t, uint32_t count, uint32_t lowest, uint32_t open, const uint32_t *chain) {
+    const uint32_t *pairs = t->numbers + KAORI_TOLD_CHAIN;
+    size_t used = KAORI_OPENING_WIDTH * open;
+    return t->before == OLD && t->after == OLD && t->numbers[KAORI_TOLD_COUNT] == count &&
+           t->numbers[KAORI_TOLD_LOWEST] == lowest && t->numbers[KAORI_TOLD_OPEN] == open &&
+           memcmp(pairs, chain, used * sizeof *pairs) == 0 &&
+           all(pairs + used, KAORI_OPENING_WIDTH * KAORI_OPEN_MAX - used, 0);
+}
+
+static int nothing(const told_room *t) { return told(t, 0, KAORI_NO_KIND, 0, t->numbers); }
+
+static uint64_t tell(const rooms *r, const sample *s, uint32_t code, uint32_t at, told_room *t, size_t room) {
+    return kaori_expected(r->tokens, LENGTH(r->tokens), s->edition, s->limit, code, at, t->numbers, room);
+}
+
+static void expecting(void) {
+    for (size_t i = 0; i < LENGTH(samples); i++) {
+        const sample *s = samples + i;
+        rooms r = fresh();
+        told_room t = untold();
+        EXPECT(in_edition(&r, s->text, s->edition, s->limit, LENGTH(r.scratch)) == s->code && r.answer[KAORI_AT] == s->at);
+        EXPECT(tell(&r, s, s->code, s->at, &t, KAORI_TOLD_ROOM) == s->set);
+        EXPECT(told(&t, s->count, s->lowest, s->open, s->chain));
+        EXPECT(!kaori_expects(s->set, r.tokens[KAORI_TOKEN_WIDTH * s->at]) && !kaori_expects(s->set, 64));
+        EXPECT(s->set == 0 || kaori_expects(s->set, s->lowest));
+        /* a room of a number less stays as it was, and so does one of none; what is past the room as well */
+        t = untold();
+        EXPECT(tell(&r, s, s->code, s->at, &t, KAORI_TOLD_ROOM - 1) == s->set && all(t.numbers, KAORI_TOLD_ROOM, OLD));
+        EXPECT(tell(&r, s, s->code, s->at, &t, 0) == s->set && all(t.numbers, KAORI_TOLD_ROOM, OLD));
+        EXPECT(tell(&r, s, s->code, s->at, &t, KAORI_TOLD_ROOM + 1) == s->set);
+        EXPECT(told(&t, s->count, s->lowest, s->open, s->chain));
+        /* the list may end with the token: what comes after it does not matter */
+        t = untold();
+        EXPECT(kaori_expected(r.tokens, KAORI_TOKEN_WIDTH * (s->at + 1), s->edition, s->limit, s->code, s->at, t.numbers,
+                              KAORI_TOLD_ROOM) == s->set);
+        EXPECT(told(&t, s->count, s->lowest, s->open, s->chain));
+        /* another code, and another token */
+        for (uint32_t code = 0; code < 24; code++) {
+            t = untold();
+            EXPECT(code == s->code || (tell(&r, s, code, s->at, &t, KAORI_TOLD_ROOM) == 0 && nothing(&t)));
+        }
+        for (uint32_t at = 0; at <= ROWS; at++) {
+            t = untold();
+            EXPECT(at == s->at || (tell(&r, s, s->code, at, &t, KAORI_TOLD_ROOM) == 0 && nothing(&t)));
+        }
+        t = untold();
+        EXPECT(tell(&r, s, s->code, KAORI_ABSENT, &t, KAORI_TOLD_ROOM) == 0 && nothing(&t));
+        /* no edition, no limit, no list */
+        static const uint32_t none[] = {0, 3, 256, KAORI_ABSENT}, limits[] = {0, 65, KAORI_ABSENT};
+        for (size_t j = 0; j < LENGTH(none); j++) {
+            sample other = *s;
+            other.edition = none[j];
+            t = untold();
+            EXPECT(tell(&r, &other, s->code, s->at, &t, KAORI_TOLD_ROOM) == 0 && nothing(&t));
+        }
+        for (size_t j = 0; j < LENGTH(limits); j++) {
+            sample other = *s;
+            other.limit = limits[j];
+            t = untold();
+            EXPECT(tell(&r, &other, s->code, s->at, &t, KAORI_TOLD_ROOM) == 0 && nothing(&t));
+        }
+        for (size_t length = 0; length < LENGTH(r.tokens); length++) {
+            uint64_t set = kaori_expected(r.tokens, length, s->edition, s->limit, s->code, s->at, t.numbers, KAORI_TOLD_ROOM);
+            int right = length % KAORI_TOKEN_WIDTH == 0 && s->at < length / KAORI_TOKEN_WIDTH;
+            EXPECT(right ? set == s->set && told(&t, s->count, s->lowest, s->open, s->chain) : set == 0 && nothing(&t));
+        }
+    }
+}
+
+/* Parentheses up to each limit, and one more: 11, with as many open as the limit. An Eof in the place of the last one within it is
+   what is wrong then, with as many open; alone it is a script. */
+static void as_deep(void) {
+    static uint32_t tokens[KAORI_TOKEN_WIDTH * (KAORI_TOKENS_MAX + 1)];
+    for (uint32_t i = 0; i < KAORI_TOKENS_MAX + 1; i++) tokens[KAORI_TOKEN_WIDTH * i] = KAORI_LEFT_PAREN;
+    for (uint32_t limit = 1; limit <= KAORI_LIMIT_MAX; limit++) {
+        told_room t = untold();
+        uint32_t chain[KAORI_OPENING_WIDTH * KAORI_OPEN_MAX] = {0};
+        for (uint32_t i = 0; i < limit; i++) chain[KAORI_OPENING_WIDTH * i + 1] = i;
+        EXPECT(kaori_expected(tokens, KAORI_TOKEN_WIDTH * KAORI_TOKENS_MAX, 1, limit, KAORI_TOO_DEEP, limit, t.numbers,
+                              KAORI_TOLD_ROOM) == 0);
+        EXPECT(told(&t, 0, KAORI_NO_KIND, limit, chain));
+        tokens[KAORI_TOKEN_WIDTH * (limit - 1)] = KAORI_EOF;
+        uint64_t set = kaori_expected(tokens, KAORI_TOKEN_WIDTH * limit, 2, limit, KAORI_OPERAND, limit - 1, t.numbers,
+                                      KAORI_TOLD_ROOM);
+        EXPECT(limit == 1 ? set == 0 && nothing(&t) : set == UINT64_C(0xde2011b0016) && told(&t, 15, KAORI_PLUS, limit, chain));
+        tokens[KAORI_TOKEN_WIDTH * (limit - 1)] = KAORI_LEFT_PAREN;
+    }
+    /* a list that is too long */
+    told_room t = untold();
+    EXPECT(kaori_expected(tokens, LENGTH(tokens), 1, 8, KAORI_TOO_DEEP, 8, t.numbers, KAORI_TOLD_ROOM) == 0 && nothing(&t));
+}
+
 static uint32_t name_place(uint32_t count, uint32_t built, uint32_t symbol, uint32_t *answer, size_t room) {
     static const uint32_t rows[] = {0, 9, 0, 9, 3, 3, 3, 2, 8, 8, 7, 9, 1};
     return kaori_name((const uint8_t *)names, strlen(names), (const uint8_t *)script, strlen(script), rows, LENGTH(rows),
@@ -402,6 +538,8 @@ int main(void) {
     built_in();
     wrong_names();
     editions();
+    expecting();
+    as_deep();
     naming();
     telling();
     return failed != 0;

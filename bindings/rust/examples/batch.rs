@@ -5,15 +5,18 @@ mod rows;
 
 use std::io::{BufWriter, Error, Read, Write, stdin, stdout};
 
-use kaori_syntax::{Builtins, Edition, Refusal, Rooms, Tree};
+use kaori_syntax::{Builtins, Edition, Refusal, Rooms, Span, Tree, expected};
 use rows::{answer, decode, frame};
 
 const BAD: &str = "bad input\n";
 /// What stands before a limit and the sizes of rooms, what does where built-in names follow these, and what does before an
-/// edition where one stands before all this; the largest rooms that are lent, and the largest names: as for the program `batch`.
+/// edition where one stands before all this; what stands before an edition, a limit, a code and a token, of which it is asked
+/// what could have stood there; the largest rooms that are lent, and the largest names: as for the program `batch`.
 const MARK: [u8; 2] = [0x52, 0x4D];
 const NAMES_MARK: [u8; 2] = [0x52, 0x4E];
 const EDITION_MARK: [u8; 2] = [0x52, 0x4F];
+const KINDS_MARK: [u8; 2] = [0x52, 0x50];
+const MOST_OPEN: usize = 64;
 const LARGEST: [usize; 4] = [5_129, 1_538, 1_025, 1_538];
 const MOST_BYTES: usize = 8_192;
 const MOST_NUMBERS: usize = 133;
@@ -26,7 +29,7 @@ fn main() -> Result<(), Error> {
         let mut bytes = length.to_vec();
         input.by_ref().take(u64::from(u32::from_le_bytes(length))).read_to_end(&mut bytes)?;
         let Some(case) = frame(&mut &bytes[..]) else { break };
-        let printed = match (lent(case), decode(case)) {
+        let printed = match (lent(case).or_else(|| refused(case)), decode(case)) {
             (Some(told), _) => told,
             (None, Some((text, tokens))) => answer(rooms.parse(text, &tokens, 64)),
             (None, None) => BAD.to_string(),
@@ -64,9 +67,30 @@ fn lent(case: &[u8]) -> Option<String> {
             [code, 0, 0, 0, at, span.start, span.end, expected.unwrap_or(255)]
         }
     };
-    let line = |numbers: &[u32]| numbers.iter().map(|n| format!(" {n}")).collect::<String>() + "\n";
     let Rooms { nodes, links, symbols, scratch, .. } = &rooms;
     Some([&numbers[..], nodes, links, symbols, scratch].map(line).concat())
+}
+
+/// The answer to a case of a refusal, if it is one: the set in two numbers, the low one first, how many kinds it has, the lowest
+/// and how many constructs are open; and then the sort and the token of each, with zeros for those that are not.
+fn refused(case: &[u8]) -> Option<String> {
+    let mut rest = case.strip_prefix(&KINDS_MARK)?;
+    let [edition, limit, code, at] = numbers(&mut rest, 4)?.try_into().ok()?;
+    let Some((_, tokens)) = decode(rest) else { return Some(BAD.to_string()) };
+    let edition = Edition(edition);
+    let why = Refusal { code, at, span: Span::default(), expected: None, found: None, edition, limit };
+    let told = expected(&tokens, why);
+    let [low, high] = [told.bits() as u32, (told.bits() >> 32) as u32];
+    let open = told.open();
+    let mut pairs: Vec<u32> = open.iter().flat_map(|opening| [opening.sort as u32, opening.at]).collect();
+    pairs.resize(2 * MOST_OPEN, 0);
+    let head = [low, high, told.count(), told.lowest().unwrap_or(255), open.len() as u32];
+    Some([&head[..], &pairs].map(line).concat())
+}
+
+/// A line of numbers, each after a blank.
+fn line(numbers: &[u32]) -> String {
+    numbers.iter().map(|n| format!(" {n}")).collect::<String>() + "\n"
 }
 
 /// The next numbers of a case, four bytes each.

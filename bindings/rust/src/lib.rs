@@ -126,12 +126,27 @@
 //! let place = place(text, refusal.span.start as usize).unwrap();
 //! assert_eq!((place.line, place.column), (2, 7));
 //! ```
+//!
+//! And it can be asked what could have stood there, and what was open: [`Expected`].
+//!
+//! ```
+//! use kaori_syntax::{Rooms, Sort};
+//!
+//! let mut rooms = Rooms::for_tokens(16);
+//! let refusal = rooms.read(b"show(time platform);", 64).unwrap_err();
+//! let expected = rooms.expected(refusal);
+//! assert_eq!(refusal.expected, Some(13)); // a comma; but `)` would have done, too
+//! assert!(expected.contains(13) && expected.contains(18));
+//! assert_eq!(expected.open().iter().map(|opening| opening.sort).collect::<Vec<_>>(), [Sort::Expression]);
+//! ```
 #![deny(unsafe_code, missing_docs)]
 mod builtins;
+mod expected;
 mod node;
 mod raw;
 
 pub use builtins::{Builtins, OwnedBuiltins, name};
+pub use expected::{Expected, Opening, Sort, expected};
 pub use node::{BinaryOp, Entries, Name, Names, Node, Nodes, Outward, Row, Rows, Span, Tree, UnaryOp};
 
 /// The most tokens of a script, the Eof at its end counted.
@@ -287,6 +302,12 @@ impl Rooms {
         read(text, list, limit, Lent { nodes, links, symbols, scratch })
     }
 
+    /// What could have stood where [`Rooms::read`] or [`Rooms::read_with`] has just refused a text, and what was open there:
+    /// [`expected`] over the tokens that it left. After a [`Rooms::parse`] call [`expected`] with the tokens that it was given.
+    pub fn expected(&self, why: Refusal) -> Expected {
+        expected(&self.list, why)
+    }
+
     /// Reads a script's text and tokens: [`parse`] in these rooms.
     pub fn parse<'a>(&'a mut self, text: &'a [u8], tokens: &[u32], limit: u32) -> Result<Tree<'a>, Refusal> {
         let Rooms { nodes, links, symbols, scratch, .. } = self;
@@ -356,6 +377,10 @@ pub struct Refusal {
     /// where all other numbers are the same: without a kind it is `scratch` that is too small, or the symbol room for the
     /// built-in names.
     pub found: Option<u32>,
+    /// The edition that the script was read in.
+    pub edition: Edition,
+    /// The limit that it was read within.
+    pub limit: u32,
 }
 
 impl Refusal {
@@ -455,7 +480,8 @@ pub fn read<'a>(text: &'a [u8], list: &mut [u32], limit: u32, rooms: Lent<'a>) -
     let Lent { nodes, links, symbols, scratch } = rooms;
     let mut answer = [0; 8];
     let code = raw::read(text, list, limit, nodes, links, symbols, scratch, &mut answer);
-    tree(answer, Builtins::NONE, text, made(list, code), Lent { nodes, links, symbols, scratch })
+    let read = (Edition::FIRST, limit);
+    tree(answer, read, Builtins::NONE, text, made(list, code), Lent { nodes, links, symbols, scratch })
 }
 
 /// [`read`] beside built-in names, in an edition.
@@ -472,7 +498,8 @@ pub fn read_with<'a>(
     let mut answer = [0; 8];
     let code =
         raw::read_with(names, rows, text, list, edition, limit, nodes, links, symbols, scratch, &mut answer);
-    tree(answer, builtins, text, made(list, code), Lent { nodes, links, symbols, scratch })
+    let read = (Edition(edition), limit);
+    tree(answer, read, builtins, text, made(list, code), Lent { nodes, links, symbols, scratch })
 }
 
 /// The tokens of a list that was made, up to their Eof. How many there are matters after a 4 alone.
@@ -500,7 +527,8 @@ pub fn parse<'a>(text: &'a [u8], tokens: &[u32], limit: u32, rooms: Lent<'a>) ->
     let Lent { nodes, links, symbols, scratch } = rooms;
     let mut answer = [0; 8];
     raw::parse(text, tokens, limit, nodes, links, symbols, scratch, &mut answer);
-    tree(answer, Builtins::NONE, text, tokens, Lent { nodes, links, symbols, scratch })
+    let read = (Edition::FIRST, limit);
+    tree(answer, read, Builtins::NONE, text, tokens, Lent { nodes, links, symbols, scratch })
 }
 
 /// [`parse`] beside built-in names, in an edition.
@@ -516,11 +544,13 @@ pub fn parse_with<'a>(
     let Builtins { text: names, rows } = builtins;
     let mut answer = [0; 8];
     raw::parse_with(names, rows, text, tokens, edition, limit, nodes, links, symbols, scratch, &mut answer);
-    tree(answer, builtins, text, tokens, Lent { nodes, links, symbols, scratch })
+    let read = (Edition(edition), limit);
+    tree(answer, read, builtins, text, tokens, Lent { nodes, links, symbols, scratch })
 }
 
 fn tree<'a>(
     [code, node_rows, link_rows, symbol_rows, at, start, end, expected]: [u32; 8],
+    (edition, limit): (Edition, u32),
     builtins: Builtins<'a>,
     text: &'a [u8],
     tokens: &[u32],
@@ -538,5 +568,6 @@ fn tree<'a>(
     };
     let expected = (expected != NO_KIND).then_some(expected);
     let found = (at as usize).checked_mul(TOKEN_WIDTH).and_then(|kind| tokens.get(kind)).copied();
-    Err(Refusal { code, at, span: Span { start, end }, expected, found: found.filter(|_| names_token) })
+    let found = found.filter(|_| names_token);
+    Err(Refusal { code, at, span: Span { start, end }, expected, found, edition, limit })
 }

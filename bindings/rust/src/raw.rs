@@ -37,6 +37,10 @@ unsafe extern "C" {
         count: u32, built: u32, symbol: u32, answer: *mut u32, answer_len: usize,
     ) -> u32;
     fn kaori_message(code: u32, expected: u32, found: u32, room: *mut u8, room_len: usize) -> usize;
+    fn kaori_expected(
+        tokens: *const u32, tokens_len: usize, edition: u32, limit: u32, code: u32, at: u32,
+        told: *mut u32, told_len: usize,
+    ) -> u64;
     fn kaori_place(text: *const u8, text_len: usize, offset: usize, answer: *mut u32, answer_len: usize) -> u32;
 }
 
@@ -122,6 +126,13 @@ pub fn name(
 pub fn message(code: u32, expected: u32, found: u32, room: &mut [u8; 52]) -> usize {
     // SAFETY: as the module says.
     unsafe { kaori_message(code, expected, found, room.as_mut_ptr(), room.len()) }
+}
+
+pub fn expected(tokens: &[u32], edition: u32, limit: u32, code: u32, at: u32, told: &mut [u32; 131]) -> u64 {
+    // SAFETY: as the module says.
+    unsafe {
+        kaori_expected(tokens.as_ptr(), tokens.len(), edition, limit, code, at, told.as_mut_ptr(), told.len())
+    }
 }
 
 pub fn place(text: &[u8], offset: usize, answer: &mut [u32; 3]) -> u32 {

@@ -201,7 +201,15 @@ fn room_for_the_names() {
     assert!((2..8).contains(&turns));
     // and no further
     let mut rooms = Rooms::for_tokens_with(builtins, 6);
-    let why = Refusal { code: 4, at: 0, span: Default::default(), expected: None, found: Some(IDENTIFIER) };
+    let why = Refusal {
+        code: 4,
+        at: 0,
+        span: Default::default(),
+        expected: None,
+        found: Some(IDENTIFIER),
+        edition: Edition::FIRST,
+        limit: 64,
+    };
     assert_eq!(rooms.grow_with(builtins, why), Err(why));
     assert_eq!(
         rooms.grow_with(builtins, Refusal { found: None, ..why }),

@@ -57,6 +57,7 @@ pub mod Overflow
 pub mod Reader
 pub mod Doors
 pub mod Spelled
+pub mod Told
 pub mod Samples
 pub mod Replies
 pub mod Named

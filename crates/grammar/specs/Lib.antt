@@ -30,6 +30,7 @@ pub mod Float
 pub mod Derivative
 pub mod Run
 pub mod Spelled
+pub mod Told
 pub mod Samples
 pub mod Replies
 pub mod Named

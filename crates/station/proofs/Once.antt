@@ -7,11 +7,12 @@ use lib.ListN.{length}
 use Rattle.diagnostics.specs.Message.{text-of}
 use Rattle.diagnostics.proofs.Messages.{one-message as one-text}
 use Rattle.diagnostics.proofs.Places.{one-place as one-line}
+use Rattle.expected.proofs.Once.{one-told}
 use Rattle.grammar.specs.Builtin.{Builtins}
 use Rattle.grammar.specs.Room.{Rooms}
 use Rattle.naming.proofs.Telling.{one-place as one-name-place}
 use Rattle.reader.proofs.Texts.{one-read as one-answer}
-use Rattle.station.specs.Exports.{listed, placed, name-placed, put, Parses, Reads-text, Places, Writes, Names-place}
+use Rattle.station.specs.Exports.{listed, placed, name-placed, told, put, Parses, Reads-text, Places, Writes, Names-place, Tells-expected}
 use Rattle.syntax.proofs.Promises.{one-parse as one-tree}
 
 pub one-parse : {names : Builtins} {text ts : List ℕ} {edition limit : ℕ} {before after after′ : Rooms} {room out out′ : List ℕ} {r r′ : ℕ} → Parses names text ts edition limit before room after out r → Parses names text ts edition limit before room after′ out′ r′ → (r ≡ r′) × (out ≡ out′) × (after ≡ after′)
@@ -47,3 +48,16 @@ no-room h (Writes.written p) = (ap (λ m. m .length) (p .refused h), p .untouche
 
 pub with-room : {code expected found : ℕ} {before after : List ℕ} {r : ℕ} → 52 ≤ length before → Writes code expected found before after r → (r ≡ length (text-of code expected found)) × (after ≡ put (text-of code expected found) before)
 with-room h (Writes.written p) = (ap (λ m. m .length) (p .answer h), p .room h)
+
+pub one-expected : {ts : List ℕ} {edition limit code at : ℕ} {room out out′ : List ℕ} {r r′ : ℕ} → Tells-expected ts edition limit code at room out r → Tells-expected ts edition limit code at room out′ r′ → (r ≡ r′) × (out ≡ out′)
+one-expected (Tells-expected.short h p) (Tells-expected.short i q) = (ap (λ t. t .kinds) (one-told p q), refl)
+one-expected (Tells-expected.short h p) (Tells-expected.whole i q) = absurd (omega arith)
+one-expected (Tells-expected.whole h p) (Tells-expected.short i q) = absurd (omega arith)
+one-expected {room = room} (Tells-expected.whole h p) (Tells-expected.whole i q) = let e = one-told p q in (ap (λ t. t .kinds) e, ap (λ t. put (told t) room) e)
+
+-- the set does not depend on the room
+pub same-set : {ts : List ℕ} {edition limit code at : ℕ} {room room′ out out′ : List ℕ} {r r′ : ℕ} → Tells-expected ts edition limit code at room out r → Tells-expected ts edition limit code at room′ out′ r′ → r ≡ r′
+same-set (Tells-expected.short h p) (Tells-expected.short i q) = ap (λ t. t .kinds) (one-told p q)
+same-set (Tells-expected.short h p) (Tells-expected.whole i q) = ap (λ t. t .kinds) (one-told p q)
+same-set (Tells-expected.whole h p) (Tells-expected.short i q) = ap (λ t. t .kinds) (one-told p q)
+same-set (Tells-expected.whole h p) (Tells-expected.whole i q) = ap (λ t. t .kinds) (one-told p q)

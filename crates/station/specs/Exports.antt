@@ -1,5 +1,6 @@
--- What the exported functions answer: what `parse_with`, `read_with`, `message` and the two `place` answer. C gets an answer of more than one number at the start of a lent room, the
--- numbers in document 01's order, and its code once more as the value of the call. Where that room is too short the code is 13, and nothing else is done.
+-- What the exported functions answer: what `parse_with`, `read_with`, `message`, `expected` and the two `place` answer. C gets an answer of more than one number at the start of a lent room, the
+-- numbers in document 01's order, and its code once more as the value of the call. Where that room is too short the code is 13, and nothing else is done. Of what could have stood at a token the
+-- value of the call is the set of kinds, which stands in no room and is answered in any.
 use Prim.Native.Nat.{ℕ, _≤_, _<_}
 use mathlib.Core.List.{List, [], _∷_, _++_}
 use lib.ListN.{length, drop}
@@ -7,6 +8,9 @@ use Rattle.diagnostics.specs.Line.{Placed}
 use Rattle.diagnostics.specs.Message.{Message-given}
 use Rattle.diagnostics.specs.declared.Message.{Message}
 use Rattle.diagnostics.specs.declared.Place.{Place}
+use Rattle.expected.specs.Tells.{Tells}
+use Rattle.expected.specs.declared.Opening.{Opening}
+use Rattle.expected.specs.declared.Told.{Told}
 use Rattle.grammar.specs.Builtin.{Builtins}
 use Rattle.grammar.specs.Room.{Rooms}
 use Rattle.naming.specs.Name.{Place-told}
@@ -50,3 +54,17 @@ name-placed p = p .code ∷ p .start ∷ p .end ∷ []
 pub data Names-place (names text symbols : List ℕ) (count built symbol : ℕ) (room : List ℕ) : List ℕ → ℕ → Type 0 where
   short : length room < 3 → Names-place names text symbols count built symbol room room 13
   place : {p : PlaceAnswer} → 3 ≤ length room → Place-told names text symbols count built symbol p → Names-place names text symbols count built symbol room (put (name-placed p) room) (p .code)
+
+-- of the open constructs, each its sort and its opening token
+unfoldable pub pairs : List Opening → List ℕ
+pairs [] = []
+pairs (e ∷ es) = e .sort ∷ e .at ∷ pairs es
+
+-- 'how many kinds could have stood there, and the lowest numbered one'; and the chain: how many are open, and then each entry
+abbrev pub told : Told → List ℕ
+told t = t .count ∷ t .lowest ∷ t .chain .count ∷ pairs (t .chain .entries)
+
+-- the set is answered in both cases
+pub data Tells-expected (ts : List ℕ) (edition limit code at : ℕ) (room : List ℕ) : List ℕ → ℕ → Type 0 where
+  short : {t : Told} → length room < 131 → Tells ts edition limit code at t → Tells-expected ts edition limit code at room room (t .kinds)
+  whole : {t : Told} → 131 ≤ length room → Tells ts edition limit code at t → Tells-expected ts edition limit code at room (put (told t) room) (t .kinds)

@@ -1,7 +1,10 @@
-// What a station links: `parse_with` and `read_with`, both of edition 1 beside no names too, the message of a refusal, the line of a place and the place of a name, for
-// C and Rust to call, over numbers and slices alone. None has a `requires`. A slice is a pointer and a length to C, in this order.
+// What a station links: `parse_with` and `read_with`, both of edition 1 beside no names too, the message of a refusal, what could have stood there, the line of a place and
+// the place of a name, for C and Rust to call, over numbers and slices alone. None has a `requires`. A slice is a pointer and a length to C, in this order.
 use diagnostics::line::place;
 use diagnostics::text::message;
+use expected::Chain;
+use expected::Told;
+use expected::expected;
 use reader::read_with;
 use syntax::Numbers;
 use syntax::parse_with;
@@ -10,7 +13,8 @@ ghost use Prim.Native.Nat.{_≤_};
 ghost use mathlib.Core.Path.{_≡_};
 ghost use lib.ListN.{length};
 ghost use Rattle.grammar.specs.Builtin.{builtins as names-in, none};
-ghost use Rattle.station.specs.Exports.{listed, put, Parses, Reads-text, Places, Writes, Names-place};
+ghost use Rattle.ast.specs.Written.{Written};
+ghost use Rattle.station.specs.Exports.{listed, put, pairs, told, Parses, Reads-text, Places, Writes, Names-place, Tells-expected};
 ghost use Rattle.syntax.specs.Parsed.{rooms};
 
 // Puts the eight numbers of an answer at the start of a room.
@@ -226,4 +230,61 @@ pub extern "C" fn kaori_name<'a>(
     answer[1] = p.start;
     answer[2] = p.end;
     p.code
+}
+
+// The numbers of what is told of a refusal: how many kinds, the lowest one and how many constructs are open, and then a sort and a token for each of 64.
+const TOLD: usize = 131;
+
+const TOLD_CHAIN: usize = 3;
+
+const MOST_OPEN: usize = 64;
+
+// Puts the sorts and tokens of a chain where they stand in the room for what is told.
+fn put_chain(chain: Chain, room: &mut [u32])
+    requires { ⌜ 131 ≤ length (now room) ⌝ }
+    requires { ⌜ length (chain .entries) ≡ 64 ⌝ }
+    ensures { λ _. ⌜ Written 3 131 (pairs (chain .entries)) (now (room .entry)) (now (room .exit)) ⌝ }
+{
+    let mut i = 0usize;
+    while i < MOST_OPEN {
+        let entry = chain.entries[i];
+        room[TOLD_CHAIN + 2 * i] = entry.sort;
+        room[TOLD_CHAIN + 2 * i + 1] = entry.at;
+        i = i + 1;
+    }
+}
+
+// Puts the numbers of what is told at the start of a room.
+fn put_told(t: Told, room: &mut [u32])
+    requires { ⌜ 131 ≤ length (now room) ⌝ }
+    requires { ⌜ (t .chain .count ≤ 64) × (length (t .chain .entries) ≡ 64) ⌝ }
+    ensures { λ _. ⌜ now (room .exit) ≡ put (told t) (now (room .entry)) ⌝ }
+{
+    let chain = t.chain;
+    room[0] = t.count;
+    room[1] = t.lowest;
+    room[2] = chain.count as u32;
+    put_chain(chain, room);
+}
+
+// What could have stood at a token where reading is refused, and what was open there: `expected`. The set of kinds is the value of the call; the room is left as it was
+// where it is too short for the rest.
+// Ruled out: the sort and the token of a construct in each other's place; an empty set where the room is too short; the code in the place of the limit.
+#[no_mangle]
+pub extern "C" fn kaori_expected(
+    tokens: &[u32],
+    edition: u32,
+    limit: u32,
+    code: u32,
+    at: u32,
+    told: &mut [u32],
+) -> u64
+    ensures { λ r. ⌜ Tells-expected (now (tokens .entry)) edition limit code at (now (told .entry)) (now (told .exit)) r ⌝ }
+{
+    let t = expected(tokens, edition, limit, code, at);
+    if told.len() < TOLD {
+        return t.kinds;
+    }
+    put_told(t, told);
+    t.kinds
 }
