@@ -1,5 +1,6 @@
 // What could have stood at a refused token, and what was open there: document 02, L2. A pass of its own over the tokens up to the place: reading does not change, and a
 // script that is read pays nothing.
+pub mod sorts;
 mod stack;
 mod tables;
 
@@ -30,7 +31,7 @@ ghost use Rattle.expected.specs.Tables.{tables};
 ghost use Rattle.expected.specs.Left.{Asked-of, Asks, Asked, Reached, Left-at};
 ghost use Rattle.expected.specs.Tells.{lowest-of, code-of, opened-by, Filled, Nothing, Tells};
 
-// An open construct: expression 0, block 1, `if` 2, sign 3; and its opening token.
+// An open construct: its sort (module sorts), and its opening token.
 pub struct Opening {
     pub sort: u32,
     pub at: u32,
@@ -66,6 +67,9 @@ const MOST_DEPTH: u32 = 64;
 
 const KINDS: u32 = 45;
 
+const NO_KIND: u32 = 255;
+
+// The room of the stack: what is left to read has at most 12 cells for each opening, and 11 more; and a list of eight is put on it.
 const ROOM: usize = 1024;
 
 fn empty_chain() -> Chain
@@ -77,6 +81,7 @@ fn empty_chain() -> Chain
     }
 }
 
+// A chain with one more construct.
 fn with(c: Chain, sort: u32, at: u32) -> Chain
     requires { ⌜ c .count < 64 ⌝ }
     ensures { λ r. ⌜ Extends c sort at r ⌝ }
@@ -88,7 +93,7 @@ fn with(c: Chain, sort: u32, at: u32) -> Chain
     d
 }
 
-// The outermost marks of a stack whose top is here, from the bottom up: so many at most.
+// The outermost marks of a stack whose top is here, from the bottom up: so many at most. A mark's cell is four times its token and its sort, from MARK on.
 fn open(room: &[u32], top: usize, most: usize) -> Chain
     requires { ⌜ top ≤ length (now room) ⌝ }
     requires { ⌜ Sound (drop top (now room)) ⌝ }
@@ -122,14 +127,15 @@ fn inside(c: Chain, number: usize, at: u32) -> Chain
     ensures { λ r. ⌜ Inside c number at r ⌝ }
 {
     if number == NO_OPERAND_OPENED {
-        return with(c, 0, at);
+        return with(c, sorts::EXPRESSION, at);
     }
     if number == NO_BLOCK {
-        return with(c, 1, at);
+        return with(c, sorts::BLOCK, at);
     }
     c
 }
 
+// A number, or 0.
 fn chosen(b: bool, bit: u64) -> u64
     ensures { λ r. ⌜ r ≡ cond b bit 0 ⌝ }
 {
@@ -203,11 +209,12 @@ fn left(table: &[u8], tokens: &[u32], edition: u32, limit: u32, at: usize, room:
     Rest::At(top, depth)
 }
 
+// The lowest kind of a set, and how many it has.
 fn lowest(kinds: u64) -> u32
     ensures { λ r. ⌜ r ≡ lowest-of kinds ⌝ }
 {
     if kinds == 0 {
-        return 255;
+        return NO_KIND;
     }
     u64::trailing_zeros(kinds)
 }
@@ -230,6 +237,7 @@ fn fill(kinds: u64, chain: Chain) -> Told
     }
 }
 
+// What is told where there is nothing to tell.
 fn nothing() -> Told
     ensures { λ r. ⌜ Nothing r ⌝ }
 {

@@ -7,18 +7,10 @@ use crate::tree::put_place;
 use crate::words::least;
 use crate::words::put_cell;
 use expected::Chain;
+use expected::sorts;
 use token::kinds;
 use wire::output::found;
 ghost use Prim.Native.Nat.{_≤_};
-
-// The sorts of the chain.
-const AN_EXPRESSION: u32 = 0;
-
-const A_BLOCK: u32 = 1;
-
-const AN_IF: u32 = 2;
-
-const A_SIGN: u32 = 3;
 
 // The words of what is open: a cell of 34 bytes each, with `_` for a blank.
 const WORDS: [u8; 306] = *b"\
@@ -145,21 +137,21 @@ fn entry_word(list: &[u32], sort: u32, token: u32, at: u32, all: bool, kept: boo
     if token == at {
         return NOTHING;
     }
-    if sort < AN_IF {
+    if sort < sorts::IF {
         if before(list, token, 1) == kinds::PIPE {
             return LAMBDA;
         }
     }
-    if sort == AN_IF {
+    if sort == sorts::IF {
         return IF;
     }
     if !all {
         return NOTHING;
     }
-    if sort == A_SIGN {
+    if sort == sorts::SIGN {
         return SIGN;
     }
-    if sort == A_BLOCK {
+    if sort == sorts::BLOCK {
         return NOTHING;
     }
     if kept {
@@ -276,7 +268,7 @@ fn pass_entry(
         return say(text, list, word, start_token(list, word, token), w, out);
     }
     let mut next = w;
-    if sort == AN_EXPRESSION {
+    if sort == sorts::EXPRESSION {
         next.kept = false;
     }
     next
