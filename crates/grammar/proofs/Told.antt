@@ -6,11 +6,11 @@ use mathlib.Core.Logic.{_↔_, inl, inr}
 use mathlib.Core.Path.{_≡_, refl, sym, ap, subst, _∙_}
 use native.Mathlib.Decide.{ℕ-discrete, decLe, decLt}
 use native.Mathlib.Omega.{arith}
-use lib.Dec.{T, leb, leb→le}
+use lib.Dec.{T, leb, leb→le, le→leb}
 use lib.ListN.{length}
 use Rattle.grammar.specs.Door.{Right-edition, Whole}
 use Rattle.grammar.specs.Edition.{Edition, edition}
-use Rattle.grammar.specs.Expected.{Could-stand, Opening, opening, openings, Met, Expects}
+use Rattle.grammar.specs.Expected.{Could-stand, Opening, opening, openings, Met, Expects, gathered, how-many, lowest-from}
 use Rattle.grammar.specs.Handle.{block-tail, block-list}
 use Rattle.grammar.specs.Kaori.{Table, Form, above, rules, kaori, script}
 use Rattle.grammar.specs.Kind.{Eof}
@@ -22,12 +22,12 @@ use Rattle.grammar.specs.Rows.{blank, links-of, numbers, write, fill, pu
 use Rattle.grammar.specs.Rule.{rule}
 use Rattle.grammar.specs.Space.{Space, has-word}
 use Rattle.grammar.specs.Token.{kind, count}
-use Rattle.grammar.specs.Told.{Telling, tokens-of, Told-so, All-told, tellings}
+use Rattle.grammar.specs.Told.{Telling, tokens-of, Told-so, Numbers-so, All-told, tellings}
 use Rattle.grammar.proofs.Expected.{could, stands}
 use Rattle.grammar.proofs.Reader.{Answer, read, refuse, unknown, fit-rows, fit-word, fit, reader}
 use Rattle.grammar.proofs.Stack.{Item, want, links, mark, Stack, Turn, Result, took, over, bars, Goes, After, one-more}
 use Rattle.grammar.proofs.Stopping.{one-chain}
-use Rattle.grammar.proofs.Tests.{both, passes, within}
+use Rattle.grammar.proofs.Tests.{both, all, passes, within}
 use Rattle.grammar.proofs.Verdicts.{Move, turns, needs, stops, strays, link-move, move}
 
 -- a proof, or none was found
@@ -50,6 +50,14 @@ asked (no h) f = lost
 tested : {B : Type 0} (b : Bool) → (T b → Found B) → Found B
 tested true f = f tt
 tested false f = lost
+
+passing : (p : ℕ → Bool) (a n : ℕ) → ((i : ℕ) → a ≤ i → i < a + n → T (p i)) → T (passes p a n)
+passing p a zero f = tt
+passing p a (suc n) f = all (p a) (passes p (suc a) n) (f a (omega arith) (omega arith)) (passing p (suc a) n (λ i h l. f i (omega arith) (omega arith)))
+
+no-test : (b : Bool) → b ≡ false → T b → ⊥
+no-test true e t = let z : _≡_ {A = ℕ} 0 1 = cc in omega (arith, z)
+no-test false e t = t
 
 -- what comes of a kind before a stack
 module _ (e : Edition) where
@@ -217,6 +225,14 @@ module _ (t : Telling) where
   neither f g (inl e) = f e
   neither f g (inr e) = g e
 
+  -- a token of the list, and kinds that there are
+  right-kinds : (b : Bool) → passes (λ i. leb (kind ts i) Eof) 0 (suc (t .place)) ≡ b → Found (Told-so t) → Found (Told-so t)
+  right-kinds true e f = f
+  right-kinds false e f = nothing-told (λ l u m. no-test (passes (λ i. leb (kind ts i) Eof) 0 (suc (t .place))) e (passing (λ i. leb (kind ts i) Eof) 0 (suc (t .place)) (λ i h k. le→leb (kind ts i) Eof (m .known i (omega arith))))) (t .set) refl (t .chain) refl
+
+  read-so : Found (Told-so t)
+  read-so = answered (reader ts (λ i. 0) (t .limit) (record { nodes = 1000; links = 1000 }) (kaori (edition (t .edition))) (kind ts) 400 script 0 0 blank zero-le (record { nodes = zero-le; links = zero-le }))
+
   told : Found (Told-so t)
   told = elim (ℕ-discrete (t .edition) 1) [
     | yes e ↦ go
@@ -224,16 +240,22 @@ module _ (t : Telling) where
   ]
     where
       go : Found (Told-so t)
-      go = answered (reader ts (λ i. 0) (t .limit) (record { nodes = 1000; links = 1000 }) (kaori (edition (t .edition))) (kind ts) 400 script 0 0 blank zero-le (record { nodes = zero-le; links = zero-le }))
+      go = elim (decLe (suc (t .place)) (count ts)) [ yes h ↦ right-kinds (passes (λ i. leb (kind ts i) Eof) 0 (suc (t .place))) refl read-so | no h ↦ nothing-told (λ l u m. absurd (h (m .inside))) (t .set) refl (t .chain) refl ]
+
+  numbered : Found (Numbers-so t)
+  numbered = asked (ℕ-discrete (gathered (among (t .set)) 45) (t .number)) (λ a. asked (ℕ-discrete (how-many (among (t .set)) 45) (t .count)) (λ b. asked (ℕ-discrete (lowest-from (among (t .set)) 0 45) (t .lowest)) (λ c. found (record { number = a; count = b; lowest = c }))))
 
 abbrev each : List Telling → Bool
 each [] = true
-each (u ∷ us) = is-found (told u) && each us
+each (u ∷ us) = is-found (told u) && (is-found (numbered u) && each us)
 
 all-told : (us : List Telling) → T (each us) → All-told us
 all-told [] h = tt
-all-told (u ∷ us) h = let (a, b) = both (is-found (told u)) (each us) h in (the-proof (told u) a, all-told us b)
+all-told (u ∷ us) h =
+    let (a, b) = both (is-found (told u)) (is-found (numbered u) && each us) h in
+    let (c, d) = both (is-found (numbered u)) (each us) b in
+    (the-proof (told u) a, the-proof (numbered u) c, all-told us d)
 
 pub told-right : All-told tellings
-unfolding told answered neither here deep-told unread-told chained set-right nothing-told other met whole which-edition same-openings all-decided both-found decided lefts next taken run moved turned asked tested the-proof openings reader fit fit-word fit-rows has-word kaori rules above edition ℕ-discrete decLe decLt move link-move walk make put fill write numbers links-of rule block-list block-tail
+unfolding told numbered read-so right-kinds no-test passing gathered how-many lowest-from answered neither here deep-told unread-told chained set-right nothing-told other met whole which-edition same-openings all-decided both-found decided lefts next taken run moved turned asked tested the-proof openings reader fit fit-word fit-rows has-word kaori rules above edition ℕ-discrete decLe decLt move link-move walk make put fill write numbers links-of rule block-list block-tail
 told-right = all-told tellings tt
