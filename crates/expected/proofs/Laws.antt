@@ -12,21 +12,30 @@ use Rattle.grammar.proofs.Stopping.{marks}
 use Rattle.grammar.proofs.Tests.{both, passes, within}
 use Rattle.expected.specs.Cells.{states, state, cell, joined, list, opens-of, decoded, sound, listed, Sound, bare, more, Celled, Pushed}
 use Rattle.expected.specs.Tables.{lengths, lists}
+use Rattle.expected.proofs.Lent.{every, at-every, lengths-length, lists-length}
 
 -- where a list ends
 abbrev pub end-of : ℕ → ℕ
 end-of k = 8 * k + getD lengths k 0
 
+all-short : T (every (λ n. leb n 8) lengths)
+unfolding lengths every
+all-short = tt
+
 pub short : (k : ℕ) → k < 171 → getD lengths k 0 ≤ 8
-unfolding lengths
-short k h = leb→le (getD lengths k 0) 8 (within (λ k. leb (getD lengths k 0) 8) 0 171 k tt (omega arith) h)
+short k h = leb→le (getD lengths k 0) 8 (at-every (λ n. leb n 8) lengths k all-short (omega (arith, lengths-length)))
+
+-- each number of a list is a state's or a mark's
+right-number : ℕ → Bool
+right-number v = listed v && ltb v 64
+
+all-right : T (every right-number lists)
+unfolding lists every right-number listed
+all-right = tt
 
 pub number : (i : ℕ) → i < 1368 → T (listed (getD lists i 0)) × (getD lists i 0 < 64)
-unfolding lists listed
-number i h =
-    let test : ℕ → Bool = λ i. listed (getD lists i 0) && ltb (getD lists i 0) 64 in
-    let (a, b) = both (listed (getD lists i 0)) (ltb (getD lists i 0) 64) (within test 0 1368 i tt (omega arith) h) in
-    (a, ltb→lt _ _ b)
+unfolding right-number
+number i h = let (a, b) = both (listed (getD lists i 0)) (ltb (getD lists i 0) 64) (at-every right-number lists i all-right (omega (arith, lists-length))) in (a, ltb→lt _ _ b)
 
 -- how many constructs a list opens
 pub opens-right : (c k : ℕ) → k < 171 → marks (joined c (list k)) ≡ opens-of k
@@ -68,10 +77,6 @@ piling k at top room h = record {
 
 set-drop : (l : List ℕ) (t r : ℕ) → t < length l → drop t (set l t r) ≡ r ∷ drop (suc t) l
 set-drop l t r h = drop-cons (set l t r) t 0 (rw (length-set l t r) h) ∙ (rw (getD-set-same l t r 0 h, drop-set-lt (suc t) l t r (omega arith)))
-
-lists-length : length lists ≡ 1368
-unfolding lists
-lists-length = refl
 
 pub piled : {k at top : ℕ} {before after : List ℕ} {i t r : ℕ} → Piling k at top before after (i + 1) (t + 1) → 8 * k ≤ i → t < length after → Celled (getD lists i 0) at r → Piling k at top before (set after t r) i t
 unfolding joined decoded

@@ -1,21 +1,34 @@
--- What stands where in the tables: one after the other.
-use Prim.Native.Nat.{ℕ, _+_, _<_, _≤_}
-use mathlib.Core.List.{List, _++_}
+-- What stands where in the tables: one after the other. And a test of every number of a list.
+use Prim.Native.Nat.{ℕ, zero, suc, _+_, _<_}
+use mathlib.Core.Bool.{Bool, true, _&&_}
+use mathlib.Core.List.{List, [], _∷_, _++_}
 use mathlib.Core.Path.{_≡_, refl, ap, _∙_}
 use native.Mathlib.Omega.{arith}
+use lib.Dec.{T}
 use lib.ListN.{length, getD, List·getD-append, length-append}
 use lib.Seq.{getD-append-add}
+use Rattle.grammar.proofs.Tests.{both}
 use Rattle.expected.specs.Tables.{table, lengths, lists, tables}
 
-table-length : length table ≡ 2646
+unfoldable pub every : (ℕ → Bool) → List ℕ → Bool
+every p [] = true
+every p (x ∷ xs) = p x && every p xs
+
+pub at-every : (p : ℕ → Bool) (xs : List ℕ) (i : ℕ) → T (every p xs) → i < length xs → T (p (getD xs i 0))
+unfolding every
+at-every p [] i t h = absurd (omega arith)
+at-every p (x ∷ xs) zero t h = both (p x) (every p xs) t .0
+at-every p (x ∷ xs) (suc i) t h = at-every p xs i (both (p x) (every p xs) t .1) (omega arith)
+
+pub table-length : length table ≡ 2646
 unfolding table
 table-length = refl
 
-lengths-length : length lengths ≡ 171
+pub lengths-length : length lengths ≡ 171
 unfolding lengths
 lengths-length = refl
 
-lists-length : length lists ≡ 1368
+pub lists-length : length lists ≡ 1368
 unfolding lists
 lists-length = refl
 

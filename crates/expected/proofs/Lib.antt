@@ -1,5 +1,5 @@
-pub mod Numbering
 pub mod Lent
+pub mod Numbering
 pub mod Laws
 pub mod Passing
 pub mod Counting

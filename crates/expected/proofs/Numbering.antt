@@ -13,7 +13,8 @@ use Rattle.grammar.specs.Kaori.{above, rules, kaori}
 use Rattle.grammar.proofs.Tests.{both, passes, within}
 use Rattle.grammar.proofs.Verdicts.{look, moved, move, needed, link-move}
 use Rattle.expected.specs.Cells.{states, state, joined, list, entry, column-of, Plain, plain, Acts}
-use Rattle.expected.specs.Tables.{table, lengths, lists, tables}
+use Rattle.expected.specs.Tables.{table, lengths, lists}
+use Rattle.expected.proofs.Lent.{every, at-every, table-length}
 
 abbrev upto : ℕ → ℕ → List ℕ
 upto a zero = []
@@ -75,9 +76,12 @@ rule e c s x h l =
     let d : come e c s ≡ said e c line = ap (come e c) o ∙ same-lines (come e c) (said e c) 49 0 54 table (right e c) s h in
     same-parts (λ x. plain (look e x c 40 (getD states s []) .verdict)) (λ x. entry c (getD line (column-of e x) 0)) 0 45 d x (omega arith) l ∙ ap (entry c) (getD-take 49 (drop (49 * s) table) (column-of e x) 0 (column-small e x l) ∙ getD-drop (49 * s) table (column-of e x) 0 ∙ ap (λ i. getD table i 0) m)
 
+all-small : T (every (λ x. ltb x 177) table)
+unfolding table every
+all-small = tt
+
 table-small : (i : ℕ) → i < 2646 → getD table i 0 < 177
-unfolding table
-table-small i h = ltb→lt (getD table i 0) 177 (within (λ i. ltb (getD table i 0) 177) 0 2646 i tt (omega arith) h)
+table-small i h = ltb→lt (getD table i 0) 177 (at-every (λ x. ltb x 177) table i all-small (omega (arith, table-length)))
 
 pub acts : (e : Edition) (s x : ℕ) → s < 54 → x < 45 → Acts e s x (getD table (s * 49 + column-of e x) 0)
 acts e s x h l = record { says = λ c. rule e c s x h l; bound = table-small (s * 49 + column-of e x) (omega (arith, column-small e x l)) }

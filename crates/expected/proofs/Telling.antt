@@ -294,11 +294,9 @@ module _ {n : ℕ} {ts : List ℕ} {limit code place : ℕ} where
         unfolding below
         room-inside k y = omega (arith, h, opened-one a y, count-length (whole-chain k), opened-length below, s .deep, asked .least-depth)
 
-        pub barred-told : {kinds : ℕ} {o c : Chain} {r : Told} → code ≡ code-of a → Gathers (edition n) (decoded (drop top after)) 45 kinds → Chained (take limit (opened (decoded (drop (t + 1) after)))) o → Inside o a place c → Filled kinds c r → Tells ts n limit code place r
-        unfolding below
-        barred-told {kinds} {o} {c} {r} e g k i f =
-            let (code′, expected, e′, x) = refuses-by in
-            let (m, q) = met (subst (λ y. Meets (kaori (edition n)) (kind ts) limit (want script ∷ []) 0 (refused y place expected) (s .stands ++ below)) (e′ ∙ sym e) x) in
+        -- the set and the chain of a refusal that is met there
+        with-met : {kinds : ℕ} {o c : Chain} {r : Told} (m : Met n ts limit code place) → openings (m .refusal) ≡ opened (s .stands ++ below) → code ≡ code-of a → Gathers (edition n) (decoded (drop top after)) 45 kinds → Chained (take limit (opened (decoded (drop (t + 1) after)))) o → Inside o a place c → Filled kinds c r → Tells ts n limit code place r
+        with-met {kinds} {o} {c} {r} m q e g k i f =
             let (l, u) = code-small a in
             record {
               could = g .member;
@@ -312,6 +310,12 @@ module _ {n : ℕ} {ts : List ℕ} {limit code place : ℕ} where
           where
             right : (x : ℕ) → x ≤ Eof → T (g .member x) ↔ Could-stand (edition n) (kind ts) place x
             right x l = let p = subst (λ z. Admits (edition n) x (decoded (drop top z)) (g .member x)) (s .kept) (g .right x (omega (arith, l))) in (λ y. could (edition n) (w .within .after) (p .result place) (p .goes place) (p .yes y place), λ y. p .no place (stands (edition n) (w .within .after) (p .result place) (p .goes place) y))
+
+        pub barred-told : {kinds : ℕ} {o c : Chain} {r : Told} → code ≡ code-of a → Gathers (edition n) (decoded (drop top after)) 45 kinds → Chained (take limit (opened (decoded (drop (t + 1) after)))) o → Inside o a place c → Filled kinds c r → Tells ts n limit code place r
+        barred-told e g k i f =
+            let (code′, expected, d, x) = refuses-by in
+            let (m, q) = met (subst (λ y. Meets (kaori (edition n)) (kind ts) limit (want script ∷ []) 0 (refused y place expected) (s .stands ++ below)) (d ∙ sym e) x) in
+            with-met m q e g k i f
 
 -- what a step's answer says
 module _ {e : Edition} {x c top : ℕ} {before after : List ℕ} where
