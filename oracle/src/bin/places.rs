@@ -30,7 +30,8 @@ const B: &str = "    2:1      Identifier                       b";
 const C: &str = "    3:1      Identifier                       c";
 const THREE: &str = "    1:1      Script                           a; b; c";
 
-const REFUSED: &[&str] = &["screen.kaori:1:5: expected <identifier> and found `=`", "let = 1;", "    ^"];
+const REFUSED: &[&str] =
+    &["screen.kaori:1:5: expected <identifier> and found `=`", "let = 1;", "    ^", "  expected a name"];
 const THREE_WORDS: &str = "at takes a file, a line and a column; see kaori help";
 
 #[rustfmt::skip]
