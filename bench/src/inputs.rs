@@ -118,7 +118,8 @@ pub fn all() -> Vec<Input> {
     ]
 }
 
-/// Scripts that are refused at their end: by 9 for the `return;`, then by 9 and by 8 with 60 constructs open, and by 11.
+/// Scripts that are refused at their end: by 9 for the `return;`, then by 9 and by 8 with 60 constructs open, and by 11; and
+/// two short ones, which show what is paid whatever the script.
 pub fn refusals() -> Vec<Input> {
     vec![
         input("screen", SCREEN.to_string() + "return;"),
@@ -126,6 +127,8 @@ pub fn refusals() -> Vec<Input> {
         input("nesting, parentheses", parentheses() + &"(".repeat(60) + ";"),
         input("nesting, blocks", blocks() + &"{".repeat(60) + "a b"),
         input("too deep, blocks", blocks() + &"{".repeat(65)),
+        input("a statement", "if typed and refreshed { advance(key.code; }".to_string()),
+        input("two names", "a b".to_string()),
     ]
 }
 
