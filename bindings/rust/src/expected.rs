@@ -110,8 +110,9 @@ impl std::fmt::Debug for Expected {
 /// the refused one do not matter. [`Rooms::expected`](crate::Rooms::expected) is the same after a
 /// [`Rooms::read`](crate::Rooms::read).
 ///
-/// It is a pass of its own over the tokens up to the place, and costs less than reading them did. Nothing is told where this
-/// list is not refused by this code at this token, in the refusal's edition and within its limit.
+/// It is a pass of its own over the tokens up to the place. From some 40 tokens on it costs less than reading them did; a
+/// shorter list costs about half a microsecond. Nothing is told where this list is not refused by this code at this token, in
+/// the refusal's edition and within its limit.
 ///
 /// ```
 /// use kaori_syntax::{Rooms, expected};
