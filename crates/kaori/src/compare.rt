@@ -1,30 +1,28 @@
 // What the two editions of Kaori group differently. Edition 2 accepts every script that edition 1 accepts, and groups it in the same way but for `not`, which takes the
 // whole expression after it in edition 1 and the next operand in edition 2. So a script is read in both, and each `not` that takes another part of the text is shown.
-use crate::cover::cover;
-use crate::cover::part_of;
-use crate::page::end_line;
-use crate::page::put;
-use crate::page::put_byte;
-use crate::page::put_number;
-use crate::report::line_start;
-use crate::report::put_columns;
-use crate::report::put_where;
-use crate::report::show_written;
-use crate::script::DEPTH;
-use crate::script::count;
 use crate::script::symbol_room;
-use crate::script::tell;
 use crate::script::ten_each;
 use crate::script::three_each;
-use crate::script::two_each;
-use crate::tree::put_place;
-use crate::words::least;
 use ast::kinds::LOGICAL_NOT;
 use children::node;
 use diagnostics::line::place;
 use diagnostics::line::writing_end;
+use page::end_line;
+use page::put;
+use page::put_number;
+use page::source::line_start;
+use page::source::put_place;
+use page::source::put_under;
+use page::source::put_where;
+use page::source::show_written;
+use page::words::least;
 use reader::read_with;
+use showing::cover::cover;
+use showing::cover::part_of;
+use showing::cover::two_each;
 use syntax::Numbers;
+use telling::DEPTH;
+use telling::tell;
 use token::editions;
 use token::kinds;
 ghost use Prim.Native.Nat.{_≤_};
@@ -88,33 +86,10 @@ fn read_ends(
     );
     if a.code == 0 {
         let mut covers = two_each();
-        let n = count(list);
-        cover(list, n, &nodes, &links, a.nodes, &mut covers);
+        cover(list, &nodes, &links, a.nodes, &mut covers);
         note_ends(list, &nodes, &covers, a.nodes, ends);
     }
     a
-}
-
-// What marks a byte: a tab for a tab, and a caret for anything else.
-fn mark(byte: u8) -> u8 {
-    if byte == 9 {
-        return 9;
-    }
-    b'^'
-}
-
-// The marks of the text from an offset up to another.
-fn put_marks(text: &[u8], start: usize, end: usize, out: &mut [u8; 4096], at: usize) -> usize
-    requires { ⌜ (end ≤ length (now text)) × (at ≤ 4096) ⌝ }
-    ensures { λ r. ⌜ r ≤ 4096 ⌝ }
-{
-    let mut now = at;
-    let mut i = start;
-    while i < end {
-        now = put_byte(mark(text[i]), out, now);
-        i += 1;
-    }
-    now
 }
 
 // What follows the marks of a part that ends at `end`: where its last byte stands, if that is past what is written on the line.
@@ -141,8 +116,8 @@ fn show_marks(
     requires { ⌜ (start ≤ offset) × (offset ≤ length (now text)) ⌝ }
 {
     let written = writing_end(text, offset);
-    let under = put_columns(&text[start..offset], out, 0);
-    let marked = put_marks(text, offset, least(written, end as usize), out, under);
+    let under = put_under(text, start, offset, b' ', out, 0);
+    let marked = put_under(text, offset, least(written, end as usize), b'^', out, under);
     let past = put_past(text, written, end, out, marked);
     let told = put(b" in edition ", out, past);
     let all = put_number(edition, out, told);

@@ -1,26 +1,17 @@
 // The command `kaori`, for those who write scripts: what a script reads as, what is wrong with it, what stands at a place of it, and what the editions group differently.
-mod at;
 mod builtin;
 mod compare;
-mod could;
-mod cover;
-mod listing;
+mod digits;
 mod load;
-mod open;
-mod page;
-mod reads;
-mod report;
 mod script;
-mod tree;
-mod words;
 
-use at::decimal;
 use builtin::ROWS;
 use builtin::list;
 use builtins::MOST;
 use builtins::NAME_WIDTH;
 use check::same;
 use compare::compare;
+use digits::decimal;
 use libc::STDOUT_FILENO;
 use load::complain;
 use load::fail;

@@ -1,0 +1,8 @@
+// What is shown of a script that is read.
+pub mod at;
+pub mod cover;
+pub mod listing;
+mod reads;
+pub mod statements;
+mod tree;
+mod words;
