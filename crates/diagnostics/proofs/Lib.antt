@@ -1,4 +1,5 @@
 pub mod Messages
+pub mod Reasons
 pub mod Places
 pub mod Offsets
 pub mod Lines

@@ -40,7 +40,7 @@ one-message {before = before} p q =
     ]
 
 -- every text fits 52 bytes, and so does a choice of two that do
-either : (b : Bool) (x y : List ℕ) → length x ≤ 52 → length y ≤ 52 → length (cond b x y) ≤ 52
+pub either : (b : Bool) (x y : List ℕ) → length x ≤ 52 → length y ≤ 52 → length (cond b x y) ≤ 52
 either true x y h i = h
 either false x y h i = i
 

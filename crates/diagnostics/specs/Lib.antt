@@ -1,2 +1,3 @@
 pub mod Message
+pub mod Reason
 pub mod Line

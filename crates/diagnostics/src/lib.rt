@@ -1,8 +1,9 @@
 // What is told of a refusal: its text, and the line and column of its place.
 pub mod line;
+pub mod reason;
 pub mod text;
 
-// The answer of `text::message`: 0, or refusal 13; and how many bytes were written.
+// The answer of `text::message` and of `reason::reason`: 0, or refusal 13; and how many bytes were written.
 pub struct Message {
     pub code: u32,
     pub length: usize,
