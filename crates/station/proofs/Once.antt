@@ -2,17 +2,23 @@
 use Prim.Native.Nat.{ℕ, _≤_, _<_}
 use native.Mathlib.Omega.{arith}
 use mathlib.Core.List.{List}
-use mathlib.Core.Path.{_≡_, refl, ap}
-use lib.ListN.{length}
+use mathlib.Core.Path.{_≡_, refl, ap, subst, _∙_}
+use lib.ListN.{length, List·getD-eq-default}
+use Rattle.grammar.specs.Handle.{absent}
+use Rattle.children.specs.Below.{Child, Places as Places-below, children}
+use Rattle.children.proofs.Laws.{places-length}
+use Rattle.children.proofs.Outcomes.{one-below, one-child as one-row, one-places as one-count}
 use Rattle.diagnostics.specs.Message.{text-of}
+use Rattle.diagnostics.specs.Reason.{reason-of}
 use Rattle.diagnostics.proofs.Messages.{one-message as one-text}
+use Rattle.diagnostics.proofs.Reasons.{one-reason as one-whole}
 use Rattle.diagnostics.proofs.Places.{one-place as one-line}
 use Rattle.expected.proofs.Once.{one-told}
 use Rattle.grammar.specs.Builtin.{Builtins}
 use Rattle.grammar.specs.Room.{Rooms}
 use Rattle.naming.proofs.Telling.{one-place as one-name-place}
 use Rattle.reader.proofs.Texts.{one-read as one-answer}
-use Rattle.station.specs.Exports.{listed, placed, name-placed, told, put, Parses, Reads-text, Places, Writes, Names-place, Tells-expected}
+use Rattle.station.specs.Exports.{listed, placed, name-placed, told, put, Parses, Reads-text, Places, Writes, Writes-reason, Names-place, Tells-expected, Has-child, Has-places}
 use Rattle.syntax.proofs.Promises.{one-parse as one-tree}
 
 pub one-parse : {names : Builtins} {text ts : List ℕ} {edition limit : ℕ} {before after after′ : Rooms} {room out out′ : List ℕ} {r r′ : ℕ} → Parses names text ts edition limit before room after out r → Parses names text ts edition limit before room after′ out′ r′ → (r ≡ r′) × (out ≡ out′) × (after ≡ after′)
@@ -49,6 +55,16 @@ no-room h (Writes.written p) = (ap (λ m. m .length) (p .refused h), p .untouche
 pub with-room : {code expected found : ℕ} {before after : List ℕ} {r : ℕ} → 52 ≤ length before → Writes code expected found before after r → (r ≡ length (text-of code expected found)) × (after ≡ put (text-of code expected found) before)
 with-room h (Writes.written p) = (ap (λ m. m .length) (p .answer h), p .room h)
 
+-- and so does the length of any refusal's text
+pub one-reason : {text : List ℕ} {code start expected found : ℕ} {before after after′ : List ℕ} {r r′ : ℕ} → Writes-reason text code start expected found before after r → Writes-reason text code start expected found before after′ r′ → (r ≡ r′) × (after ≡ after′)
+one-reason (Writes-reason.written p) (Writes-reason.written q) = let (e, f) = one-whole p q in (ap (λ m. m .length) e, f)
+
+pub no-reason : {text : List ℕ} {code start expected found : ℕ} {before after : List ℕ} {r : ℕ} → length before < 52 → Writes-reason text code start expected found before after r → (r ≡ 0) × (after ≡ before)
+no-reason h (Writes-reason.written p) = (ap (λ m. m .length) (p .refused h), p .untouched h)
+
+pub whole-reason : {text : List ℕ} {code start expected found : ℕ} {before after : List ℕ} {r : ℕ} → 52 ≤ length before → Writes-reason text code start expected found before after r → (r ≡ length (reason-of text code start expected found)) × (after ≡ put (reason-of text code start expected found) before)
+whole-reason h (Writes-reason.written p) = (ap (λ m. m .length) (p .answer h), p .room h)
+
 pub one-expected : {ts : List ℕ} {edition limit code at : ℕ} {room out out′ : List ℕ} {r r′ : ℕ} → Tells-expected ts edition limit code at room out r → Tells-expected ts edition limit code at room out′ r′ → (r ≡ r′) × (out ≡ out′)
 one-expected (Tells-expected.short h p) (Tells-expected.short i q) = (ap (λ t. t .kinds) (one-told p q), refl)
 one-expected (Tells-expected.short h p) (Tells-expected.whole i q) = absurd (omega arith)
@@ -61,3 +77,15 @@ same-set (Tells-expected.short h p) (Tells-expected.short i q) = ap (λ t. t .ki
 same-set (Tells-expected.short h p) (Tells-expected.whole i q) = ap (λ t. t .kinds) (one-told p q)
 same-set (Tells-expected.whole h p) (Tells-expected.short i q) = ap (λ t. t .kinds) (one-told p q)
 same-set (Tells-expected.whole h p) (Tells-expected.whole i q) = ap (λ t. t .kinds) (one-told p q)
+
+-- what stands below a row
+pub one-child : {nodes links : List ℕ} {row place r r′ : ℕ} → Has-child nodes links row place r → Has-child nodes links row place r′ → r ≡ r′
+one-child {links = links} {place = place} {r′ = r′} (Has-child.child h p) (Has-child.child i q) = one-row p (subst (λ b. Child links b place r′) (one-below i h) q)
+
+pub one-places : {nodes : List ℕ} {row r r′ : ℕ} → Has-places nodes row r → Has-places nodes row r′ → r ≡ r′
+one-places {r′ = r′} (Has-places.places {b = b} h p) (Has-places.places i q) = one-count b p (subst (λ b. Places-below b r′) (one-below i h) q)
+
+-- past the last place nothing stands
+pub past-places : {nodes links : List ℕ} {row place n r : ℕ} → Has-places nodes row n → n ≤ place → Has-child nodes links row place r → r ≡ absent
+past-places {links = links} {place = place} {r = r} (Has-places.places {b = b} h p) l (Has-child.child i q) =
+    subst (λ b. Child links b place r) (one-below i h) q .one ∙ List·getD-eq-default (children links b) absent {n = place} (omega (arith, places-length links b, p .0))

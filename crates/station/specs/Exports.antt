@@ -1,11 +1,14 @@
--- What the exported functions answer: what `parse_with`, `read_with`, `message`, `expected` and the two `place` answer. C gets an answer of more than one number at the start of a lent room, the
+-- What the exported functions answer: what `parse_with`, `read_with`, `message`, `reason`, `expected`, the two `place` and, of what stands below a row, `child` and `places` answer. C gets an answer of more than one number at the start of a lent room, the
 -- numbers in document 01's order, and its code once more as the value of the call. Where that room is too short the code is 13, and nothing else is done. Of what could have stood at a token the
 -- value of the call is the set of kinds, which stands in no room and is answered in any.
 use Prim.Native.Nat.{ℕ, _≤_, _<_}
 use mathlib.Core.List.{List, [], _∷_, _++_}
 use lib.ListN.{length, drop}
+use Rattle.children.specs.Below.{Below, Child, Places as Places-below}
+use Rattle.children.specs.declared.Children.{Children}
 use Rattle.diagnostics.specs.Line.{Placed}
 use Rattle.diagnostics.specs.Message.{Message-given}
+use Rattle.diagnostics.specs.Reason.{Reason-given}
 use Rattle.diagnostics.specs.declared.Message.{Message}
 use Rattle.diagnostics.specs.declared.Place.{Place}
 use Rattle.expected.specs.Tells.{Tells}
@@ -47,6 +50,9 @@ pub data Places (text : List ℕ) (offset : ℕ) (room : List ℕ) : List ℕ �
 pub data Writes (code expected found : ℕ) (before after : List ℕ) : ℕ → Type 0 where
   written : {m : Message} → Message-given code expected found before after m → Writes code expected found before after (m .length)
 
+pub data Writes-reason (text : List ℕ) (code start expected found : ℕ) (before after : List ℕ) : ℕ → Type 0 where
+  written : {m : Message} → Reason-given text code start expected found before after m → Writes-reason text code start expected found before after (m .length)
+
 -- of a name's place
 abbrev pub name-placed : PlaceAnswer → List ℕ
 name-placed p = p .code ∷ p .start ∷ p .end ∷ []
@@ -68,3 +74,10 @@ told t = t .count ∷ t .lowest ∷ t .chain .count ∷ pairs (t .chain .entries
 pub data Tells-expected (ts : List ℕ) (edition limit code at : ℕ) (room : List ℕ) : List ℕ → ℕ → Type 0 where
   short : {t : Told} → length room < 131 → Tells ts edition limit code at t → Tells-expected ts edition limit code at room room (t .kinds)
   whole : {t : Told} → 131 ≤ length room → Tells ts edition limit code at t → Tells-expected ts edition limit code at room (put (told t) room) (t .kinds)
+
+-- a row's children, of which the place has one or is absent; and how many places they have
+pub data Has-child (nodes links : List ℕ) (row place r : ℕ) : Type 0 where
+  child : {b : Children} → Below nodes row b → Child links b place r → Has-child nodes links row place r
+
+pub data Has-places (nodes : List ℕ) (row r : ℕ) : Type 0 where
+  places : {b : Children} → Below nodes row b → Places-below b r → Has-places nodes row r

@@ -1,6 +1,11 @@
-// What a station links: `parse_with` and `read_with`, both of edition 1 beside no names too, the message of a refusal, what could have stood there, the line of a place and
-// the place of a name, for C and Rust to call, over numbers and slices alone. None has a `requires`. A slice is a pointer and a length to C, in this order.
+// What a station links: `parse_with` and `read_with`, both of edition 1 beside no names too, the message of a refusal and the text of any, what could have stood there, the
+// line of a place, the place of a name and what stands below a row, for C and Rust to call, over numbers and slices alone. None has a `requires`. A slice is a pointer and a
+// length to C, in this order.
+use children::below;
+use children::child;
+use children::places;
 use diagnostics::line::place;
+use diagnostics::reason::reason;
 use diagnostics::text::message;
 use expected::Chain;
 use expected::Told;
@@ -14,7 +19,7 @@ ghost use mathlib.Core.Path.{_≡_};
 ghost use lib.ListN.{length};
 ghost use Rattle.grammar.specs.Builtin.{builtins as names-in, none};
 ghost use Rattle.ast.specs.Written.{Written};
-ghost use Rattle.station.specs.Exports.{listed, put, pairs, told, Parses, Reads-text, Places, Writes, Names-place, Tells-expected};
+ghost use Rattle.station.specs.Exports.{listed, put, pairs, told, Parses, Reads-text, Places, Writes, Writes-reason, Names-place, Tells-expected, Has-child, Has-places};
 ghost use Rattle.syntax.specs.Parsed.{rooms};
 
 // Puts the eight numbers of an answer at the start of a room.
@@ -182,6 +187,23 @@ pub extern "C" fn kaori_message(code: u32, expected: u32, found: u32, room: &mut
     m.length
 }
 
+// Writes the text of any refusal at the start of a room and answers its length: `reason`.
+// Ruled out: the found kind in the place of the expected one; the refusal's code in the place of its start.
+#[no_mangle]
+pub extern "C" fn kaori_reason(
+    text: &[u8],
+    code: u32,
+    start: u32,
+    expected: u32,
+    found: u32,
+    room: &mut [u8],
+) -> usize
+    ensures { λ r. ⌜ Writes-reason (now (text .entry)) code start expected found (now (room .entry)) (now (room .exit)) r ⌝ }
+{
+    let m = reason(text, code, start, expected, found, room);
+    m.length
+}
+
 // The line and the column of an offset in a text: `place`.
 // Ruled out: line and column in each other's place; a line where the offset is past the text.
 #[no_mangle]
@@ -230,6 +252,26 @@ pub extern "C" fn kaori_name<'a>(
     answer[1] = p.start;
     answer[2] = p.end;
     p.code
+}
+
+// What stands at a place below a row, in the order of the text: `children::child` of `children::below`.
+// Ruled out: the node rows in the place of the links; the row in the place of the place.
+#[no_mangle]
+pub extern "C" fn kaori_child(nodes: &[u32], links: &[u32], row: u32, place: usize) -> u32
+    ensures { λ r. ⌜ Has-child (now (nodes .entry)) (now (links .entry)) row place r ⌝ }
+{
+    let b = below(nodes, row);
+    child(links, b, place)
+}
+
+// How many places there are below a row: `children::places` of `children::below`.
+// Ruled out: how many children there are, where a place has none; none for a row that is not in the room.
+#[no_mangle]
+pub extern "C" fn kaori_children(nodes: &[u32], row: u32) -> usize
+    ensures { λ r. ⌜ Has-places (now (nodes .entry)) row r ⌝ }
+{
+    let b = below(nodes, row);
+    places(b)
 }
 
 // The numbers of what is told of a refusal: how many kinds, the lowest one and how many constructs are open, and then a sort and a token for each of 64.
