@@ -1,5 +1,5 @@
-/* Reads a script and prints what the program `rows` prints of it. Of a refusal it prints its line as well, what could have
-   stood there, and what was open: `example LIMIT EDITION < script`. */
+/* Reads a script and prints what the program `rows` prints of it. Of a refusal it prints its text, whatever its code, its line
+   as well, what could have stood there, and what was open: `example LIMIT EDITION < script`. */
 #include "kaori.h"
 
 #include <inttypes.h>
@@ -49,13 +49,13 @@ static void tell(const uint32_t *answer, uint32_t edition, uint32_t limit) {
 }
 
 static void explain(const uint32_t *answer, size_t length) {
-    uint8_t message[KAORI_MESSAGE_ROOM];
+    uint8_t reason[KAORI_MESSAGE_ROOM];
     uint32_t place[KAORI_PLACE_ROOM], found = tokens[KAORI_TOKEN_WIDTH * answer[KAORI_AT]];
-    size_t written =
-        kaori_message(answer[KAORI_CODE], answer[KAORI_EXPECTED], found, message, LENGTH(message));
+    size_t written = kaori_reason(text, length, answer[KAORI_CODE], answer[KAORI_START], answer[KAORI_EXPECTED], found,
+                                  reason, LENGTH(reason));
     printf("refused %" PRIu32 " %" PRIu32 " %" PRIu32 " %" PRIu32 " %" PRIu32 "\n", answer[KAORI_CODE],
            answer[KAORI_AT], answer[KAORI_START], answer[KAORI_END], answer[KAORI_EXPECTED]);
-    printf("%.*s\n", (int)written, (const char *)message);
+    printf("%.*s\n", (int)written, (const char *)reason);
     if (kaori_place(text, length, answer[KAORI_START], place, LENGTH(place)) == KAORI_OK)
         printf("line %" PRIu32 ", column %" PRIu32 "\n", place[KAORI_LINE], place[KAORI_COLUMN]);
 }

@@ -38,7 +38,7 @@ enum { KAORI_TOKENS_MAX = 4096, KAORI_TEXT_MAX = 65536, KAORI_LIMIT_MAX = 64, KA
 enum { KAORI_FIRST_EDITION = 1, KAORI_SECOND_EDITION = 2 };
 
 /* The least room for an answer of the four functions that read a script, for one of kaori_place, for one of kaori_name, for
-   a message, and for what kaori_expected tells. */
+   a text of kaori_message or kaori_reason, and for what kaori_expected tells. */
 enum {
     KAORI_ANSWER_ROOM = 8,
     KAORI_PLACE_ROOM = 3,
@@ -109,7 +109,7 @@ enum { KAORI_NO_KIND = 255 };
    root's parent. */
 #define KAORI_ABSENT UINT32_C(4294967295)
 
-/* Kinds of tokens. */
+/* Kinds of tokens, 0 to 44. */
 enum {
     KAORI_ASSIGN,
     KAORI_PLUS,
@@ -133,9 +133,26 @@ enum {
     KAORI_HASH,
     KAORI_LEFT_BRACE,
     KAORI_RIGHT_BRACE,
-    KAORI_KEYWORDS, /* 22 to 39: and or not let const ref fun for while break continue if else return import true false
-                       nil */
-    KAORI_NUMBER_LITERAL = 40,
+    KAORI_KEYWORDS, /* the first of them; each is KAORI_KEYWORD_ and its word, since KAORI_FOR is a code and KAORI_IF a sort */
+    KAORI_KEYWORD_AND = KAORI_KEYWORDS,
+    KAORI_KEYWORD_OR,
+    KAORI_KEYWORD_NOT,
+    KAORI_KEYWORD_LET,
+    KAORI_KEYWORD_CONST,
+    KAORI_KEYWORD_REF,
+    KAORI_KEYWORD_FUN,
+    KAORI_KEYWORD_FOR,
+    KAORI_KEYWORD_WHILE,
+    KAORI_KEYWORD_BREAK,
+    KAORI_KEYWORD_CONTINUE,
+    KAORI_KEYWORD_IF,
+    KAORI_KEYWORD_ELSE,
+    KAORI_KEYWORD_RETURN,
+    KAORI_KEYWORD_IMPORT,
+    KAORI_KEYWORD_TRUE,
+    KAORI_KEYWORD_FALSE,
+    KAORI_KEYWORD_NIL,
+    KAORI_NUMBER_LITERAL,
     KAORI_SEMICOLON,
     KAORI_STRING_LITERAL,
     KAORI_IDENTIFIER,
@@ -252,6 +269,16 @@ uint32_t kaori_read_with(const uint8_t *names, size_t names_len, const uint32_t 
    Leaves: the text at the room's start, all bytes past it as they were. */
 size_t kaori_message(uint32_t code, uint32_t expected, uint32_t found, uint8_t *room, size_t room_len);
 
+/* The text of any refusal, with no byte 0 at its end: that of kaori_message for 8 to 11, and one for each other code above.
+   Takes: the script's text; the refusal's code, start and `expected`; the kind of the token at its place; and a room of 52
+   bytes or more. The script's text matters for 16 alone, which has two: `a string that is not closed` where the byte at
+   the start is a quote, and else `no token starts here`. The two kinds matter for 8 and 9 alone.
+   Answers: the text's length, at most 52. It is 0 for a number that is no code (0, 12, 17, 19, 20, and over 21), where the
+   text needs a kind over 44, and for a room under 52 bytes.
+   Leaves: the text at the room's start, all bytes past it as they were. */
+size_t kaori_reason(const uint8_t *text, size_t text_len, uint32_t code, uint32_t start, uint32_t expected,
+                    uint32_t found, uint8_t *room, size_t room_len);
+
 /* What could have stood at a token where reading is refused, and what was open there.
    Takes: the tokens that were read, as kaori_parse takes them or kaori_read leaves them (the numbers past the token do not
    matter, but their count does: it is three times 1 to 4,096); the edition and the limit that they were read by; the
@@ -291,6 +318,22 @@ uint32_t kaori_place(const uint8_t *text, size_t text_len, size_t offset, uint32
 uint32_t kaori_name(const uint8_t *names, size_t names_len, const uint8_t *text, size_t text_len,
                     const uint32_t *symbols, size_t symbols_len, uint32_t count, uint32_t built, uint32_t symbol,
                     uint32_t *answer, size_t answer_len);
+
+/* What stands at a place below a row: the number of a row, or KAORI_ABSENT. By place the children stand in the order of the
+   text, whatever the row's kind; absent ones among them are passed over. Place 0 is what comes before a list, or the first
+   child; from place 1 on stand the items of a list, of a map's each key and then its value; two more places follow.
+   Takes: the node rows and the link rows, as they were left; the row; and the place, from 0.
+   Answers: the child's row. It is KAORI_ABSENT where nothing stands at the place, past the last place, and for a row or a
+   link row that is not in its room.
+   Leaves: nothing is written. */
+uint32_t kaori_child(const uint32_t *nodes, size_t nodes_len, const uint32_t *links, size_t links_len, uint32_t row,
+                     size_t place);
+
+/* How many places there are below a row: three, and those of its list. Past them kaori_child answers KAORI_ABSENT.
+   Takes: the node rows, as they were left; and the row.
+   Answers: the number of places: 3 also for a row that has no child or is not in the room.
+   Leaves: nothing is written. */
+size_t kaori_children(const uint32_t *nodes, size_t nodes_len, uint32_t row);
 
 /* A name as a part of the text that has it, with the code 0; or 15 and no bytes. */
 struct kaori_part {

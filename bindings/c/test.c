@@ -528,6 +528,138 @@ static void telling(void) {
     EXPECT(kaori_place(long_text, sizeof long_text, 0, answer, 3) == KAORI_LONG_TEXT && answer[0] == 2);
 }
 
+/* The text of each code, and of numbers that are none. 8 and 9 name kinds, and 16 depends on the byte at the start. */
+static void reasons(void) {
+    static const char *const texts[] = {"",
+                                        "too many tokens: a script has at most 4,095",
+                                        "file too large: a script has at most 65,536 bytes",
+                                        "the depth limit is not from 1 to 64",
+                                        "too little room for the rows",
+                                        "a byte that is not ASCII",
+                                        "a token whose kind, place or text is wrong",
+                                        "the end of the file is not the last token alone",
+                                        "expected `;` and found `if`",
+                                        "expected a <operand> and found: `if`",
+                                        "for is not supported",
+                                        "nested too deep",
+                                        "",
+                                        "too little room for the answer",
+                                        "a place past the end of the text",
+                                        "no such row or name",
+                                        "no token starts here",
+                                        "",
+                                        "the built-in names are wrong",
+                                        "",
+                                        "",
+                                        "the edition is neither 1 nor 2",
+                                        "",
+                                        ""};
+    static const uint8_t text[] = {'a', '@', '"'};
+    uint8_t room[54], message[54];
+    for (uint32_t code = 0; code < LENGTH(texts); code++) {
+        size_t length = strlen(texts[code]);
+        memset(room, '.', sizeof room);
+        memset(message, '.', sizeof message);
+        EXPECT(kaori_reason(text, 3, code, 1, KAORI_SEMICOLON, KAORI_KEYWORD_IF, room, 53) == length);
+        EXPECT(length <= 52 && memcmp(room, texts[code], length) == 0 && room[length] == '.' && room[53] == '.');
+        /* 8 to 11 as kaori_message has them */
+        if (KAORI_REQUIRED <= code && code <= KAORI_TOO_DEEP)
+            EXPECT(kaori_message(code, KAORI_SEMICOLON, KAORI_KEYWORD_IF, message, 53) == length &&
+                   memcmp(room, message, sizeof room) == 0);
+        /* too little room */
+        memset(room, '.', sizeof room);
+        EXPECT(kaori_reason(text, 3, code, 1, KAORI_SEMICOLON, KAORI_KEYWORD_IF, room, 51) == 0 && room[0] == '.');
+    }
+    EXPECT(kaori_reason(text, 3, KAORI_ABSENT, 1, 0, 0, room, 54) == 0 && room[0] == '.');
+    EXPECT(kaori_reason(text, 3, KAORI_REQUIRED, 1, KAORI_SEMICOLON, 45, room, 54) == 0 && room[0] == '.');
+    EXPECT(kaori_reason(text, 3, KAORI_NO_TOKEN, 2, 0, 0, room, 52) == 27 && memcmp(room, "a string that is not closed.", 28) == 0);
+    EXPECT(kaori_reason(text, 2, KAORI_NO_TOKEN, 2, 0, 0, room, 52) == 20 && memcmp(room, "no token starts here", 20) == 0);
+    EXPECT(kaori_reason(text, 3, KAORI_NO_TOKEN, KAORI_ABSENT, 0, 0, room, 52) == 20);
+}
+
+/* A script, one of its rows, and what stands at the places below it. */
+typedef struct {
+    const char *text;
+    uint32_t edition, row;
+    size_t places;
+    uint32_t children[8];
+} offspring;
+
+#define NO KAORI_ABSENT
+static const offspring offsprings[] = {
+    /* f, a, b, -b, the call, the root, and no row */
+    {"f(a,-b);", 1, 0, 3, {NO, NO, NO}},
+    {"f(a,-b);", 1, 3, 3, {2, NO, NO}},
+    {"f(a,-b);", 1, 4, 5, {0, 1, 3, NO, NO}},
+    {"f(a,-b);", 1, 5, 4, {NO, 4, NO, NO}},
+    {"f(a,-b);", 1, 6, 3, {NO, NO, NO}},
+    {"f(a,-b);", 1, KAORI_ABSENT, 3, {NO, NO, NO}},
+    /* two sides; a property's object, a `not`'s, an assignment's and a name's right side */
+    {"a.x+b;", 1, 1, 3, {0, NO, NO}},
+    {"a.x+b;", 1, 3, 3, {1, 2, NO}},
+    {"not a and b;", 1, 3, 3, {2, NO, NO}},
+    {"not a and b;", 2, 3, 3, {1, 2, NO}},
+    {"a = b;", 1, 2, 3, {0, 1, NO}},
+    {"let x = a;", 1, 1, 3, {0, NO, NO}},
+    /* a map: each key and its value, which may be absent */
+    {"#{a: b, c};", 1, 3, 7, {NO, 0, 1, 2, NO, NO, NO}},
+    /* a block and its tail; a function's block; a lambda's body; what an `if` and a loop have */
+    {"{ a; b }", 1, 2, 4, {NO, 0, 1, NO}},
+    {"fun f(x, y) { x; }", 1, 2, 3, {1, NO, NO}},
+    {"|x| x + 1;", 1, 3, 3, {2, NO, NO}},
+    {"if a {} else {}", 1, 3, 3, {0, 1, 2}},
+    {"if a {}", 1, 2, 3, {0, 1, NO}},
+    {"while a {}", 1, 2, 3, {0, 1, NO}},
+    {"return;", 2, 0, 3, {NO, NO, NO}},
+    {"return a;", 2, 1, 3, {0, NO, NO}},
+};
+
+static void below(void) {
+    enum { MANY = 16 };
+    uint32_t tokens[KAORI_TOKEN_WIDTH * MANY], nodes[KAORI_NODE_WIDTH * MANY], links[KAORI_LINK_WIDTH * MANY];
+    uint32_t symbols[KAORI_SYMBOL_WIDTH * MANY], scratch[KAORI_SCRATCH_WIDTH * MANY], answer[KAORI_ANSWER_ROOM];
+    for (size_t i = 0; i < LENGTH(offsprings); i++) {
+        const offspring *o = offsprings + i;
+        EXPECT(kaori_read_with((const uint8_t *)names, 0, name_rows, 0, (const uint8_t *)o->text, strlen(o->text), tokens,
+                               LENGTH(tokens), o->edition, 64, nodes, LENGTH(nodes), links, LENGTH(links), symbols,
+                               LENGTH(symbols), scratch, LENGTH(scratch), answer, LENGTH(answer)) == KAORI_OK);
+        size_t nodes_len = KAORI_NODE_WIDTH * answer[KAORI_NODES], links_len = KAORI_LINK_WIDTH * answer[KAORI_LINKS];
+        EXPECT(kaori_children(nodes, nodes_len, o->row) == o->places);
+        for (size_t place = 0; place < LENGTH(o->children); place++)
+            EXPECT(kaori_child(nodes, nodes_len, links, links_len, o->row, place) ==
+                   (place < o->places ? o->children[place] : NO));
+        EXPECT(kaori_child(nodes, nodes_len, links, links_len, o->row, SIZE_MAX) == NO);
+        /* a row that is not wholly in the room, and links that are not there */
+        if (o->row < answer[KAORI_NODES]) {
+            size_t short_len = KAORI_NODE_WIDTH * (size_t)o->row + KAORI_PARENT;
+            EXPECT(kaori_children(nodes, short_len, o->row) == 3 && kaori_child(nodes, short_len, links, links_len, o->row, 0) == NO);
+        }
+        for (size_t place = 1; place + 2 < o->places; place++)
+            EXPECT(kaori_child(nodes, nodes_len, links, 0, o->row, place) == NO);
+    }
+}
+
+/* The kinds, each by the name that a message has for it. */
+static void kinds(void) {
+    static const struct {
+        uint32_t kind;
+        const char *name;
+    } all[] = {
+        {KAORI_KEYWORD_AND, "`and`"},     {KAORI_KEYWORD_OR, "`or`"},         {KAORI_KEYWORD_NOT, "`not`"},
+        {KAORI_KEYWORD_LET, "`let`"},     {KAORI_KEYWORD_CONST, "`const`"},   {KAORI_KEYWORD_REF, "`ref`"},
+        {KAORI_KEYWORD_FUN, "`fun`"},     {KAORI_KEYWORD_FOR, "`for`"},       {KAORI_KEYWORD_WHILE, "`while`"},
+        {KAORI_KEYWORD_BREAK, "`break`"}, {KAORI_KEYWORD_CONTINUE, "`continue`"}, {KAORI_KEYWORD_IF, "`if`"},
+        {KAORI_KEYWORD_ELSE, "`else`"},   {KAORI_KEYWORD_RETURN, "`return`"}, {KAORI_KEYWORD_IMPORT, "`import`"},
+        {KAORI_KEYWORD_TRUE, "`true`"},   {KAORI_KEYWORD_FALSE, "`false`"},   {KAORI_KEYWORD_NIL, "`nil`"},
+    };
+    EXPECT(KAORI_KEYWORDS == 22 && KAORI_NUMBER_LITERAL == 40 && KAORI_EOF == 44 && LENGTH(all) == 18);
+    for (size_t i = 0; i < LENGTH(all); i++) {
+        uint8_t room[KAORI_MESSAGE_ROOM];
+        size_t length = kaori_message(KAORI_OPERAND, KAORI_NO_KIND, all[i].kind, room, LENGTH(room));
+        EXPECT(all[i].kind == KAORI_KEYWORDS + i && length == 32 + strlen(all[i].name) && memcmp(room + 32, all[i].name, length - 32) == 0);
+    }
+}
+
 int main(void) {
     parsing();
     reading();
@@ -542,5 +674,8 @@ int main(void) {
     as_deep();
     naming();
     telling();
+    reasons();
+    below();
+    kinds();
     return failed != 0;
 }
