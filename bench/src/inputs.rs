@@ -29,7 +29,7 @@ impl Input {
     pub fn parse<'a>(
         &'a self,
         rooms: &'a mut Rooms,
-        tokens: &[u32],
+        tokens: &'a [u32],
         limit: u32,
     ) -> Result<Tree<'a>, Refusal> {
         match self.names.is_empty() {

@@ -159,7 +159,7 @@ fn refusals(time: Duration) {
         println!(
             "{:<22}{tokens:>7}{:>6}{:>7}{:>6}{:>8.1}{:>8.1}{:>7.2}{runs:>8}",
             input.name,
-            why.code,
+            why.code as u32,
             answer.count(),
             answer.open().len(),
             read / tokens,
@@ -235,7 +235,7 @@ fn agree(input: &Input, rust_tokens: &[(Token, Span)], turned: &[u32], rooms: &m
         (ours, rust) => panic!("{name}: {:?} and {:?}", ours.err(), rust.err()),
     }
     let refusal = input.parse(rooms, turned, LIMIT).unwrap_err();
-    assert_eq!((refusal.code, refusal.at as usize), (6, input.tokens.len() / 3 - 2), "{name}");
+    assert_eq!((refusal.code as u32, refusal.at as usize), (6, input.tokens.len() / 3 - 2), "{name}");
     assert_eq!(input.read(rooms, LIMIT).is_err(), input.refused, "{name}");
     assert_eq!(rooms.list, input.tokens, "{name}");
 }

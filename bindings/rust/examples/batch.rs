@@ -5,7 +5,7 @@ mod rows;
 
 use std::io::{BufWriter, Error, Read, Write, stdin, stdout};
 
-use kaori_syntax::{Builtins, Edition, Refusal, Rooms, Span, Tree, expected};
+use kaori_syntax::{Builtins, Code, Edition, Refusal, Rooms, Span, Tree, expected};
 use rows::{answer, decode, frame};
 
 const BAD: &str = "bad input\n";
@@ -64,7 +64,7 @@ fn lent(case: &[u8]) -> Option<String> {
             [0, counts[0] as u32, counts[1] as u32, counts[2] as u32, 0, 0, 0, 255]
         }
         Err(Refusal { code, at, span, expected, .. }) => {
-            [code, 0, 0, 0, at, span.start, span.end, expected.unwrap_or(255)]
+            [code as u32, 0, 0, 0, at, span.start, span.end, expected.map_or(255, u32::from)]
         }
     };
     let Rooms { nodes, links, symbols, scratch, .. } = &rooms;
@@ -78,13 +78,16 @@ fn refused(case: &[u8]) -> Option<String> {
     let [edition, limit, code, at] = numbers(&mut rest, 4)?.try_into().ok()?;
     let Some((_, tokens)) = decode(rest) else { return Some(BAD.to_string()) };
     let edition = Edition(edition);
-    let why = Refusal { code, at, span: Span::default(), expected: None, found: None, edition, limit };
+    // of any number that is no code nothing is told, as of one that is no code of reading
+    let code = Code::from_u32(code).unwrap_or(Code::SmallAnswer);
+    let why =
+        Refusal { code, at, span: Span::default(), byte: None, expected: None, found: None, edition, limit };
     let told = expected(&tokens, why);
     let [low, high] = [told.bits() as u32, (told.bits() >> 32) as u32];
     let open = told.open();
     let mut pairs: Vec<u32> = open.iter().flat_map(|opening| [opening.sort as u32, opening.at]).collect();
     pairs.resize(2 * MOST_OPEN, 0);
-    let head = [low, high, told.count(), told.lowest().unwrap_or(255), open.len() as u32];
+    let head = [low, high, told.count(), told.lowest().map_or(255, u32::from), open.len() as u32];
     Some([&head[..], &pairs].map(line).concat())
 }
 

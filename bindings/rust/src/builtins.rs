@@ -1,4 +1,7 @@
 //! Built-in names, and the name of a symbol.
+#[cfg(feature = "alloc")]
+use alloc::vec::Vec;
+
 use crate::{SYMBOL_WIDTH, raw};
 
 /// Names that are lent beside a script. They have the same symbols in every script, 0 onward, and the names of the script's
@@ -25,7 +28,7 @@ impl<'a> Builtins<'a> {
 /// Built-in names of the crate's own, to be lent again and again.
 ///
 /// ```
-/// use kaori_syntax::{Edition, OwnedBuiltins, Rooms};
+/// use kaori_syntax::{Code, Edition, OwnedBuiltins, Rooms};
 ///
 /// let station = OwnedBuiltins::new(&["show", "print"]);
 /// let mut rooms = Rooms::for_tokens_with(station.lend(), 16);
@@ -36,15 +39,17 @@ impl<'a> Builtins<'a> {
 ///
 /// // each is an identifier, and no two are the same
 /// let wrong = OwnedBuiltins::new(&["show", "if"]);
-/// assert_eq!(rooms.read_with(wrong.lend(), b"a;", Edition::FIRST, 64).unwrap_err().code, 18);
+/// assert_eq!(rooms.read_with(wrong.lend(), b"a;", Edition::FIRST, 64).unwrap_err().code, Code::BadNames);
 /// # Ok::<(), kaori_syntax::Refusal>(())
 /// ```
+#[cfg(feature = "alloc")]
 #[derive(Clone, Debug, Default)]
 pub struct OwnedBuiltins {
     text: Vec<u8>,
     rows: Vec<u32>,
 }
 
+#[cfg(feature = "alloc")]
 impl OwnedBuiltins {
     /// These names, in this order: the first is symbol 0. Nothing is asked of them here; the call that they are lent to refuses
     /// wrong ones by 18.

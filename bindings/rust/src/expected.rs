@@ -1,5 +1,7 @@
 //! What could have stood at a refused token, and what was open there.
-use crate::{Edition, Refusal, TOKEN_WIDTH, raw};
+use core::fmt;
+
+use crate::{Edition, Kind, Refusal, TOKEN_WIDTH, raw};
 
 /// The most open constructs: as many as the greatest depth limit.
 const MAX_OPEN: usize = 64;
@@ -8,8 +10,6 @@ const HEAD: usize = 3;
 /// The numbers of an open construct: its sort and its token.
 const OPENING_WIDTH: usize = 2;
 const TOLD: usize = HEAD + OPENING_WIDTH * MAX_OPEN;
-/// Every kind is below this.
-const KINDS: u32 = 45;
 
 /// The kinds of token that could have stood where a script was refused, and the constructs that were open there.
 ///
@@ -20,17 +20,17 @@ const KINDS: u32 = 45;
 /// nothing: it was not a token that was wrong there, or not in reading.
 ///
 /// ```
-/// use kaori_syntax::{Opening, Rooms, Sort};
+/// use kaori_syntax::{Kind, Opening, Rooms, Sort};
 ///
-/// const COMMA: u32 = 13;
-/// const RIGHT_PAREN: u32 = 18;
 /// let mut rooms = Rooms::for_tokens(16);
 /// let why = rooms.read(b"if late { show(time platform); }", 64).unwrap_err();
 /// assert_eq!(why.to_string(), "expected `,` and found <identifier>");
 ///
 /// let expected = rooms.expected(why);
-/// assert!(expected.contains(COMMA) && expected.contains(RIGHT_PAREN) && !expected.contains(why.found.unwrap()));
-/// assert_eq!((expected.count(), expected.lowest(), expected.kinds().last()), (17, Some(1), Some(23)));
+/// assert!(expected.contains(Kind::Comma) && expected.contains(Kind::RightParen));
+/// assert!(!expected.contains(why.found.unwrap()));
+/// assert_eq!((expected.count(), expected.lowest()), (17, Some(Kind::Plus)));
+/// assert_eq!(expected.kinds().last().map(|kind| kind.to_string()).as_deref(), Some("`or`"));
 /// let open = |sort, at| Opening { sort, at };
 /// assert_eq!(expected.open(), [open(Sort::If, 0), open(Sort::Block, 2), open(Sort::Expression, 3)]);
 /// ```
@@ -66,15 +66,15 @@ pub enum Sort {
 }
 
 impl Expected {
-    /// The kinds, the lowest first. They are numbered in the order of token.rs's `Token`, from 0.
-    pub fn kinds(&self) -> impl DoubleEndedIterator<Item = u32> + use<> {
+    /// The kinds, the lowest numbered first.
+    pub fn kinds(&self) -> impl DoubleEndedIterator<Item = Kind> + Clone + use<> {
         let kinds = self.kinds;
-        (0..KINDS).filter(move |kind| kinds >> kind & 1 != 0)
+        Kind::ALL.iter().copied().filter(move |&kind| kinds >> kind as u32 & 1 != 0)
     }
 
     /// Whether this kind could have stood there.
-    pub fn contains(&self, kind: u32) -> bool {
-        self.kinds.checked_shr(kind).is_some_and(|rest| rest & 1 != 0)
+    pub fn contains(&self, kind: Kind) -> bool {
+        self.kinds >> kind as u32 & 1 != 0
     }
 
     /// How many kinds could have.
@@ -83,8 +83,8 @@ impl Expected {
     }
 
     /// The lowest numbered one.
-    pub fn lowest(&self) -> Option<u32> {
-        (self.count != 0).then_some(self.lowest)
+    pub fn lowest(&self) -> Option<Kind> {
+        Kind::from_u32(self.lowest).filter(|_| self.count != 0)
     }
 
     /// The kinds as one number: kind k is among them where its binary digit k, counted from 0 at the lowest, is 1.
@@ -98,10 +98,15 @@ impl Expected {
     }
 }
 
-impl std::fmt::Debug for Expected {
-    fn fmt(&self, f: &mut std::fmt::Formatter<'_>) -> std::fmt::Result {
-        let kinds: Vec<u32> = self.kinds().collect();
-        f.debug_struct("Expected").field("kinds", &kinds).field("open", &self.open()).finish()
+impl fmt::Debug for Expected {
+    fn fmt(&self, f: &mut fmt::Formatter<'_>) -> fmt::Result {
+        struct Kinds<'a>(&'a Expected);
+        impl fmt::Debug for Kinds<'_> {
+            fn fmt(&self, f: &mut fmt::Formatter<'_>) -> fmt::Result {
+                f.debug_list().entries(self.0.kinds()).finish()
+            }
+        }
+        f.debug_struct("Expected").field("kinds", &Kinds(self)).field("open", &self.open()).finish()
     }
 }
 
@@ -115,11 +120,11 @@ impl std::fmt::Debug for Expected {
 /// the refusal's edition and within its limit.
 ///
 /// ```
-/// use kaori_syntax::{Rooms, expected};
+/// use kaori_syntax::{Code, Rooms, expected};
 ///
 /// let tokens = [35, 0, 6, 41, 6, 7, 44, 7, 7]; // Return, Semicolon, Eof
 /// let why = Rooms::for_tokens(3).parse(b"return;", &tokens, 64).unwrap_err();
-/// assert_eq!((why.code, expected(&tokens, why).count()), (9, 15));
+/// assert_eq!((why.code, expected(&tokens, why).count()), (Code::Operand, 15));
 /// assert_eq!(expected(&tokens[3..], why).count(), 0); // another list
 /// ```
 pub fn expected(tokens: &[u32], why: Refusal) -> Expected {
@@ -128,7 +133,7 @@ pub fn expected(tokens: &[u32], why: Refusal) -> Expected {
     let upto = (at as usize).checked_add(1).and_then(|count| count.checked_mul(TOKEN_WIDTH));
     let read = upto.and_then(|upto| tokens.get(..upto)).unwrap_or(tokens);
     let mut told = [0; TOLD];
-    let kinds = raw::expected(read, edition, limit, code, at, &mut told);
+    let kinds = raw::expected(read, edition, limit, code as u32, at, &mut told);
     let [count, lowest, used] = [told[0], told[1], told[2]];
     let mut open = [Opening { sort: Sort::Expression, at: 0 }; MAX_OPEN];
     for (opening, &[sort, at]) in open.iter_mut().zip(told[HEAD..].as_chunks().0) {

@@ -114,14 +114,32 @@
 //! # Ok::<(), kaori_syntax::Refusal>(())
 //! ```
 //!
-//! A refusal has a code, a place and a message:
+//! From a row inward, child by child in the order of the text, and the whole text that a row covers, which is more than its
+//! span:
 //!
 //! ```
-//! use kaori_syntax::{Rooms, place};
+//! use kaori_syntax::{Rooms, Span};
+//!
+//! let text = b"show((price + 2) * rate, 1);";
+//! let mut rooms = Rooms::for_tokens(64);
+//! let tree = rooms.read(text, 64)?;
+//! let call = tree.children(tree.root().unwrap().number).next().unwrap();
+//! assert_eq!(call.span, Span { start: 4, end: 27 }); // from its `(`
+//! let covered = |number| tree.cover(number).and_then(|span| span.of(text)).unwrap();
+//! assert_eq!(covered(call.number), b"show((price + 2) * rate, 1)");
+//! let arguments: Vec<_> = tree.children(call.number).skip(1).map(|row| covered(row.number)).collect();
+//! assert_eq!(arguments, [&b"(price + 2) * rate"[..], b"1"]);
+//! # Ok::<(), kaori_syntax::Refusal>(())
+//! ```
+//!
+//! A refusal has a code, a place and a text:
+//!
+//! ```
+//! use kaori_syntax::{Code, Rooms, place};
 //!
 //! let text = b"a;\nreturn;";
 //! let refusal = Rooms::for_tokens(16).read(text, 64).unwrap_err();
-//! assert_eq!((refusal.code, refusal.at), (9, 3));
+//! assert_eq!((refusal.code, refusal.at), (Code::Operand, 3));
 //! assert_eq!(refusal.to_string(), "expected a <operand> and found: `;`");
 //! let place = place(text, refusal.span.start as usize).unwrap();
 //! assert_eq!((place.line, place.column), (2, 7));
@@ -130,24 +148,45 @@
 //! And it can be asked what could have stood there, and what was open: [`Expected`].
 //!
 //! ```
-//! use kaori_syntax::{Rooms, Sort};
+//! use kaori_syntax::{Kind, Rooms, Sort};
 //!
 //! let mut rooms = Rooms::for_tokens(16);
 //! let refusal = rooms.read(b"show(time platform);", 64).unwrap_err();
 //! let expected = rooms.expected(refusal);
-//! assert_eq!(refusal.expected, Some(13)); // a comma; but `)` would have done, too
-//! assert!(expected.contains(13) && expected.contains(18));
+//! assert_eq!(refusal.expected, Some(Kind::Comma)); // but `)` would have done, too
+//! assert!(expected.contains(Kind::Comma) && expected.contains(Kind::RightParen));
 //! assert_eq!(expected.open().iter().map(|opening| opening.sort).collect::<Vec<_>>(), [Sort::Expression]);
 //! ```
+//!
+//! The crate has no dependencies. Without the feature `std` it is `no_std`; without `alloc`, which `std` brings, there are no
+//! [`Rooms`] and no [`OwnedBuiltins`], and everything else is there: the functions over slices of the caller's own.
+#![cfg_attr(not(any(feature = "std", test)), no_std)]
 #![deny(unsafe_code, missing_docs)]
+#[cfg(feature = "alloc")]
+extern crate alloc;
+
+use core::fmt;
+
 mod builtins;
+mod cover;
 mod expected;
 mod node;
+mod numbered;
 mod raw;
+#[cfg(feature = "alloc")]
+mod rooms;
 
-pub use builtins::{Builtins, OwnedBuiltins, name};
+#[cfg(feature = "alloc")]
+pub use builtins::OwnedBuiltins;
+pub use builtins::{Builtins, name};
 pub use expected::{Expected, Opening, Sort, expected};
-pub use node::{BinaryOp, Entries, Name, Names, Node, Nodes, Outward, Row, Rows, Span, Tree, UnaryOp};
+pub use node::{
+    BinaryOp, Children, Entries, Items, Name, Names, Node, Nodes, Outward, Row, Rows, Span, Token, Tokens,
+    Tree, UnaryOp,
+};
+pub use numbered::{Code, Kind};
+#[cfg(feature = "alloc")]
+pub use rooms::Rooms;
 
 /// The most tokens of a script, the Eof at its end counted.
 pub const MAX_TOKENS: usize = 4096;
@@ -170,9 +209,6 @@ pub const SYMBOL_WIDTH: usize = 2;
 pub const SCRATCH_WIDTH: usize = 3;
 
 const NO_KIND: u32 = 255;
-const EOF: u32 = 44;
-/// The code for scratch or a symbol room that is too small, and for a row that does not fit.
-const SMALL_ROOM: u32 = 4;
 
 /// An edition of Kaori, by its number. Any number but 1 and 2 is refused by 21.
 ///
@@ -181,7 +217,7 @@ const SMALL_ROOM: u32 = 4;
 /// expression.
 ///
 /// ```
-/// use kaori_syntax::{Builtins, Edition, Node, Rooms};
+/// use kaori_syntax::{Builtins, Code, Edition, Node, Refusal, Rooms};
 ///
 /// let mut rooms = Rooms::for_tokens(16);
 /// let mut first_row = |text, edition| {
@@ -189,8 +225,8 @@ const SMALL_ROOM: u32 = 4;
 ///     Ok(tree.row(0).is_some_and(|row| matches!(row.node, Node::Return(None))))
 /// };
 /// assert_eq!(first_row(b"return;", Edition::SECOND), Ok(true));
-/// assert_eq!(first_row(b"return;", Edition::FIRST).map_err(|why: kaori_syntax::Refusal| why.code), Err(9));
-/// assert_eq!(first_row(b"return;", Edition(3)).map_err(|why| why.code), Err(21));
+/// assert_eq!(first_row(b"return;", Edition::FIRST).map_err(|why: Refusal| why.code), Err(Code::Operand));
+/// assert_eq!(first_row(b"return;", Edition(3)).map_err(|why| why.code), Err(Code::BadEdition));
 /// ```
 #[derive(Clone, Copy, PartialEq, Eq, Debug)]
 pub struct Edition(pub u32);
@@ -220,163 +256,23 @@ pub struct Lent<'a> {
     pub scratch: &'a mut [u32],
 }
 
-/// Rooms of the crate's own, to be lent again and again.
-#[derive(Clone, Debug, Default)]
-pub struct Rooms {
-    /// [`NODE_WIDTH`] numbers a row.
-    pub nodes: Vec<u32>,
-    /// [`LINK_WIDTH`] numbers a row.
-    pub links: Vec<u32>,
-    /// [`SYMBOL_WIDTH`] numbers a row.
-    pub symbols: Vec<u32>,
-    /// [`SCRATCH_WIDTH`] numbers a row.
-    pub scratch: Vec<u32>,
-    /// For the tokens that [`Rooms::read`] makes: [`TOKEN_WIDTH`] numbers each.
-    pub list: Vec<u32>,
-}
-
-impl Rooms {
-    /// Rooms for all scripts of up to so many tokens, the Eof at the end counted; never more than [`MAX_TOKENS`]. A call
-    /// clears what it does not use, so rooms that fit are faster than rooms for everything.
-    pub fn for_tokens(tokens: usize) -> Rooms {
-        Rooms::with_rows(tokens, tokens, tokens, tokens)
-    }
-
-    /// The same beside these built-in names, whose rows stand in the symbol room too.
-    pub fn for_tokens_with(builtins: Builtins, tokens: usize) -> Rooms {
-        let mut rooms = Rooms::for_tokens(tokens);
-        rooms.symbols.resize(rooms.symbols.len() + SYMBOL_WIDTH * most_names(builtins), 0);
-        rooms
-    }
-
-    /// Rooms of so many node, link and symbol rows, and for up to so many tokens; never more than [`MAX_TOKENS`], and never
-    /// more than a row a token, which is always enough. What a script needs is what its tree has: as many node, link and
-    /// symbol rows. A first guess: two thirds, a third and a quarter of the tokens, and four rows more in each; bindings'
-    /// README has what was measured.
-    pub fn with_rows(nodes: usize, links: usize, symbols: usize, tokens: usize) -> Rooms {
-        let tokens = tokens.min(MAX_TOKENS);
-        let room = |width: usize, rows: usize| vec![0; width * rows.min(tokens)];
-        Rooms {
-            nodes: room(NODE_WIDTH, nodes),
-            links: room(LINK_WIDTH, links),
-            symbols: room(SYMBOL_WIDTH, symbols),
-            scratch: room(SCRATCH_WIDTH, tokens),
-            list: room(TOKEN_WIDTH, tokens),
-        }
-    }
-
-    /// Doubles the node, link and symbol rows after a refusal that a row did not fit, but to no more than a row for each token
-    /// that `scratch` is for: then the script can be read again. Any other refusal is given back, and so is this one where
-    /// nothing can be grown.
-    pub fn grow(&mut self, why: Refusal) -> Result<(), Refusal> {
-        self.grow_with(Builtins::NONE, why)
-    }
-
-    /// The same beside these built-in names: the symbol room is grown until their rows fit, and then by up to a row for each
-    /// token more.
-    pub fn grow_with(&mut self, builtins: Builtins, why: Refusal) -> Result<(), Refusal> {
-        let mut left = Err(why);
-        let names = most_names(builtins);
-        if why.code == SMALL_ROOM && why.found.is_some() {
-            let most = (self.scratch.len() / SCRATCH_WIDTH).min(MAX_TOKENS);
-            let Rooms { nodes, links, symbols, .. } = self;
-            for (room, width, most) in
-                [(nodes, NODE_WIDTH, most), (links, LINK_WIDTH, most), (symbols, SYMBOL_WIDTH, most + names)]
-            {
-                let rows = room.len() / width;
-                if rows < most {
-                    room.resize(width * (2 * rows).clamp(1, most), 0);
-                    left = Ok(());
-                }
-            }
-        } else if why.code == SMALL_ROOM && self.symbols.len() < SYMBOL_WIDTH * names {
-            self.symbols.resize(SYMBOL_WIDTH * names, 0);
-            left = Ok(());
-        }
-        left
-    }
-
-    /// Reads a script's text: [`read`] in these rooms.
-    pub fn read<'a>(&'a mut self, text: &'a [u8], limit: u32) -> Result<Tree<'a>, Refusal> {
-        let Rooms { nodes, links, symbols, scratch, list } = self;
-        read(text, list, limit, Lent { nodes, links, symbols, scratch })
-    }
-
-    /// What could have stood where [`Rooms::read`] or [`Rooms::read_with`] has just refused a text, and what was open there:
-    /// [`expected`] over the tokens that it left. After a [`Rooms::parse`] call [`expected`] with the tokens that it was given.
-    pub fn expected(&self, why: Refusal) -> Expected {
-        expected(&self.list, why)
-    }
-
-    /// Reads a script's text and tokens: [`parse`] in these rooms.
-    pub fn parse<'a>(&'a mut self, text: &'a [u8], tokens: &[u32], limit: u32) -> Result<Tree<'a>, Refusal> {
-        let Rooms { nodes, links, symbols, scratch, .. } = self;
-        parse(text, tokens, limit, Lent { nodes, links, symbols, scratch })
-    }
-
-    /// Reads a script's text beside built-in names, in an edition: [`read_with`] in these rooms.
-    pub fn read_with<'a>(
-        &'a mut self,
-        builtins: Builtins<'a>,
-        text: &'a [u8],
-        edition: Edition,
-        limit: u32,
-    ) -> Result<Tree<'a>, Refusal> {
-        let Rooms { nodes, links, symbols, scratch, list } = self;
-        read_with(builtins, text, list, edition, limit, Lent { nodes, links, symbols, scratch })
-    }
-
-    /// Reads a script's text and tokens beside built-in names, in an edition: [`parse_with`] in these rooms.
-    pub fn parse_with<'a>(
-        &'a mut self,
-        builtins: Builtins<'a>,
-        text: &'a [u8],
-        tokens: &[u32],
-        edition: Edition,
-        limit: u32,
-    ) -> Result<Tree<'a>, Refusal> {
-        let Rooms { nodes, links, symbols, scratch, .. } = self;
-        parse_with(builtins, text, tokens, edition, limit, Lent { nodes, links, symbols, scratch })
-    }
-}
-
-/// How many built-in names take rows: more than are allowed are refused.
-fn most_names(builtins: Builtins) -> usize {
-    (builtins.count() as usize).min(MAX_NAMES)
-}
-
-/// Why a script was refused, and where. The first refusal that applies is given. 12 is not used.
-///
-/// | Code | Given when |
-/// |---|---|
-/// | 1 | the token list's length is not three times a count from 1 to 4,096; by [`read`]: too many tokens, or too little list room |
-/// | 2 | text over 65,536 bytes |
-/// | 3 | depth limit 0 or over 64 |
-/// | 4 | `scratch` has fewer rows than there are tokens; after 18: the symbol room has fewer rows than there are built-in names; met in reading: a row does not fit its room |
-/// | 5 | a text byte over 127 |
-/// | 6 | a token's kind, span or lexeme is wrong |
-/// | 7 | Eof before the last token, or none there |
-/// | 8 | a certain kind of token was required |
-/// | 9 | an operand was required |
-/// | 10 | a statement starts with `for` |
-/// | 11 | an opening would pass the depth limit |
-/// | 16 | by [`read`]: no token starts at a byte |
-/// | 18 | the built-in names' text is over 65,536 bytes, they are over 64, a span is wrong, one is no identifier, or two are the same; after a 4 for `scratch` |
-/// | 21 | the edition is neither 1 nor 2; after 3, before any 4 |
+/// Why a script was refused, and where. [`Code`] says when each is given; the first that applies is.
 #[derive(Clone, Copy, PartialEq, Eq, Debug)]
 pub struct Refusal {
     /// From 1 to 11, 16, 18 or 21.
-    pub code: u32,
+    pub code: Code,
     /// The token's number, for codes 6 to 11 and a 4 that was met in reading; else 0.
     pub at: u32,
     /// The token's place in the text; for codes 5 and 16 a byte's; else 0, 0.
     pub span: Span,
-    /// The kind that was required there, for code 8. Kinds are numbered in the order of token.rs's `Token`, from 0.
-    pub expected: Option<u32>,
-    /// The kind of the token, for codes 6 to 11 and a 4 that was met in reading. So it tells the two sorts of 4 apart, also
-    /// where all other numbers are the same: without a kind it is `scratch` that is too small, or the symbol room for the
-    /// built-in names.
-    pub found: Option<u32>,
+    /// The byte of the text at its place, for codes 5 and 16. A 16 at a quote is a string that is not closed.
+    pub byte: Option<u8>,
+    /// The kind that was required there, for code 8.
+    pub expected: Option<Kind>,
+    /// The kind of the token, for codes 6 to 11 and a 4 that was met in reading; none for a 6 whose token has a number that is
+    /// no kind. So it tells the two sorts of 4 apart, also where all other numbers are the same: without a kind it is `scratch`
+    /// that is too small, or the symbol room for the built-in names.
+    pub found: Option<Kind>,
     /// The edition that the script was read in.
     pub edition: Edition,
     /// The limit that it was read within.
@@ -384,42 +280,78 @@ pub struct Refusal {
 }
 
 impl Refusal {
-    /// The text of the refusal; empty for a code that has none.
+    /// The text that the Rust parser's error has, for codes 8 to 11; empty for any other. [`Refusal::reason`] has one for each.
+    ///
+    /// ```
+    /// use kaori_syntax::{Kind, Rooms};
+    ///
+    /// let mut rooms = Rooms::for_tokens(8);
+    /// let refusal = rooms.read(b"f(a", 64).unwrap_err();
+    /// assert_eq!(refusal.message().as_str(), "expected `,` and found <end of file>");
+    /// assert_eq!((refusal.expected, refusal.found), (Some(Kind::Comma), Some(Kind::Eof)));
+    /// assert_eq!(rooms.read(b"a @", 64).unwrap_err().message().as_str(), "");
+    /// ```
+    pub fn message(&self) -> Message {
+        let mut bytes = [0; 52];
+        let length = raw::message(self.code as u32, number(self.expected), number(self.found), &mut bytes);
+        Message { bytes, length }
+    }
+
+    /// The text of the refusal: that of [`Refusal::message`] for codes 8 to 11, and one for each other code.
     ///
     /// ```
     /// use kaori_syntax::Rooms;
     ///
     /// let mut rooms = Rooms::for_tokens(8);
-    /// let refusal = rooms.read(b"f(a", 64).unwrap_err();
-    /// assert_eq!(refusal.message().as_str(), "expected `,` and found <end of file>");
-    /// assert_eq!((refusal.expected, refusal.found), (Some(13), Some(44)));
-    /// assert_eq!(rooms.read(b"a @", 64).unwrap_err().message().as_str(), "");
+    /// let mut reason = |text: &[u8], limit| rooms.read(text, limit).unwrap_err().reason();
+    /// assert_eq!(reason(b"f(a", 64).as_str(), "expected `,` and found <end of file>");
+    /// assert_eq!(reason(b"a @", 64).as_str(), "no token starts here");
+    /// assert_eq!(reason(b"a = \"b;", 64).as_str(), "a string that is not closed");
+    /// assert_eq!(reason(b"a;", 65).as_str(), "the depth limit is not from 1 to 64");
     /// ```
-    pub fn message(&self) -> Message {
+    pub fn reason(&self) -> Message {
         let mut bytes = [0; 52];
-        let length = raw::message(
-            self.code,
-            self.expected.unwrap_or(NO_KIND),
-            self.found.unwrap_or(NO_KIND),
-            &mut bytes,
-        );
+        let (expected, found) = (number(self.expected), number(self.found));
+        // the byte at the place is all that the text is asked for
+        let length = raw::reason(self.byte.as_slice(), self.code as u32, 0, expected, found, &mut bytes);
         Message { bytes, length }
     }
 }
 
-impl std::fmt::Display for Refusal {
-    /// The message, or the code and the place where there is none.
-    fn fmt(&self, f: &mut std::fmt::Formatter<'_>) -> std::fmt::Result {
-        match self.message().as_str() {
-            "" => write!(f, "refusal {} at {}..{}", self.code, self.span.start, self.span.end),
+fn number(kind: Option<Kind>) -> u32 {
+    kind.map_or(NO_KIND, |kind| kind as u32)
+}
+
+impl fmt::Display for Refusal {
+    /// The reason, or the code and the place where there is none: an 8 or a 9 that is made by hand, without its kinds.
+    fn fmt(&self, f: &mut fmt::Formatter<'_>) -> fmt::Result {
+        match self.reason().as_str() {
+            "" => write!(f, "refusal {} at {}..{}", self.code as u32, self.span.start, self.span.end),
             text => f.write_str(text),
         }
     }
 }
 
-impl std::error::Error for Refusal {}
+impl core::error::Error for Refusal {}
 
-/// The text of a refusal.
+impl fmt::Display for Kind {
+    /// As messages name it: a spelling between backquotes, or what it is.
+    ///
+    /// ```
+    /// use kaori_syntax::Kind;
+    ///
+    /// assert_eq!([Kind::While, Kind::Eof].map(|kind| kind.to_string()), ["`while`", "<end of file>"]);
+    /// ```
+    fn fmt(&self, f: &mut fmt::Formatter<'_>) -> fmt::Result {
+        // it stands twice in `expected .. and found ..`
+        let (mut bytes, kind) = ([0; 52], *self as u32);
+        let length = raw::message(Code::Required as u32, kind, kind, &mut bytes);
+        let text = Message { bytes, length };
+        f.pad(text.as_str().split_once(" and found ").map_or("", |(_, name)| name))
+    }
+}
+
+/// The text of a refusal, at most 52 bytes.
 #[derive(Clone, Copy, Debug)]
 pub struct Message {
     bytes: [u8; 52],
@@ -429,7 +361,7 @@ pub struct Message {
 impl Message {
     /// The text.
     pub fn as_str(&self) -> &str {
-        self.bytes.get(..self.length).and_then(|bytes| std::str::from_utf8(bytes).ok()).unwrap_or("")
+        self.bytes.get(..self.length).and_then(|bytes| core::str::from_utf8(bytes).ok()).unwrap_or("")
     }
 }
 
@@ -463,12 +395,12 @@ pub fn place(text: &[u8], offset: usize) -> Option<Place> {
 /// that is read, from 1 to [`MAX_DEPTH`].
 ///
 /// ```
-/// use kaori_syntax::{Lent, Rooms, read};
+/// use kaori_syntax::{Code, Lent, Rooms, read};
 ///
 /// let mut rooms = Rooms::for_tokens(8);
-/// assert_eq!(rooms.read(b"((a));", 2).unwrap_err().code, 11);
+/// assert_eq!(rooms.read(b"((a));", 2).unwrap_err().code, Code::TooDeep);
 /// assert_eq!(rooms.read(b"((a));", 3)?.rows().count(), 2);
-/// assert_eq!(rooms.read(b"a; b; c; d;", 64).unwrap_err().code, 1); // 9 tokens
+/// assert_eq!(rooms.read(b"a; b; c; d;", 64).unwrap_err().code, Code::BadCount); // 9 tokens
 ///
 /// // the same in arrays of the caller's
 /// let (mut list, mut nodes, mut links, mut symbols, mut scratch) = ([0; 24], [0; 80], [0; 24], [0; 16], [0; 24]);
@@ -476,7 +408,12 @@ pub fn place(text: &[u8], offset: usize) -> Option<Place> {
 /// assert_eq!(read(b"((a));", &mut list, 3, lent)?.rows().count(), 2);
 /// # Ok::<(), kaori_syntax::Refusal>(())
 /// ```
-pub fn read<'a>(text: &'a [u8], list: &mut [u32], limit: u32, rooms: Lent<'a>) -> Result<Tree<'a>, Refusal> {
+pub fn read<'a>(
+    text: &'a [u8],
+    list: &'a mut [u32],
+    limit: u32,
+    rooms: Lent<'a>,
+) -> Result<Tree<'a>, Refusal> {
     let Lent { nodes, links, symbols, scratch } = rooms;
     let mut answer = [0; 8];
     let code = raw::read(text, list, limit, nodes, links, symbols, scratch, &mut answer);
@@ -488,7 +425,7 @@ pub fn read<'a>(text: &'a [u8], list: &mut [u32], limit: u32, rooms: Lent<'a>) -
 pub fn read_with<'a>(
     builtins: Builtins<'a>,
     text: &'a [u8],
-    list: &mut [u32],
+    list: &'a mut [u32],
     Edition(edition): Edition,
     limit: u32,
     rooms: Lent<'a>,
@@ -502,28 +439,37 @@ pub fn read_with<'a>(
     tree(answer, read, builtins, text, made(list, code), Lent { nodes, links, symbols, scratch })
 }
 
-/// The tokens of a list that was made, up to their Eof. How many there are matters after a 4 alone.
+/// The tokens of a list that was made. How many there are matters after a 4 alone.
 fn made(list: &[u32], code: u32) -> &[u32] {
-    if code != SMALL_ROOM {
-        return list;
-    }
-    let eof = list.chunks_exact(TOKEN_WIDTH).position(|token| token[0] == EOF);
-    eof.and_then(|eof| list.get(..TOKEN_WIDTH * (eof + 1))).unwrap_or(list)
+    if code == Code::SmallRoom as u32 { upto_eof(list).as_flattened() } else { list }
+}
+
+/// The tokens of a list up to their Eof, after which a room for tokens has zeros.
+fn upto_eof(list: &[u32]) -> &[[u32; TOKEN_WIDTH]] {
+    let tokens: &[[u32; TOKEN_WIDTH]] = list.as_chunks().0;
+    let eof = tokens.iter().position(|&[kind, ..]| kind == Kind::Eof as u32);
+    eof.and_then(|eof| tokens.get(..=eof)).unwrap_or(tokens)
 }
 
 /// Reads a script of edition 1 that is given as its text and its tokens: three numbers each, kind, start and end, an Eof last. Kinds are
-/// numbered in the order of token.rs's `Token`, from 0, so that a `Token` is handed over as `token as u32`.
+/// numbered in the order of token.rs's `Token`, from 0, so that a `Token` is handed over as `token as u32`; [`Kind`] names them.
 ///
 /// ```
-/// use kaori_syntax::Rooms;
+/// use kaori_syntax::{Code, Kind, Rooms};
 ///
-/// let tokens = [43, 0, 1, 41, 1, 2, 44, 2, 2]; // Identifier, Semicolon, Eof
+/// let [name, semicolon, eof] = [Kind::Identifier, Kind::Semicolon, Kind::Eof].map(u32::from);
+/// let tokens = [name, 0, 1, semicolon, 1, 2, eof, 2, 2];
 /// let mut rooms = Rooms::for_tokens(3);
 /// assert_eq!(rooms.parse(b"a;", &tokens, 64)?.rows().count(), 2);
-/// assert_eq!(rooms.parse(b"a;", &tokens[..5], 64).unwrap_err().code, 1);
+/// assert_eq!(rooms.parse(b"a;", &tokens[..5], 64).unwrap_err().code, Code::BadCount);
 /// # Ok::<(), kaori_syntax::Refusal>(())
 /// ```
-pub fn parse<'a>(text: &'a [u8], tokens: &[u32], limit: u32, rooms: Lent<'a>) -> Result<Tree<'a>, Refusal> {
+pub fn parse<'a>(
+    text: &'a [u8],
+    tokens: &'a [u32],
+    limit: u32,
+    rooms: Lent<'a>,
+) -> Result<Tree<'a>, Refusal> {
     let Lent { nodes, links, symbols, scratch } = rooms;
     let mut answer = [0; 8];
     raw::parse(text, tokens, limit, nodes, links, symbols, scratch, &mut answer);
@@ -535,7 +481,7 @@ pub fn parse<'a>(text: &'a [u8], tokens: &[u32], limit: u32, rooms: Lent<'a>) ->
 pub fn parse_with<'a>(
     builtins: Builtins<'a>,
     text: &'a [u8],
-    tokens: &[u32],
+    tokens: &'a [u32],
     Edition(edition): Edition,
     limit: u32,
     rooms: Lent<'a>,
@@ -553,21 +499,25 @@ fn tree<'a>(
     (edition, limit): (Edition, u32),
     builtins: Builtins<'a>,
     text: &'a [u8],
-    tokens: &[u32],
+    tokens: &'a [u32],
     Lent { nodes, links, symbols, scratch }: Lent<'a>,
 ) -> Result<Tree<'a>, Refusal> {
     if code == 0 {
-        return Ok(Tree::new(builtins, text, (nodes, node_rows), (links, link_rows), (symbols, symbol_rows)));
+        let (nodes, links, symbols) = ((&*nodes, node_rows), (&*links, link_rows), (&*symbols, symbol_rows));
+        return Ok(Tree::new(builtins, text, tokens, nodes, links, symbols));
     }
+    // the reader has no other codes
+    let code = Code::from_u32(code).unwrap_or(Code::SmallAnswer);
     let names_token = match code {
-        SMALL_ROOM => {
+        Code::SmallRoom => {
             tokens.len() / TOKEN_WIDTH <= scratch.len() / SCRATCH_WIDTH
                 && builtins.count() as usize <= symbols.len() / SYMBOL_WIDTH
         }
-        _ => (6..=11).contains(&code),
+        _ => (Code::BadToken..=Code::TooDeep).contains(&code),
     };
-    let expected = (expected != NO_KIND).then_some(expected);
-    let found = (at as usize).checked_mul(TOKEN_WIDTH).and_then(|kind| tokens.get(kind)).copied();
-    let found = found.filter(|_| names_token);
-    Err(Refusal { code, at, span: Span { start, end }, expected, found, edition, limit })
+    let token = tokens.as_chunks::<TOKEN_WIDTH>().0.get(at as usize).filter(|_| names_token);
+    let found = token.and_then(|&[kind, ..]| Kind::from_u32(kind));
+    let byte = text.get(start as usize).filter(|_| matches!(code, Code::HighByte | Code::NoToken)).copied();
+    let expected = Kind::from_u32(expected);
+    Err(Refusal { code, at, span: Span { start, end }, byte, expected, found, edition, limit })
 }

@@ -1,13 +1,17 @@
 //! The rows of a script as nodes.
-use crate::{Builtins, LINK_WIDTH, NODE_WIDTH, SYMBOL_WIDTH, name};
+use core::{fmt, iter::FusedIterator, slice};
+
+use crate::{Builtins, Kind, LINK_WIDTH, NODE_WIDTH, SYMBOL_WIDTH, TOKEN_WIDTH, cover, name, raw, upto_eof};
 
 const ABSENT: u32 = u32::MAX;
 
-/// A script that was read: its rows, in the rooms that were lent. A copy of it is six slices.
+/// A script that was read: its rows, in the rooms that were lent, with its text and its tokens. A copy of it is seven slices.
 #[derive(Clone, Copy, Debug)]
 pub struct Tree<'a> {
     builtins: Builtins<'a>,
     text: &'a [u8],
+    /// Three numbers each; after the Eof there may be zeros.
+    list: &'a [u32],
     nodes: &'a [[u32; NODE_WIDTH]],
     links: &'a [[u32; LINK_WIDTH]],
     symbols: &'a [[u32; SYMBOL_WIDTH]],
@@ -22,13 +26,20 @@ pub struct Span {
     pub end: u32,
 }
 
+impl Span {
+    /// The part of a text that stands there. None: it is not in the text.
+    pub fn of<'a>(&self, text: &'a [u8]) -> Option<&'a [u8]> {
+        text.get(self.start as usize..self.end as usize)
+    }
+}
+
 /// A row of the tree.
 #[derive(Clone, Copy, PartialEq, Eq, Debug)]
 pub struct Row<'a> {
     /// By which other rows name it.
     pub number: u32,
     /// Its place in the text; 0, 0 for the root. A row made of children may start later than its text, as in ast.rs: the sum in
-    /// `f(x) + 1` starts at `(`.
+    /// `f(x) + 1` starts at `(`. [`Tree::cover`] has the whole.
     pub span: Span,
     /// The row that has it as a child, which is a later one; none for the root.
     pub parent: Option<u32>,
@@ -170,7 +181,58 @@ pub struct Names<'a>(&'a [[u32; LINK_WIDTH]]);
 #[derive(Clone, Copy, PartialEq, Eq, Debug)]
 pub struct Entries<'a>(&'a [[u32; LINK_WIDTH]]);
 
-/// What the three lists share.
+/// The tokens of a script, the Eof last.
+#[derive(Clone, Copy, PartialEq, Eq, Debug)]
+pub struct Tokens<'a>(&'a [[u32; TOKEN_WIDTH]]);
+
+/// A token of a script that was read.
+#[derive(Clone, Copy, PartialEq, Eq, Debug)]
+pub struct Token {
+    /// What it is.
+    pub kind: Kind,
+    /// Its place in the text.
+    pub span: Span,
+}
+
+/// The items of a list in their order, from either end. Links and tokens have three numbers each.
+#[derive(Clone)]
+pub struct Items<'a, T> {
+    rows: slice::Iter<'a, [u32; LINK_WIDTH]>,
+    item: fn(&[u32; LINK_WIDTH]) -> T,
+}
+
+impl<T> Iterator for Items<'_, T> {
+    type Item = T;
+
+    fn next(&mut self) -> Option<T> {
+        self.rows.next().map(self.item)
+    }
+
+    fn size_hint(&self) -> (usize, Option<usize>) {
+        self.rows.size_hint()
+    }
+
+    fn nth(&mut self, n: usize) -> Option<T> {
+        self.rows.nth(n).map(self.item)
+    }
+}
+
+impl<T> DoubleEndedIterator for Items<'_, T> {
+    fn next_back(&mut self) -> Option<T> {
+        self.rows.next_back().map(self.item)
+    }
+}
+
+impl<T> ExactSizeIterator for Items<'_, T> {}
+impl<T> FusedIterator for Items<'_, T> {}
+
+impl<T: fmt::Debug> fmt::Debug for Items<'_, T> {
+    fn fmt(&self, f: &mut fmt::Formatter<'_>) -> fmt::Result {
+        f.debug_list().entries(self.rows.clone().map(self.item)).finish()
+    }
+}
+
+/// What the lists share.
 macro_rules! list {
     ($list:ident, $item:ty, $from:expr) => {
         impl<'a> $list<'a> {
@@ -184,9 +246,32 @@ macro_rules! list {
                 self.0.is_empty()
             }
 
+            /// The item at a place, from 0. None: there are not so many.
+            pub fn get(&self, place: usize) -> Option<$item> {
+                self.0.get(place).map($from)
+            }
+
             /// The items in their order.
-            pub fn iter(&self) -> impl ExactSizeIterator<Item = $item> + use<'a> {
-                self.0.iter().map($from)
+            pub fn iter(&self) -> Items<'a, $item> {
+                Items { rows: self.0.iter(), item: $from }
+            }
+        }
+
+        impl<'a> IntoIterator for $list<'a> {
+            type Item = $item;
+            type IntoIter = Items<'a, $item>;
+
+            fn into_iter(self) -> Items<'a, $item> {
+                self.iter()
+            }
+        }
+
+        impl<'a> IntoIterator for &$list<'a> {
+            type Item = $item;
+            type IntoIter = Items<'a, $item>;
+
+            fn into_iter(self) -> Items<'a, $item> {
+                self.iter()
             }
         }
     };
@@ -195,27 +280,91 @@ macro_rules! list {
 list!(Nodes, u32, |&[row, ..]| row);
 list!(Names, Name, |&[symbol, start, end]| Name { symbol, span: Span { start, end } });
 list!(Entries, (u32, Option<u32>), |&[key, value, _]| (key, option(value)));
+// a script that was read has no other kinds
+list!(Tokens, Token, |&[kind, start, end]| Token {
+    kind: Kind::from_u32(kind).unwrap_or(Kind::Eof),
+    span: Span { start, end },
+});
 
 /// The rows of a tree in their order: children before parents, the root last.
 #[derive(Clone, Debug)]
 pub struct Rows<'a> {
     tree: Tree<'a>,
     next: u32,
+    end: u32,
 }
 
 impl<'a> Iterator for Rows<'a> {
     type Item = Row<'a>;
 
     fn next(&mut self) -> Option<Row<'a>> {
-        let row = self.tree.row(self.next)?;
+        let row = self.tree.row(self.next).filter(|row| row.number < self.end)?;
         self.next += 1;
         Some(row)
     }
 
     fn size_hint(&self) -> (usize, Option<usize>) {
-        (0, Some(self.tree.nodes.len().saturating_sub(self.next as usize)))
+        (0, Some(self.end.saturating_sub(self.next) as usize))
     }
 }
+
+impl<'a> DoubleEndedIterator for Rows<'a> {
+    fn next_back(&mut self) -> Option<Row<'a>> {
+        let row = self.tree.row(self.end.checked_sub(1)?).filter(|row| self.next <= row.number)?;
+        self.end -= 1;
+        Some(row)
+    }
+}
+
+/// What stands below a row, in the order of the text, from either end.
+#[derive(Clone, Debug)]
+pub struct Children<'a> {
+    tree: Tree<'a>,
+    of: u32,
+    /// The places that are left; some of them have no child.
+    next: usize,
+    end: usize,
+}
+
+impl<'a> Children<'a> {
+    fn at(&self, place: usize) -> Option<Row<'a>> {
+        let Tree { nodes, links, .. } = self.tree;
+        let child = raw::child(nodes.as_flattened(), links.as_flattened(), self.of, place);
+        self.tree.row(child)
+    }
+}
+
+impl<'a> Iterator for Children<'a> {
+    type Item = Row<'a>;
+
+    fn next(&mut self) -> Option<Row<'a>> {
+        while self.next < self.end {
+            self.next += 1;
+            if let Some(row) = self.at(self.next - 1) {
+                return Some(row);
+            }
+        }
+        None
+    }
+
+    fn size_hint(&self) -> (usize, Option<usize>) {
+        (0, Some(self.end - self.next))
+    }
+}
+
+impl<'a> DoubleEndedIterator for Children<'a> {
+    fn next_back(&mut self) -> Option<Row<'a>> {
+        while self.next < self.end {
+            self.end -= 1;
+            if let Some(row) = self.at(self.end) {
+                return Some(row);
+            }
+        }
+        None
+    }
+}
+
+impl FusedIterator for Children<'_> {}
 
 /// A row, its parent, that one's parent, and so on: what encloses a row, the root last.
 #[derive(Clone, Debug)]
@@ -252,11 +401,12 @@ impl<'a> Tree<'a> {
     pub(crate) fn new(
         builtins: Builtins<'a>,
         text: &'a [u8],
+        list: &'a [u32],
         nodes: (&'a [u32], u32),
         links: (&'a [u32], u32),
         symbols: (&'a [u32], u32),
     ) -> Tree<'a> {
-        Tree { builtins, text, nodes: used(nodes), links: used(links), symbols: used(symbols) }
+        Tree { builtins, text, list, nodes: used(nodes), links: used(links), symbols: used(symbols) }
     }
 
     /// The node rows as numbers: kind, start, end, six more, and the parent's row, as bindings/c/kaori.h has them.
@@ -277,7 +427,69 @@ impl<'a> Tree<'a> {
 
     /// All rows, the root last.
     pub fn rows(&self) -> Rows<'a> {
-        Rows { tree: *self, next: 0 }
+        Rows { tree: *self, next: 0, end: self.nodes.len() as u32 }
+    }
+
+    /// The script's tokens, the Eof last.
+    ///
+    /// ```
+    /// use kaori_syntax::{Kind, Rooms};
+    ///
+    /// let mut rooms = Rooms::for_tokens(16);
+    /// let tree = rooms.read(b"not a;", 64)?;
+    /// let kinds: Vec<_> = tree.tokens().iter().map(|token| token.kind).collect();
+    /// assert_eq!(kinds, [Kind::Not, Kind::Identifier, Kind::Semicolon, Kind::Eof]);
+    /// # Ok::<(), kaori_syntax::Refusal>(())
+    /// ```
+    pub fn tokens(&self) -> Tokens<'a> {
+        Tokens(upto_eof(self.list))
+    }
+
+    /// The script's text.
+    pub fn text(&self) -> &'a [u8] {
+        self.text
+    }
+
+    /// What stands below a row, in the order of the text, whatever the row is. Nothing, if there are not so many rows.
+    ///
+    /// ```
+    /// use kaori_syntax::Rooms;
+    ///
+    /// let mut rooms = Rooms::for_tokens(16);
+    /// let tree = rooms.read(b"#{a: b, c};", 64)?; // a, b, c, the map, the root
+    /// let numbers = |of| tree.children(of).map(|row| row.number).collect::<Vec<_>>();
+    /// assert_eq!((numbers(4), numbers(3), numbers(2)), (vec![3], vec![0, 1, 2], vec![]));
+    /// assert_eq!(tree.children(3).next_back().map(|row| row.number), Some(2));
+    /// # Ok::<(), kaori_syntax::Refusal>(())
+    /// ```
+    pub fn children(&self, number: u32) -> Children<'a> {
+        let end = raw::children(self.nodes.as_flattened(), number);
+        Children { tree: *self, of: number, next: 0, end }
+    }
+
+    /// The whole text that a row covers: from the leftmost start to the rightmost end of the row and of all that stands below
+    /// it, with the counterparts of parentheses that are alone in that. So it is balanced, and parentheses around the row itself
+    /// are not in it. The root covers the script from its start on. None: there are not so many rows.
+    ///
+    /// It is one pass over what stands below the row and one over the tokens.
+    ///
+    /// ```
+    /// use kaori_syntax::{Node, Rooms};
+    ///
+    /// let text = b"not (f(x) + 1) and b;";
+    /// let mut rooms = Rooms::for_tokens(16);
+    /// let tree = rooms.read(text, 64)?;
+    /// let whole: Vec<_> = tree.rows().filter_map(|row| tree.cover(row.number)?.of(text)).collect();
+    /// let words: Vec<_> = whole.iter().map(|part| std::str::from_utf8(part).unwrap()).collect();
+    /// assert_eq!(
+    ///     words,
+    ///     ["f", "x", "f(x)", "1", "f(x) + 1", "b", "(f(x) + 1) and b", "not (f(x) + 1) and b", "not (f(x) + 1) and b"]
+    /// );
+    /// # Ok::<(), kaori_syntax::Refusal>(())
+    /// ```
+    pub fn cover(&self, number: u32) -> Option<Span> {
+        let rows = self.nodes.get(..=number as usize)?;
+        Some(cover::balanced(upto_eof(self.list), cover::reach(rows)))
     }
 
     /// The row of this number and what encloses it, from the inside out: the row itself, its parent, and so on to the root.
@@ -378,7 +590,7 @@ mod tests {
     fn outward(kinds: [u32; 3], parents: [u32; 3], from: u32) -> Vec<u32> {
         let row = |i: usize| [kinds[i], 0, 0, 0, 0, 0, 0, 0, 0, parents[i]];
         let nodes = [row(0), row(1), row(2), [14; NODE_WIDTH]].concat(); // the room has a row more
-        let tree = Tree::new(Builtins::NONE, b"", (&nodes, 3), (&[], 0), (&[], 0));
+        let tree = Tree::new(Builtins::NONE, b"", &[], (&nodes, 3), (&[], 0), (&[], 0));
         tree.outward(from).map(|row| row.number).collect()
     }
 

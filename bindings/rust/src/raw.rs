@@ -36,6 +36,14 @@ unsafe extern "C" {
         names: *const u8, names_len: usize, text: *const u8, text_len: usize, symbols: *const u32, symbols_len: usize,
         count: u32, built: u32, symbol: u32, answer: *mut u32, answer_len: usize,
     ) -> u32;
+    fn kaori_reason(
+        text: *const u8, text_len: usize, code: u32, start: u32, expected: u32, found: u32,
+        room: *mut u8, room_len: usize,
+    ) -> usize;
+    fn kaori_child(
+        nodes: *const u32, nodes_len: usize, links: *const u32, links_len: usize, row: u32, place: usize,
+    ) -> u32;
+    fn kaori_children(nodes: *const u32, nodes_len: usize, row: u32) -> usize;
     fn kaori_message(code: u32, expected: u32, found: u32, room: *mut u8, room_len: usize) -> usize;
     fn kaori_expected(
         tokens: *const u32, tokens_len: usize, edition: u32, limit: u32, code: u32, at: u32,
@@ -126,6 +134,23 @@ pub fn name(
 pub fn message(code: u32, expected: u32, found: u32, room: &mut [u8; 52]) -> usize {
     // SAFETY: as the module says.
     unsafe { kaori_message(code, expected, found, room.as_mut_ptr(), room.len()) }
+}
+
+pub fn reason(text: &[u8], code: u32, start: u32, expected: u32, found: u32, room: &mut [u8; 52]) -> usize {
+    // SAFETY: as the module says.
+    unsafe {
+        kaori_reason(text.as_ptr(), text.len(), code, start, expected, found, room.as_mut_ptr(), room.len())
+    }
+}
+
+pub fn child(nodes: &[u32], links: &[u32], row: u32, place: usize) -> u32 {
+    // SAFETY: as the module says.
+    unsafe { kaori_child(nodes.as_ptr(), nodes.len(), links.as_ptr(), links.len(), row, place) }
+}
+
+pub fn children(nodes: &[u32], row: u32) -> usize {
+    // SAFETY: as the module says.
+    unsafe { kaori_children(nodes.as_ptr(), nodes.len(), row) }
 }
 
 pub fn expected(tokens: &[u32], edition: u32, limit: u32, code: u32, at: u32, told: &mut [u32; 131]) -> u64 {

@@ -33,7 +33,7 @@ fn the_rusts_answers() {
             room.fill(7);
         }
         let ours = rooms.parse(text, &tokens, 64);
-        let code = ours.as_ref().err().map_or(0, |refusal| refusal.code);
+        let code = ours.as_ref().err().map_or(0, |refusal| refusal.code as u32);
         let counts = ours.as_ref().map_or([0; 3], |tree| {
             [tree.node_rows().len(), tree.link_rows().len(), tree.symbol_rows().len()]
         });

@@ -1,8 +1,14 @@
 //! Rooms of all sizes, rows that are not there, and whatever else can be handed over: every call answers and nothing panics.
+#[allow(dead_code)]
+mod rows;
+
 use kaori_syntax::{
-    Builtins, Edition, LINK_WIDTH, Lent, NODE_WIDTH, Node, Rooms, SCRATCH_WIDTH, SYMBOL_WIDTH, TOKEN_WIDTH,
-    Tree, parse, place, read,
+    Builtins, Code, Edition, Kind, LINK_WIDTH, Lent, NODE_WIDTH, Node, Rooms, SCRATCH_WIDTH, SYMBOL_WIDTH,
+    Span, TOKEN_WIDTH, Tree, parse, place, read,
 };
+use rows::{decode, frame};
+
+const LIST: &[u8] = include_bytes!("../../../crates/replay/stdin");
 
 #[test]
 fn rooms_of_any_size() {
@@ -10,16 +16,19 @@ fn rooms_of_any_size() {
     for rows in 0..16 {
         match Rooms::for_tokens(rows).read(text, 64) {
             Ok(tree) => assert!(rows >= 13 && tree.root().is_some()),
-            Err(refusal) => assert!(rows < 13 && refusal.code == 1),
+            Err(refusal) => assert!(rows < 13 && refusal.code == Code::BadCount),
         }
     }
     let mut rooms = Rooms::for_tokens(16);
     rooms.scratch.truncate(SCRATCH_WIDTH * 13);
     assert!(rooms.read(text, 64).is_ok());
     rooms.scratch.truncate(SCRATCH_WIDTH * 13 - 1);
-    assert_eq!(rooms.read(text, 64).map_err(|r| (r.code, r.at, r.found)).err(), Some((4, 0, None)));
+    assert_eq!(
+        rooms.read(text, 64).map_err(|r| (r.code, r.at, r.found)).err(),
+        Some((Code::SmallRoom, 0, None))
+    );
     assert!(Rooms::for_tokens(1).read(b"", 64).is_ok());
-    assert_eq!(Rooms::default().read(b"", 64).unwrap_err().code, 1);
+    assert_eq!(Rooms::default().read(b"", 64).unwrap_err().code, Code::BadCount);
     assert_eq!(Rooms::for_tokens(usize::MAX).nodes.len(), 10 * 4096);
 }
 
@@ -65,19 +74,29 @@ fn refusals() {
     let mut rooms = Rooms::for_tokens(64);
     let mut refused = |text: &[u8], limit| {
         let r = rooms.read(text, limit).unwrap_err();
-        (r.code, r.at, r.span.start, r.span.end, r.expected, r.found, r.to_string())
+        (r.code as u32, r.at, r.span.start, r.span.end, r.expected, r.found, r.to_string())
     };
-    assert_eq!(refused(b"a;", 65), (3, 0, 0, 0, None, None, "refusal 3 at 0..0".to_string()));
-    assert_eq!(refused(b"a \x80", 64), (5, 0, 2, 3, None, None, "refusal 5 at 2..3".to_string()));
-    assert_eq!(refused(b"a @", 64), (16, 0, 2, 3, None, None, "refusal 16 at 2..3".to_string()));
+    assert_eq!(
+        refused(b"a;", 65),
+        (3, 0, 0, 0, None, None, "the depth limit is not from 1 to 64".to_string())
+    );
+    assert_eq!(refused(b"a \x80", 64), (5, 0, 2, 3, None, None, "a byte that is not ASCII".to_string()));
+    assert_eq!(refused(b"a @", 64), (16, 0, 2, 3, None, None, "no token starts here".to_string()));
     assert_eq!(
         refused(b"(f)(x);", 64),
-        (8, 3, 3, 4, Some(41), Some(17), "expected `;` and found `(`".to_string())
+        (8, 3, 3, 4, Some(Kind::Semicolon), Some(Kind::LeftParen), "expected `;` and found `(`".to_string())
     );
-    assert_eq!(refused(b"for", 64), (10, 0, 0, 3, None, Some(29), "for is not supported".to_string()));
-    assert_eq!(refused(b"((a));", 2), (11, 2, 2, 3, None, Some(43), "nested too deep".to_string()));
+    assert_eq!(refused(b"for", 64), (10, 0, 0, 3, None, Some(Kind::For), "for is not supported".to_string()));
+    assert_eq!(
+        refused(b"((a));", 2),
+        (11, 2, 2, 3, None, Some(Kind::Identifier), "nested too deep".to_string())
+    );
     let refusal = rooms.parse(b"a;", &[43, 0, 1, 45, 1, 2, 44, 2, 2], 64).unwrap_err();
-    assert_eq!((refusal.code, refusal.at, refusal.found, refusal.message().as_str()), (6, 1, Some(45), ""));
+    // a number that is no kind, and one that is
+    assert_eq!((refusal.code, refusal.at, refusal.found), (Code::BadToken, 1, None));
+    assert_eq!(refusal.message().as_str(), "");
+    let refusal = rooms.parse(b"a;", &[43, 0, 1, 40, 1, 2, 44, 2, 2], 64).unwrap_err();
+    assert_eq!((refusal.code, refusal.at, refusal.found), (Code::BadToken, 1, Some(Kind::NumberLiteral)));
 }
 
 /// Numbers without a pattern.
@@ -145,6 +164,46 @@ fn named(node: &Node) -> (Vec<u32>, Vec<u32>) {
     (rows, symbols)
 }
 
+/// What each row covers, row by row from the parts that its children cover, as crates/kaori/src/cover.rt has it: the parentheses
+/// of a part are counted, and the counterparts of those that are alone looked for one by one.
+fn covers(tree: &Tree) -> Vec<Span> {
+    let tokens: Vec<_> = tree.tokens().iter().collect();
+    let mut all: Vec<Span> = Vec::new();
+    for row in tree.rows() {
+        let mut part = row.span;
+        for child in named(&row.node).0 {
+            let Span { start, end } = all[child as usize];
+            part = Span { start: part.start.min(start), end: part.end.max(end) };
+        }
+        let (mut open, mut shut) = (0, 0);
+        for token in
+            tokens.iter().filter(|token| part.start <= token.span.start && token.span.end <= part.end)
+        {
+            match token.kind {
+                Kind::LeftParen => open += 1,
+                Kind::RightParen if open == 0 => shut += 1,
+                Kind::RightParen => open -= 1,
+                _ => {}
+            }
+        }
+        for token in &tokens {
+            if open > 0 && token.kind == Kind::RightParen && part.end <= token.span.start {
+                part.end = token.span.end;
+                open -= 1;
+            }
+        }
+        for token in tokens.iter().rev() {
+            if shut > 0 && token.kind == Kind::LeftParen && token.span.end <= part.start {
+                part.start = token.span.start;
+                shut -= 1;
+            }
+        }
+        assert_eq!((open, shut), (0, 0));
+        all.push(part);
+    }
+    all
+}
+
 /// Follows every number of every row, inward and outward.
 fn walk(tree: &Tree) {
     let mut rows = 0;
@@ -153,6 +212,8 @@ fn walk(tree: &Tree) {
         assert_eq!(row.number, rows);
         rows += 1;
         let (children, symbols) = named(&row.node);
+        assert!(tree.children(row.number).map(|child| child.number).eq(children.iter().copied()));
+        assert!(tree.children(row.number).rev().map(|child| child.number).eq(children.iter().copied().rev()));
         assert!(symbols.iter().all(|&symbol| tree.symbol(symbol).is_some()));
         for child in children {
             assert!(child < row.number && tree.row(child).is_some());
@@ -162,10 +223,28 @@ fn walk(tree: &Tree) {
     assert!(rows as usize == tree.node_rows().len() && rows > 0);
     assert!(tree.rows().map(|row| row.parent).eq(parents.iter().copied()));
     assert_eq!(parents.iter().position(|parent| parent.is_none()), Some(parents.len() - 1));
+    let covered = tree.rows().map(|row| tree.cover(row.number).unwrap());
+    assert!(covered.eq(covers(tree)), "{:?}", String::from_utf8_lossy(tree.text()));
     for row in tree.rows() {
         assert_eq!(tree.outward(row.number).next(), Some(row));
         assert_eq!(tree.outward(row.number).last(), tree.root());
     }
+}
+
+/// Each script of the fixed list of the Rust's answers that is accepted, in both editions.
+#[test]
+fn each_script_of_the_list() {
+    let (mut rest, mut rooms, mut scripts) = (LIST, Rooms::for_tokens(512), 0);
+    while let Some(case) = frame(&mut rest) {
+        let Some((text, tokens)) = decode(case) else { continue };
+        for edition in [Edition::FIRST, Edition::SECOND] {
+            if let Ok(tree) = rooms.parse_with(Builtins::NONE, text, &tokens, edition, 64) {
+                walk(&tree);
+                scripts += 1;
+            }
+        }
+    }
+    assert!(scripts > 500, "{scripts} scripts");
 }
 
 #[test]
@@ -211,13 +290,13 @@ fn anything_at_all() {
         match &from_text {
             Ok(()) => accepted += 1,
             Err(r) if r.found.is_none() => {
-                assert!([1, 3, 4, 5, 16, 21].contains(&r.code) && four(&rooms) == before);
+                assert!([1, 3, 4, 5, 16, 21].contains(&(r.code as u32)) && four(&rooms) == before);
                 turned += 1;
             }
             Err(r) => {
-                assert!(r.code == 4 || (8..=11).contains(&r.code));
+                assert!(r.code == Code::SmallRoom || (Code::Required..=Code::TooDeep).contains(&r.code));
                 assert!(four(&rooms).concat().iter().all(|&number| number == 0));
-                if r.code == 4 {
+                if r.code == Code::SmallRoom {
                     full += 1;
                 } else {
                     refused += 1;
@@ -227,7 +306,7 @@ fn anything_at_all() {
         // the tokens that were made have the same answer
         let mut list = rooms.list.clone();
         if let Some(eof) = list.chunks_exact(3).position(|token| token[0] == 44)
-            && !from_text.is_err_and(|r| [1, 2, 5, 16].contains(&r.code))
+            && !from_text.is_err_and(|r| [1, 2, 5, 16].contains(&(r.code as u32)))
         {
             list.truncate(3 * (eof + 1));
             let from_list = rooms.parse_with(Builtins::NONE, text, &list, edition, limit);
@@ -253,7 +332,10 @@ fn slices_of_the_callers() {
     assert_eq!((list[9], nodes[19], links[9], symbols[6], scratch), (0, u32::MAX, 0, 0, [0; 11]));
     assert_eq!(nodes[20..], [0; 11]);
     let lent = Lent { nodes: &mut [], links: &mut [], symbols: &mut [], scratch: &mut [] };
-    assert_eq!(parse(b"a;", &list[..9], 64, lent).map_err(|r| (r.code, r.found)).err(), Some((4, None)));
+    assert_eq!(
+        parse(b"a;", &list[..9], 64, lent).map_err(|r| (r.code, r.found)).err(),
+        Some((Code::SmallRoom, None))
+    );
     let lent = Lent { nodes: &mut [], links: &mut [], symbols: &mut [], scratch: &mut [] };
-    assert_eq!(parse(b"", &[], 64, lent).unwrap_err().code, 1);
+    assert_eq!(parse(b"", &[], 64, lent).unwrap_err().code, Code::BadCount);
 }

@@ -3,7 +3,7 @@
 #[allow(dead_code)]
 mod rows;
 
-use kaori_syntax::{Builtins, Edition, Node, Refusal, Rooms, Span, TOKEN_WIDTH, Tree};
+use kaori_syntax::{Builtins, Code, Edition, Node, Refusal, Rooms, Span, TOKEN_WIDTH, Tree};
 use rows::{answer, decode, frame};
 
 const LIST: &[u8] = include_bytes!("../../../crates/replay/stdin");
@@ -51,7 +51,8 @@ fn row(text: &'static str, number: u32) -> (Node<'static>, u32, u32) {
 }
 
 fn code(text: &str, edition: u32, limit: u32) -> (u32, u32) {
-    read(&mut Rooms::for_tokens(32), text, edition, limit).map_or_else(|why| (why.code, why.at), |_| (0, 0))
+    read(&mut Rooms::for_tokens(32), text, edition, limit)
+        .map_or_else(|why| (why.code as u32, why.at), |_| (0, 0))
 }
 
 #[test]
@@ -86,21 +87,24 @@ fn no_edition() {
         let edition = Edition(number);
         let why = rooms.read_with(Builtins::NONE, b"a;", edition, 64).unwrap_err();
         assert_eq!(
-            (why.code, why.at, why.span, why.expected, why.found),
+            (why.code as u32, why.at, why.span, why.expected, why.found),
             (21, 0, Span::default(), None, None)
         );
-        assert_eq!((why.message().as_str(), why.to_string().as_str()), ("", "refusal 21 at 0..0"));
+        assert_eq!(
+            (why.message().as_str(), why.to_string().as_str()),
+            ("", "the edition is neither 1 nor 2")
+        );
         let mut code = |text: &[u8], tokens: &[u32], limit| {
-            rooms.parse_with(Builtins::NONE, text, tokens, edition, limit).unwrap_err().code
+            rooms.parse_with(Builtins::NONE, text, tokens, edition, limit).unwrap_err().code as u32
         };
         assert_eq!(
             (code(b"a;", &[], 0), code(b"a;", &[44, 2, 2], 65), code(b"\x80", &[9, 2, 2], 64)),
             (1, 3, 21)
         );
-        assert_eq!(rooms.read_with(Builtins::NONE, b"a @", edition, 0).unwrap_err().code, 16);
+        assert_eq!(rooms.read_with(Builtins::NONE, b"a @", edition, 0).unwrap_err().code, Code::NoToken);
         assert!(rooms.nodes.iter().all(|&number| number == 7));
         let mut small = Rooms::for_tokens(8);
         small.scratch.clear();
-        assert_eq!(small.read_with(Builtins::NONE, b"a;", edition, 64).unwrap_err().code, 21);
+        assert_eq!(small.read_with(Builtins::NONE, b"a;", edition, 64).unwrap_err().code, Code::BadEdition);
     }
 }

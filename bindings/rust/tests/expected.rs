@@ -4,13 +4,13 @@
 mod rows;
 
 use kaori_syntax::{
-    Builtins, Edition, Expected, MAX_DEPTH, Opening, Refusal, Rooms, Sort, Span, TOKEN_WIDTH, expected,
+    Builtins, Code, Edition, Expected, Kind, MAX_DEPTH, Opening, Refusal, Rooms, Sort, Span, TOKEN_WIDTH,
+    expected,
 };
 use rows::{decode, frame};
 
 const LIST: &[u8] = include_bytes!("../../../crates/replay/stdin");
-const FOR: u32 = 29;
-const EOF: u32 = 44;
+const EOF: u32 = Kind::Eof as u32;
 const KINDS: u32 = 45;
 
 /// A lexeme of each kind, in the order of `Token`.
@@ -41,9 +41,10 @@ fn refused(rooms: &mut Rooms, kinds: &[u32], edition: Edition, limit: u32) -> Op
 fn hold(told: &Expected) {
     assert_eq!(told.kinds().count(), told.count() as usize);
     assert_eq!((told.kinds().next(), told.bits().count_ones()), (told.lowest(), told.count()));
-    assert!(told.kinds().is_sorted() && told.kinds().all(|kind| kind < KINDS && told.contains(kind)));
-    assert!((0..70).chain([u32::MAX]).filter(|&kind| told.contains(kind)).eq(told.kinds()));
-    assert!(!told.contains(FOR) && told.open().len() <= MAX_DEPTH as usize);
+    assert!(told.kinds().is_sorted() && told.kinds().all(|kind| told.contains(kind)));
+    assert!(Kind::ALL.iter().copied().filter(|&kind| told.contains(kind)).eq(told.kinds()));
+    assert!(told.kinds().rev().is_sorted_by(|one, next| one > next) && told.bits() >> KINDS == 0);
+    assert!(!told.contains(Kind::For) && told.open().len() <= MAX_DEPTH as usize);
     assert!(told.open().is_sorted_by_key(|opening| opening.at));
 }
 
@@ -85,7 +86,11 @@ fn samples() {
     let mut rooms = Rooms::for_tokens(16);
     for (text, edition, limit, place, kinds, open) in SAMPLES {
         let why = rooms.read_with(Builtins::NONE, text.as_bytes(), Edition(edition), limit).unwrap_err();
-        assert_eq!(((why.code, why.at), why.edition, why.limit), (place, Edition(edition), limit), "{text}");
+        assert_eq!(
+            ((why.code as u32, why.at), why.edition, why.limit),
+            (place, Edition(edition), limit),
+            "{text}"
+        );
         let told = rooms.expected(why);
         hold(&told);
         assert_eq!((told.bits(), told.count()), (kinds, kinds.count_ones()), "{text}");
@@ -100,9 +105,9 @@ fn samples() {
         assert!(nothing(&expected(&rooms.list[..upto - 1], why)));
         // another code, token, edition that is none, or limit that is none
         let others = [
-            Refusal { code: if why.code == 8 { 9 } else { 8 }, ..why },
-            Refusal { code: 4, ..why },
-            Refusal { code: 12, ..why },
+            Refusal { code: if why.code == Code::Required { Code::Operand } else { Code::Required }, ..why },
+            Refusal { code: Code::SmallRoom, ..why },
+            Refusal { code: Code::SmallAnswer, ..why },
             Refusal { at: why.at + 1, ..why },
             Refusal { at: u32::MAX, ..why },
             Refusal { edition: Edition(0), ..why },
@@ -121,13 +126,13 @@ fn not_in_reading() {
         [(&b"a @"[..], 64, 16), (b"a;", 0, 3), (b"a \x80", 64, 5), (b"a; b; c; d;", 64, 1)]
     {
         let why = rooms.read(text, limit).unwrap_err();
-        assert_eq!(why.code, code);
+        assert_eq!(why.code as u32, code);
         assert!(nothing(&rooms.expected(why)));
     }
     // a 4 that is met in reading
     let mut rooms = Rooms::with_rows(1, 8, 8, 8);
     let why = rooms.read(b"a; b;", 64).unwrap_err();
-    assert!(why.code == 4 && why.found.is_some() && nothing(&rooms.expected(why)));
+    assert!(why.code == Code::SmallRoom && why.found.is_some() && nothing(&rooms.expected(why)));
 }
 
 /// Each refused case of the list, in both editions and some limits. The refused kind is not in the set. With a kind of the set
@@ -145,12 +150,12 @@ fn each_kind_of_the_list() {
             let Err(why) = rooms.parse_with(Builtins::NONE, text, &tokens, edition, limit) else { continue };
             let told = expected(&tokens, why);
             hold(&told);
-            if why.code == 11 {
+            if why.code == Code::TooDeep {
                 deep += 1;
                 assert_eq!((told.count(), told.open().len()), (0, limit as usize));
                 continue;
             }
-            if !(8..=10).contains(&why.code) {
+            if !(Code::Required..=Code::For).contains(&why.code) {
                 assert!(nothing(&told));
                 continue;
             }
@@ -164,13 +169,16 @@ fn each_kind_of_the_list() {
             }
             let kinds = tokens.chunks_exact(TOKEN_WIDTH).map(|token| token[0]);
             let mut kinds: Vec<u32> = kinds.take(place).chain([EOF, EOF]).collect();
-            assert_eq!(refused(&mut rooms, &kinds[..=place], edition, limit).is_none(), told.contains(EOF));
+            assert_eq!(
+                refused(&mut rooms, &kinds[..=place], edition, limit).is_none(),
+                told.contains(Kind::Eof)
+            );
             for kind in 0..EOF {
                 kinds[place] = kind;
                 let then = refused(&mut rooms, &kinds, edition, limit);
                 let there = then.filter(|then| then.at == why.at);
-                let too_deep = there.is_some_and(|there| there.code == 11);
-                assert!(too_deep || there.is_none() == told.contains(kind), "{kinds:?}");
+                let too_deep = there.is_some_and(|there| there.code == Code::TooDeep);
+                assert!(too_deep || there.is_none() == told.contains(Kind::ALL[kind as usize]), "{kinds:?}");
                 tried += 1;
             }
         }
@@ -201,7 +209,7 @@ fn as_many_as_the_limit() {
             let why = rooms.read_with(Builtins::NONE, text.as_bytes(), Edition(edition), limit).unwrap_err();
             let told = rooms.expected(why);
             hold(&told);
-            assert_eq!((why.code, told.count(), told.lowest()), (11, 0, None), "{opener} {limit}");
+            assert_eq!((why.code, told.count(), told.lowest()), (Code::TooDeep, 0, None), "{opener} {limit}");
             let open = told.open().iter().map(|&Opening { sort, at }| (sort, at));
             assert!(open.eq((0..limit).map(opening)), "{opener} {limit}: {told:?}");
         }
@@ -227,9 +235,11 @@ fn any_numbers() {
         let tokens: Vec<u32> = numbers.collect();
         let mut near = |bound| if roll(16) == 0 { u32::MAX - roll(3) } else { roll(bound) };
         let why = Refusal {
-            code: if near(4) == 0 { near(14) } else { 8 + near(4) % 4 },
+            code: Code::from_u32(if near(4) == 0 { near(14) } else { 8 + near(4) % 4 })
+                .unwrap_or(Code::BadNames),
             at: near(5),
             span: Span { start: near(9), end: near(9) },
+            byte: None,
             expected: None,
             found: None,
             edition: Edition(near(4)),
@@ -238,8 +248,8 @@ fn any_numbers() {
         let told = expected(&tokens, why);
         hold(&told);
         let there = tokens.get(TOKEN_WIDTH * why.at as usize);
-        assert!(there.is_none_or(|&kind| !told.contains(kind)));
-        assert!((8..=11).contains(&why.code) || nothing(&told));
+        assert!(there.is_none_or(|&kind| told.bits().checked_shr(kind).is_none_or(|rest| rest & 1 == 0)));
+        assert!((Code::Required..=Code::TooDeep).contains(&why.code) || nothing(&told));
         sets += usize::from(told.count() > 0);
         chains += usize::from(!told.open().is_empty());
         let rooms = Rooms { list: tokens, ..Rooms::default() };

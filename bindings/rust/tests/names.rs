@@ -5,13 +5,12 @@ mod rows;
 use std::collections::HashMap;
 
 use kaori_syntax::{
-    Builtins, Edition, Lent, Name, Node, OwnedBuiltins, Refusal, Rooms, SCRATCH_WIDTH, SYMBOL_WIDTH,
-    TOKEN_WIDTH, Tree, name, parse_with, read_with,
+    Builtins, Code, Edition, Kind, Lent, Name, Node, OwnedBuiltins, Refusal, Rooms, SCRATCH_WIDTH,
+    SYMBOL_WIDTH, TOKEN_WIDTH, Tree, name, parse_with, read_with,
 };
 use rows::{decode, frame};
 
 const LIST: &[u8] = include_bytes!("../../../crates/replay/stdin");
-const IDENTIFIER: u32 = 43;
 
 /// The symbols of a row's node, in their order.
 fn symbols(node: &Node) -> Vec<u32> {
@@ -81,10 +80,10 @@ fn the_rusts_scripts() {
         let mut alone = Rooms::for_tokens(512);
         let plain = alone.parse(text, &tokens, 64);
         // the identifiers of what was let in
-        let let_in = plain.as_ref().err().is_none_or(|why| why.code >= 8);
+        let let_in = plain.as_ref().err().is_none_or(|why| why.code >= Code::Required);
         let mut words: Vec<&str> = tokens
             .chunks_exact(TOKEN_WIDTH)
-            .filter(|token| let_in && token[0] == IDENTIFIER)
+            .filter(|token| let_in && token[0] == Kind::Identifier as u32)
             .filter_map(|token| std::str::from_utf8(text.get(token[1] as usize..token[2] as usize)?).ok())
             .collect();
         words.sort();
@@ -137,20 +136,23 @@ fn wrong_names() {
     for names in wrong {
         let station = OwnedBuiltins::new(names);
         let (why, left) = refusal(station.lend(), b"a;", Rooms::for_tokens_with(station.lend(), 8));
-        assert_eq!((why.code, why.at, why.span.start, why.expected, why.found), (18, 0, 0, None, None));
-        assert_eq!((left, why.to_string()), (Some(7), "refusal 18 at 0..0".to_string()));
+        assert_eq!(
+            (why.code as u32, why.at, why.span.start, why.expected, why.found),
+            (18, 0, 0, None, None)
+        );
+        assert_eq!((left, why.to_string()), (Some(7), "the built-in names are wrong".to_string()));
         // the token maker's refusals and a 4 for scratch come before it, what is wrong with the room for the rows after it
-        assert_eq!(refusal(station.lend(), b"a @", Rooms::for_tokens(8)).0.code, 16);
+        assert_eq!(refusal(station.lend(), b"a @", Rooms::for_tokens(8)).0.code, Code::NoToken);
         let mut small = Rooms::for_tokens(8);
         small.scratch.truncate(SCRATCH_WIDTH * 2);
-        assert_eq!(refusal(station.lend(), b"a;", small).0.code, 4);
+        assert_eq!(refusal(station.lend(), b"a;", small).0.code, Code::SmallRoom);
         let mut small = Rooms::for_tokens(8);
         small.symbols.clear();
-        assert_eq!(refusal(station.lend(), b"a;", small).0.code, 18);
+        assert_eq!(refusal(station.lend(), b"a;", small).0.code, Code::BadNames);
     }
     for rows in [[0, 3], [2, 1], [0, u32::MAX], [u32::MAX, 0]] {
         let (why, left) = refusal(Builtins { text: b"ab", rows: &rows }, b"a;", Rooms::for_tokens(8));
-        assert_eq!((why.code, left), (18, Some(7)));
+        assert_eq!((why.code, left), (Code::BadNames, Some(7)));
     }
     // names may share bytes and go back, other bytes do not matter, and a number left over is none
     let builtins = Builtins { text: b"xab\xff", rows: &[1, 3, 0, 2, 1, 2, 9] };
@@ -178,7 +180,10 @@ fn room_for_the_names() {
         if numbers < 6 {
             let (why, left) = refusal(builtins, b"show(a);", rooms);
             let met = numbers >= 4;
-            assert_eq!((why.code, why.at, why.found), (4, 2 * u32::from(met), met.then_some(IDENTIFIER)));
+            assert_eq!(
+                (why.code, why.at, why.found),
+                (Code::SmallRoom, 2 * u32::from(met), met.then_some(Kind::Identifier))
+            );
             assert_eq!(left, Some(if met { 0 } else { 7 }));
         } else {
             assert_eq!(
@@ -202,11 +207,12 @@ fn room_for_the_names() {
     // and no further
     let mut rooms = Rooms::for_tokens_with(builtins, 6);
     let why = Refusal {
-        code: 4,
+        code: Code::SmallRoom,
         at: 0,
         span: Default::default(),
+        byte: None,
         expected: None,
-        found: Some(IDENTIFIER),
+        found: Some(Kind::Identifier),
         edition: Edition::FIRST,
         limit: 64,
     };
@@ -231,7 +237,10 @@ fn slices_of_the_callers() {
     let tree = parse_with(station.lend(), b"a;", &list, Edition::SECOND, 64, lent).unwrap();
     assert_eq!(tree.symbol_rows(), [[0, 1]]);
     let lent = Lent { nodes: &mut [], links: &mut [], symbols: &mut [], scratch: &mut [] };
-    assert_eq!(parse_with(station.lend(), b"", &[], Edition::SECOND, 64, lent).unwrap_err().code, 1);
+    assert_eq!(
+        parse_with(station.lend(), b"", &[], Edition::SECOND, 64, lent).unwrap_err().code,
+        Code::BadCount
+    );
 }
 
 /// Rows that no reader wrote: a row is held to its own text, which the symbol's number chooses, and nothing panics.

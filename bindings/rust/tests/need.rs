@@ -4,7 +4,7 @@
 mod rows;
 
 use kaori_syntax::{
-    LINK_WIDTH, Lent, NODE_WIDTH, Refusal, Rooms, SYMBOL_WIDTH, TOKEN_WIDTH, Tree, parse, read,
+    Code, Kind, LINK_WIDTH, Lent, NODE_WIDTH, Refusal, Rooms, SYMBOL_WIDTH, TOKEN_WIDTH, Tree, parse, read,
 };
 use rows::{decode, frame};
 
@@ -38,7 +38,8 @@ fn numbers(tree: &Tree) -> [Vec<u32>; 3] {
 /// A 4 that was met in reading has the numbers of a token, and leaves zeros.
 fn met_at(why: Refusal, tokens: &[u32], rooms: &mut Rooms) -> u32 {
     let token = &tokens[TOKEN_WIDTH * why.at as usize..][..TOKEN_WIDTH];
-    assert_eq!((why.code, why.expected, why.found), (4, None, Some(token[0])));
+    assert_eq!((why.code, why.expected, why.found), (Code::SmallRoom, None, Kind::from_u32(token[0])));
+    assert!(why.found.is_some());
     assert_eq!([why.span.start, why.span.end], token[1..]);
     assert!(hold(rooms, 0));
     why.at
@@ -106,9 +107,13 @@ fn smaller_and_larger() {
                     short += 1;
                 }
                 // a refusal stays as it is, unless a row that does not fit is met before it
-                Err(why) if ours == Err(why) => assert!(hold(&mut rooms, if why.code < 8 { 7 } else { 0 })),
+                Err(why) if ours == Err(why) => {
+                    assert!(hold(&mut rooms, if why.code < Code::Required { 7 } else { 0 }))
+                }
                 Err(why) => {
-                    assert!(why.code >= 8 && met_at(ours.unwrap_err(), tokens, &mut rooms) <= why.at)
+                    assert!(
+                        why.code >= Code::Required && met_at(ours.unwrap_err(), tokens, &mut rooms) <= why.at
+                    )
                 }
             }
         }
@@ -136,7 +141,7 @@ fn where_it_is_met() {
         let why = rooms.read(text, 64).unwrap_err();
         let tokens = rooms.list.clone();
         assert_eq!(met_at(why, &tokens, &mut rooms), at, "{rows:?}");
-        assert_eq!(why.to_string(), format!("refusal 4 at {}..{}", why.span.start, why.span.end));
+        assert_eq!(why.to_string(), "too little room for the rows");
     }
     assert_eq!(stale([4, 2, 2], 6).read(text, 64).map(|tree| counts(&tree)), Ok([4, 2, 2]));
 }
@@ -152,7 +157,7 @@ fn the_same_numbers() {
     };
     let (mut enough, mut small) = ([7; 3], [7; 2]);
     let (in_reading, at_the_door) = (call(&mut enough), call(&mut small));
-    assert_eq!((in_reading.found, enough), (Some(44), [0; 3]));
+    assert_eq!((in_reading.found, enough), (Some(Kind::Eof), [0; 3]));
     assert_eq!((at_the_door.found, small), (None, [7; 2]));
     assert_eq!(Refusal { found: None, ..in_reading }, at_the_door);
 
@@ -186,10 +191,10 @@ fn grown() {
     // nothing to grow, or of no use
     let mut rooms = Rooms::for_tokens(3);
     let why = rooms.parse(b"a b", &[43, 0, 1, 43, 2, 3, 44, 3, 3], 64).unwrap_err();
-    assert_eq!((why.code, rooms.grow(why)), (8, Err(why)));
-    let short = Refusal { code: 4, found: None, ..why };
+    assert_eq!((why.code, rooms.grow(why)), (Code::Required, Err(why)));
+    let short = Refusal { code: Code::SmallRoom, found: None, ..why };
     assert_eq!((Rooms::with_rows(0, 0, 0, 3).grow(short), rooms.grow(short)), (Err(short), Err(short)));
-    let full = Refusal { code: 4, ..why };
+    let full = Refusal { code: Code::SmallRoom, ..why };
     assert_eq!((rooms.grow(full), Rooms::default().grow(full)), (Err(full), Err(full)));
     // up to a row for each token, and numbers that are left over stay
     let mut rooms = Rooms::with_rows(2, 0, 3, 3);

@@ -120,7 +120,8 @@ pub fn answer(ours: Result<Tree, Refusal>) -> String {
     match ours {
         Ok(tree) => printed(&tree),
         Err(r) => {
-            let numbers = [r.code, r.at, r.span.start, r.span.end, r.expected.unwrap_or(255)];
+            let expected = r.expected.map_or(255, u32::from);
+            let numbers = [r.code as u32, r.at, r.span.start, r.span.end, expected];
             format!("refused {}\n{}\n", words(&numbers), r.message().as_str())
         }
     }

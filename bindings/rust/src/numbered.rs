@@ -1,0 +1,186 @@
+//! Kinds of tokens and codes of refusals, by name.
+
+/// An enum whose variants have the reader's numbers.
+macro_rules! numbered {
+    ($(#[$meta:meta])* $name:ident, $what:literal: $($(#[$doc:meta])* $variant:ident = $number:literal,)*) => {
+        $(#[$meta])*
+        #[derive(Clone, Copy, PartialEq, Eq, PartialOrd, Ord, Hash, Debug)]
+        #[repr(u32)]
+        pub enum $name {
+            $($(#[$doc])* $variant = $number,)*
+        }
+
+        impl $name {
+            #[doc = concat!("Every ", $what, ", in the order of their numbers.")]
+            pub const ALL: &[$name] = &[$($name::$variant,)*];
+
+            #[doc = concat!("The ", $what, " of a number. None: there is no such ", $what, ".")]
+            pub const fn from_u32(number: u32) -> Option<$name> {
+                match number {
+                    $($number => Some($name::$variant),)*
+                    _ => None,
+                }
+            }
+        }
+
+        impl From<$name> for u32 {
+            fn from(one: $name) -> u32 {
+                one as u32
+            }
+        }
+    };
+}
+
+numbered! {
+    /// A kind of token, as token.rs's `Token` names it and with its number: a `Token` is handed over as `token as u32`.
+    ///
+    /// ```
+    /// use kaori_syntax::Kind;
+    ///
+    /// assert_eq!((Kind::Assign as u32, Kind::Eof as u32), (0, 44));
+    /// assert_eq!((Kind::from_u32(41), Kind::from_u32(45)), (Some(Kind::Semicolon), None));
+    /// assert_eq!(Kind::ALL.len(), 45);
+    /// ```
+    Kind, "kind":
+    /// `=`
+    Assign = 0,
+    /// `+`
+    Plus = 1,
+    /// `-`
+    Minus = 2,
+    /// `*`
+    Multiply = 3,
+    /// `^`
+    Caret = 4,
+    /// `/`
+    Divide = 5,
+    /// `%`
+    Modulo = 6,
+    /// `!=`
+    NotEqual = 7,
+    /// `==`
+    Equal = 8,
+    /// `>=`
+    GreaterEqual = 9,
+    /// `<=`
+    LessEqual = 10,
+    /// `>`
+    Greater = 11,
+    /// `<`
+    Less = 12,
+    /// `,`
+    Comma = 13,
+    /// `:`
+    Colon = 14,
+    /// `.`
+    Dot = 15,
+    /// `|`
+    Pipe = 16,
+    /// `(`
+    LeftParen = 17,
+    /// `)`
+    RightParen = 18,
+    /// `#`
+    Hash = 19,
+    /// `{`
+    LeftBrace = 20,
+    /// `}`
+    RightBrace = 21,
+    /// `and`
+    And = 22,
+    /// `or`
+    Or = 23,
+    /// `not`
+    Not = 24,
+    /// `let`
+    Let = 25,
+    /// `const`
+    Const = 26,
+    /// `ref`
+    Ref = 27,
+    /// `fun`
+    Function = 28,
+    /// `for`
+    For = 29,
+    /// `while`
+    While = 30,
+    /// `break`
+    Break = 31,
+    /// `continue`
+    Continue = 32,
+    /// `if`
+    If = 33,
+    /// `else`
+    Else = 34,
+    /// `return`
+    Return = 35,
+    /// `import`
+    Import = 36,
+    /// `true`
+    True = 37,
+    /// `false`
+    False = 38,
+    /// `nil`
+    Nil = 39,
+    /// A number.
+    NumberLiteral = 40,
+    /// `;`
+    Semicolon = 41,
+    /// A string, with its quotes.
+    StringLiteral = 42,
+    /// A name.
+    Identifier = 43,
+    /// The end of the file.
+    Eof = 44,
+}
+
+numbered! {
+    /// Why something was refused. The first that applies is given; in reading, from left to right, the first that is met. 12,
+    /// 17, 19 and 20 are not used.
+    ///
+    /// ```
+    /// use kaori_syntax::{Code, Rooms};
+    ///
+    /// let why = Rooms::for_tokens(8).read(b"return;", 64).unwrap_err();
+    /// assert_eq!((why.code, why.code as u32), (Code::Operand, 9));
+    /// assert_eq!((Code::from_u32(9), Code::from_u32(12)), (Some(Code::Operand), None));
+    /// ```
+    Code, "code":
+    /// The token list's length is not three times a count from 1 to 4,096; by [`read`](crate::read): too many tokens, or too
+    /// little room for their list.
+    BadCount = 1,
+    /// Text over 65,536 bytes.
+    LongText = 2,
+    /// Depth limit 0 or over 64.
+    BadLimit = 3,
+    /// `scratch` has fewer rows than there are tokens; after 18: the symbol room has fewer rows than there are built-in names;
+    /// met in reading: a row does not fit its room.
+    SmallRoom = 4,
+    /// A byte of the text over 127.
+    HighByte = 5,
+    /// A token's kind, span or lexeme is wrong.
+    BadToken = 6,
+    /// Eof before the last token, or none there.
+    BadEof = 7,
+    /// A certain kind of token was required.
+    Required = 8,
+    /// An operand was required.
+    Operand = 9,
+    /// A statement starts with `for`.
+    For = 10,
+    /// An opening would pass the depth limit.
+    TooDeep = 11,
+    /// Too little room for the answer; this crate always has enough.
+    SmallAnswer = 13,
+    /// An offset past the text, where [`place`](crate::place) gives none.
+    PastText = 14,
+    /// A symbol without a name, where [`name`](crate::name) gives none.
+    NoName = 15,
+    /// By [`read`](crate::read): no token starts at a byte.
+    NoToken = 16,
+    /// The built-in names' text is over 65,536 bytes, they are over 64, a span is wrong, one is no identifier, or two are the
+    /// same; after a 4 for `scratch`.
+    BadNames = 18,
+    /// The edition is neither 1 nor 2; after 3, before any 4.
+    BadEdition = 21,
+}

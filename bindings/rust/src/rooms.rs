@@ -1,0 +1,152 @@
+//! Rooms of the crate's own.
+use alloc::{vec, vec::Vec};
+
+use crate::{
+    Builtins, Code, Edition, Expected, LINK_WIDTH, Lent, MAX_NAMES, MAX_TOKENS, NODE_WIDTH, Refusal,
+    SCRATCH_WIDTH, SYMBOL_WIDTH, TOKEN_WIDTH, Tree, expected, parse, parse_with, read, read_with,
+};
+
+/// Rooms of the crate's own, to be lent again and again.
+#[derive(Clone, Debug, Default)]
+pub struct Rooms {
+    /// [`NODE_WIDTH`] numbers a row.
+    pub nodes: Vec<u32>,
+    /// [`LINK_WIDTH`] numbers a row.
+    pub links: Vec<u32>,
+    /// [`SYMBOL_WIDTH`] numbers a row.
+    pub symbols: Vec<u32>,
+    /// [`SCRATCH_WIDTH`] numbers a row.
+    pub scratch: Vec<u32>,
+    /// For the tokens that [`Rooms::read`] makes: [`TOKEN_WIDTH`] numbers each.
+    pub list: Vec<u32>,
+}
+
+impl Rooms {
+    /// Rooms for every script there is, beside any built-in names: 4,096 tokens, and 64 names. In them a script is never refused
+    /// by 4. They have 86,144 numbers; [`Rooms::for_tokens`] says why smaller ones may be better.
+    ///
+    /// ```
+    /// use kaori_syntax::{MAX_NAMES, MAX_TOKENS, Rooms, SYMBOL_WIDTH};
+    ///
+    /// let rooms = Rooms::max();
+    /// assert_eq!(rooms.symbols.len() / SYMBOL_WIDTH, MAX_TOKENS + MAX_NAMES);
+    /// ```
+    pub fn max() -> Rooms {
+        let mut rooms = Rooms::for_tokens(MAX_TOKENS);
+        rooms.symbols.resize(SYMBOL_WIDTH * (MAX_TOKENS + MAX_NAMES), 0);
+        rooms
+    }
+
+    /// Rooms for all scripts of up to so many tokens, the Eof at the end counted; never more than [`MAX_TOKENS`]. A call
+    /// clears what it does not use, so rooms that fit are faster than rooms for everything.
+    pub fn for_tokens(tokens: usize) -> Rooms {
+        Rooms::with_rows(tokens, tokens, tokens, tokens)
+    }
+
+    /// The same beside these built-in names, whose rows stand in the symbol room too.
+    pub fn for_tokens_with(builtins: Builtins, tokens: usize) -> Rooms {
+        let mut rooms = Rooms::for_tokens(tokens);
+        rooms.symbols.resize(rooms.symbols.len() + SYMBOL_WIDTH * most_names(builtins), 0);
+        rooms
+    }
+
+    /// Rooms of so many node, link and symbol rows, and for up to so many tokens; never more than [`MAX_TOKENS`], and never
+    /// more than a row a token, which is always enough. What a script needs is what its tree has: as many node, link and
+    /// symbol rows. A first guess: two thirds, a third and a quarter of the tokens, and four rows more in each; bindings'
+    /// README has what was measured.
+    pub fn with_rows(nodes: usize, links: usize, symbols: usize, tokens: usize) -> Rooms {
+        let tokens = tokens.min(MAX_TOKENS);
+        let room = |width: usize, rows: usize| vec![0; width * rows.min(tokens)];
+        Rooms {
+            nodes: room(NODE_WIDTH, nodes),
+            links: room(LINK_WIDTH, links),
+            symbols: room(SYMBOL_WIDTH, symbols),
+            scratch: room(SCRATCH_WIDTH, tokens),
+            list: room(TOKEN_WIDTH, tokens),
+        }
+    }
+
+    /// Doubles the node, link and symbol rows after a refusal that a row did not fit, but to no more than a row for each token
+    /// that `scratch` is for: then the script can be read again. Any other refusal is given back, and so is this one where
+    /// nothing can be grown.
+    pub fn grow(&mut self, why: Refusal) -> Result<(), Refusal> {
+        self.grow_with(Builtins::NONE, why)
+    }
+
+    /// The same beside these built-in names: the symbol room is grown until their rows fit, and then by up to a row for each
+    /// token more.
+    pub fn grow_with(&mut self, builtins: Builtins, why: Refusal) -> Result<(), Refusal> {
+        let mut left = Err(why);
+        let names = most_names(builtins);
+        if why.code == Code::SmallRoom && why.found.is_some() {
+            let most = (self.scratch.len() / SCRATCH_WIDTH).min(MAX_TOKENS);
+            let Rooms { nodes, links, symbols, .. } = self;
+            for (room, width, most) in
+                [(nodes, NODE_WIDTH, most), (links, LINK_WIDTH, most), (symbols, SYMBOL_WIDTH, most + names)]
+            {
+                let rows = room.len() / width;
+                if rows < most {
+                    room.resize(width * (2 * rows).clamp(1, most), 0);
+                    left = Ok(());
+                }
+            }
+        } else if why.code == Code::SmallRoom && self.symbols.len() < SYMBOL_WIDTH * names {
+            self.symbols.resize(SYMBOL_WIDTH * names, 0);
+            left = Ok(());
+        }
+        left
+    }
+
+    /// Reads a script's text: [`read`] in these rooms.
+    pub fn read<'a>(&'a mut self, text: &'a [u8], limit: u32) -> Result<Tree<'a>, Refusal> {
+        let Rooms { nodes, links, symbols, scratch, list } = self;
+        read(text, list, limit, Lent { nodes, links, symbols, scratch })
+    }
+
+    /// What could have stood where [`Rooms::read`] or [`Rooms::read_with`] has just refused a text, and what was open there:
+    /// [`expected`] over the tokens that it left. After a [`Rooms::parse`] call [`expected`] with the tokens that it was given.
+    pub fn expected(&self, why: Refusal) -> Expected {
+        expected(&self.list, why)
+    }
+
+    /// Reads a script's text and tokens: [`parse`] in these rooms.
+    pub fn parse<'a>(
+        &'a mut self,
+        text: &'a [u8],
+        tokens: &'a [u32],
+        limit: u32,
+    ) -> Result<Tree<'a>, Refusal> {
+        let Rooms { nodes, links, symbols, scratch, .. } = self;
+        parse(text, tokens, limit, Lent { nodes, links, symbols, scratch })
+    }
+
+    /// Reads a script's text beside built-in names, in an edition: [`read_with`] in these rooms.
+    pub fn read_with<'a>(
+        &'a mut self,
+        builtins: Builtins<'a>,
+        text: &'a [u8],
+        edition: Edition,
+        limit: u32,
+    ) -> Result<Tree<'a>, Refusal> {
+        let Rooms { nodes, links, symbols, scratch, list } = self;
+        read_with(builtins, text, list, edition, limit, Lent { nodes, links, symbols, scratch })
+    }
+
+    /// Reads a script's text and tokens beside built-in names, in an edition: [`parse_with`] in these rooms.
+    pub fn parse_with<'a>(
+        &'a mut self,
+        builtins: Builtins<'a>,
+        text: &'a [u8],
+        tokens: &'a [u32],
+        edition: Edition,
+        limit: u32,
+    ) -> Result<Tree<'a>, Refusal> {
+        let Rooms { nodes, links, symbols, scratch, .. } = self;
+        parse_with(builtins, text, tokens, edition, limit, Lent { nodes, links, symbols, scratch })
+    }
+}
+
+/// How many built-in names take rows: more than are allowed are refused.
+fn most_names(builtins: Builtins) -> usize {
+    (builtins.count() as usize).min(MAX_NAMES)
+}

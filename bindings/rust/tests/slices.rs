@@ -1,0 +1,34 @@
+//! What there is without `alloc`: everything over slices of the caller's. This file uses nothing else, and is also built and run
+//! without features.
+use kaori_syntax::{
+    Builtins, Code, Edition, Kind, Lent, Node, Span, expected, name, parse, place, read, read_with,
+};
+
+#[test]
+fn a_script_in_arrays() {
+    let text = b"not (a) and b;";
+    let (mut list, mut nodes, mut links, mut symbols, mut scratch) =
+        ([0; 24], [0; 80], [0; 24], [0; 16], [0; 24]);
+    let lent = Lent { nodes: &mut nodes, links: &mut links, symbols: &mut symbols, scratch: &mut scratch };
+    let tree = read_with(Builtins::NONE, text, &mut list, Edition::SECOND, 64, lent).unwrap();
+    assert_eq!(tree.tokens().iter().map(|token| token.kind).next(), Some(Kind::Not));
+    let top = tree.children(tree.root().unwrap().number).next().unwrap();
+    assert!(matches!(top.node, Node::LogicalAnd { .. }));
+    let covers = tree.children(top.number).map(|row| tree.cover(row.number).unwrap());
+    assert!(covers.eq([Span { start: 0, end: 7 }, Span { start: 12, end: 13 }]));
+    assert_eq!(tree.outward(0).last(), tree.root());
+    assert_eq!(
+        (tree.symbol(1), name(Builtins::NONE, text, &[5, 6], 1, 0)),
+        (Some(&b"b"[..]), Some(&b"a"[..]))
+    );
+
+    let lent = Lent { nodes: &mut nodes, links: &mut links, symbols: &mut symbols, scratch: &mut scratch };
+    let why = read(b"a = (b c);", &mut list, 64, lent).unwrap_err();
+    assert_eq!((why.code, why.reason().as_str()), (Code::Required, "expected `)` and found <identifier>"));
+    assert!(expected(&list, why).contains(Kind::RightParen));
+    assert_eq!(place(b"a = (b c);", why.span.start as usize).map(|place| place.column), Some(8));
+
+    let tokens = [43, 0, 1, 41, 1, 2, 44, 2, 2];
+    let lent = Lent { nodes: &mut nodes, links: &mut links, symbols: &mut symbols, scratch: &mut scratch };
+    assert_eq!(parse(b"a;", &tokens, 64, lent).map(|tree| tree.rows().count()), Ok(2));
+}
