@@ -1,5 +1,5 @@
-/* Reads a script and prints what the program `rows` prints of it. Of a refusal it prints its text, whatever its code, its line
-   as well, what could have stood there, and what was open: `example LIMIT EDITION < script`. */
+/* Reads a script and prints what the program `rows` prints of it. Of a refusal it prints its text, its line as well, what
+   could have stood there, and what was open: `example LIMIT EDITION < script`. */
 #include "kaori.h"
 
 #include <inttypes.h>

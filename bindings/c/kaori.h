@@ -133,7 +133,7 @@ enum {
     KAORI_HASH,
     KAORI_LEFT_BRACE,
     KAORI_RIGHT_BRACE,
-    KAORI_KEYWORDS, /* the first of them; each is KAORI_KEYWORD_ and its word, since KAORI_FOR is a code and KAORI_IF a sort */
+    KAORI_KEYWORDS, /* the first keyword. Each is KAORI_KEYWORD_ and its word: KAORI_FOR is a code, KAORI_IF a sort */
     KAORI_KEYWORD_AND = KAORI_KEYWORDS,
     KAORI_KEYWORD_OR,
     KAORI_KEYWORD_NOT,
@@ -272,7 +272,7 @@ size_t kaori_message(uint32_t code, uint32_t expected, uint32_t found, uint8_t *
 /* The text of any refusal, with no byte 0 at its end: that of kaori_message for 8 to 11, and one for each other code above.
    Takes: the script's text; the refusal's code, start and `expected`; the kind of the token at its place; and a room of 52
    bytes or more. The script's text matters for 16 alone, which has two: `a string that is not closed` where the byte at
-   the start is a quote, and else `no token starts here`. The two kinds matter for 8 and 9 alone.
+   the start is a quote, and else `no token starts here`. The kinds matter for 8 and 9 alone, and may else be any numbers.
    Answers: the text's length, at most 52. It is 0 for a number that is no code (0, 12, 17, 19, 20, and over 21), where the
    text needs a kind over 44, and for a room under 52 bytes.
    Leaves: the text at the room's start, all bytes past it as they were. */

@@ -28,6 +28,13 @@ pub struct Span {
 
 impl Span {
     /// The part of a text that stands there. None: it is not in the text.
+    ///
+    /// ```
+    /// use kaori_syntax::Span;
+    ///
+    /// assert_eq!(Span { start: 2, end: 4 }.of(b"a+10;"), Some(&b"10"[..]));
+    /// assert_eq!(Span { start: 2, end: 6 }.of(b"a+10;"), None);
+    /// ```
     pub fn of<'a>(&self, text: &'a [u8]) -> Option<&'a [u8]> {
         text.get(self.start as usize..self.end as usize)
     }
@@ -170,6 +177,20 @@ pub enum Node<'a> {
 }
 
 /// A list of nodes, by the numbers of their rows.
+///
+/// ```
+/// use kaori_syntax::{Node, Rooms};
+///
+/// let mut rooms = Rooms::for_tokens(16);
+/// let tree = rooms.read(b"show(a, b);", 64)?; // show, a, b, the call, the root
+/// let Some(Node::FunctionCall { arguments, .. }) = tree.row(3).map(|row| row.node) else { panic!() };
+/// for number in arguments {
+///     assert!(matches!(tree.row(number).map(|row| row.node), Some(Node::Identifier(_))));
+/// }
+/// assert!(arguments.iter().rev().eq([2, 1]));
+/// assert_eq!((arguments.len(), arguments.get(0)), (2, Some(1)));
+/// # Ok::<(), kaori_syntax::Refusal>(())
+/// ```
 #[derive(Clone, Copy, PartialEq, Eq, Debug)]
 pub struct Nodes<'a>(&'a [[u32; LINK_WIDTH]]);
 
