@@ -34,10 +34,10 @@ own-text : (text : List ℕ) (code start expected found : ℕ) → from-to 8 11 
 unfolding reason-of
 own-text text code start expected found e = rw e
 
-pub written : {text before after : List ℕ} {code start expected found n : ℕ} → from-to 8 11 code ≡ false → 52 ≤ length before → Put (own text code start) 0 before after n → Reason-given text code start expected found before after (record { code = 0; length = n })
-written {text} {before} {after} {code} {start} {expected} {found} {n} e h p =
-    let o : reason-of text code start expected found ≡ own text code start = own-text text code start expected found e in
-    let m : n ≡ length (own text code start) = p .ends ∙ zero-add _ in
+pub written : {text before after : List ℕ} {code start expected found i n : ℕ} → from-to 8 11 code ≡ false → 52 ≤ length before → Placed-at text code start i → Put (tabled i) 0 before after n → Reason-given text code start expected found before after (record { code = 0; length = n })
+written {text} {before} {after} {code} {start} {expected} {found} {i} {n} e h place p =
+    let o : reason-of text code start expected found ≡ tabled i = own-text text code start expected found e ∙ sym (place .has) in
+    let m : n ≡ length (tabled i) = p .ends ∙ zero-add _ in
     record {
       refused = λ i. absurd (omega arith);
       untouched = λ i. absurd (omega arith);

@@ -7,7 +7,7 @@ ghost use mathlib.Core.Path.{_≡_};
 ghost use lib.ListN.{length};
 ghost use Rattle.grammar.specs.Pattern.{from-to};
 ghost use Rattle.spelling.specs.Display.{Put};
-ghost use Rattle.diagnostics.specs.Reason.{last, own, tabled, table, begins, Placed-at, Reason-given};
+ghost use Rattle.diagnostics.specs.Reason.{last, tabled, table, begins, Placed-at, Reason-given};
 
 // The texts one after the other: those of the codes, and then that of a string that is not closed. One table is checked faster than an arm with bytes of its own for each
 // code.
@@ -86,7 +86,7 @@ pub fn reason(
             length: 0,
         };
     }
-    let length = put_own(text, code, start, room);
+    let length = put_tabled(which(text, code, start), room);
     Message {
         code: 0,
         length: length,
@@ -122,14 +122,6 @@ fn which(text: &[u8], code: u32, start: u32) -> usize
         return STRING;
     }
     own
-}
-
-// The text of a code that has no message, from the table.
-fn put_own(text: &[u8], code: u32, start: u32, room: &mut [u8]) -> usize
-    requires { ⌜ 52 ≤ length (now room) ⌝ }
-    ensures { λ r. ⌜ Put (own (now (text .entry)) code start) 0 (now (room .entry)) (now (room .exit)) r ⌝ }
-{
-    put_tabled(which(text, code, start), room)
 }
 
 // The texts, to be lent: to name a constant array copies it.

@@ -1,4 +1,4 @@
--- `diagnostics::reason::reason` meets its contract: it answers as `message`, or with a text of the table.
+-- `diagnostics::reason::reason` meets its contract: it answers as `message`, or with the text at the place that `which` answers.
 use borrow.Author.Needs.{needs}
 use native.Mathlib.Omega.{arith}
 use mathlib.Core.Path.{sym, _∙_}
@@ -16,8 +16,9 @@ returns-2 c = too-small (omega arith)
 
 returns-3 : tie.Need-returns-3
 returns-3 c =
-    let other = c .before .before .before .before .before in
-    written (sym (other .before .has-message .ensures) ∙ other .if1 .left) (omega arith) (c .before .before .put-own .ensures)
+    let found = c .before .before .before .before in
+    let other = found .before .before in
+    written (sym (other .before .has-message .ensures) ∙ other .if1 .left) (omega arith) (found .which .ensures) (c .before .before .put-tabled .ensures)
 
 pub reason-spec : {M : Type 1} → statement M
-reason-spec = tie.close (tie.spec (λ c κs. search needs) (λ c κs. search needs) (λ c. search needs) returns returns-2 (λ c κs. search needs) (λ c. search needs) returns-3)
+reason-spec = tie.close (tie.spec (λ c κs. search needs) (λ c κs. search needs) (λ c. search needs) returns returns-2 (λ c κs. search needs) (λ c κs. search needs) (λ c. search needs) returns-3)
