@@ -1,4 +1,4 @@
-//! The text that a row covers, as the command `kaori` has it (crates/kaori/src/cover.rt).
+//! The text that a row covers, as the command `kaori` has it (crates/showing/src/cover.rt).
 use crate::{Kind, NODE_WIDTH, Span, TOKEN_WIDTH};
 
 const START: usize = 1;

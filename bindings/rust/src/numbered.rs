@@ -136,7 +136,7 @@ numbered! {
 
 numbered! {
     /// Why something was refused. The first that applies is given; in reading, from left to right, the first that is met. 12,
-    /// 17, 19 and 20 are not used.
+    /// 17, 19 and 20 are none.
     ///
     /// ```
     /// use kaori_syntax::{Code, Rooms};

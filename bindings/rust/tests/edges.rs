@@ -164,7 +164,7 @@ fn named(node: &Node) -> (Vec<u32>, Vec<u32>) {
     (rows, symbols)
 }
 
-/// What each row covers, row by row from the parts that its children cover, as crates/kaori/src/cover.rt has it: the parentheses
+/// What each row covers, row by row from the parts that its children cover, as crates/showing/src/cover.rt has it: the parentheses
 /// of a part are counted, and the counterparts of those that are alone looked for one by one.
 fn covers(tree: &Tree) -> Vec<Span> {
     let tokens: Vec<_> = tree.tokens().iter().collect();

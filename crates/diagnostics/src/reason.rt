@@ -66,7 +66,7 @@ const NO_TOKEN: u32 = 16;
 
 // Writes the text of a refusal at the start of a room, which has to have 52 bytes whatever the text's length: that of `message` for codes 8 to 11, and for any other code
 // that a caller can meet a text of its own. Of 16 it depends on the byte at `start`: a quote has opened a string that is not closed.
-// Ruled out: the two texts of 16 in each other's place; a text for a code that is not used; a text in a room of 51 bytes, even where it would fit.
+// Ruled out: the two texts of 16 in each other's place; a text for a number that is no code; a text in a room of 51 bytes, even where it would fit.
 pub fn reason(
     text: &[u8],
     code: u32,
