@@ -21,7 +21,7 @@ use Rattle.spelling.proofs.Deciding.{holds, fails, held, failed, carried}
 use Rattle.diagnostics.specs.Line.{ends}
 use Rattle.lint.specs.declared.Rule.{Rule}
 use Rattle.lint.specs.Reach.{number, kind-of, start-of, end-of, parent-of, last-numbers, last, Takes, next, Ends, here, Past, First-past, left-number, Sign, opens, closes, counted, after, brackets}
-use Rattle.lint.specs.Rules.{Line-ends, On-new-line, joining, going-on, Reached, Reaching-not, Cut-at, Cut-off, Call-goes-on, Sum-goes-on, Going-on, Long-string, Next}
+use Rattle.lint.specs.Rules.{Line-ends, On-new-line, joining, going-on, Reached, Reaching-not, Cut-at, Cut-off, Call-goes-on, Sum-goes-on, Going-on, Long-string, Any, Next}
 
 -- a search from a number on: it has come to i, and none of those before is what is looked for
 pub record Passed (P : ℕ → Type 0) (from i : ℕ) : Type 0 where
@@ -264,6 +264,16 @@ no-string e n = fails λ r. n (e ∙ r .string)
 
 pub a-string : {text nodes : List ℕ} {row x s t : ℕ} {r : Bool} → x ≡ kind-of nodes row → x ≡ 11 → s ≡ start-of nodes row → t ≡ end-of nodes row → Decides (Line-ends text s t) r → Decides (Long-string text nodes row) r
 a-string e x s t d = carried (λ l. record { string = sym e ∙ x; line = rw (sym s) (rw (sym t) l) }) (λ r. rw s (rw t (r .line))) d
+
+-- any rule: the first three fail, and the fourth decides
+pub any-of : {text ts nodes : List ℕ} {row : ℕ} {r : Bool} → (Reaching-not ts nodes row → ⊥) → (Cut-off ts nodes row → ⊥) → (Going-on text ts nodes row → ⊥) → Decides (Long-string text nodes row) r → Decides (Any text ts nodes row) r
+any-of {text} {ts} {nodes} {row} a b c d = carried Any.long back d
+  where
+    back : Any text ts nodes row → Long-string text nodes row
+    back (Any.reaching x) = absurd (a x)
+    back (Any.cut x) = absurd (b x)
+    back (Any.going x) = absurd (c x)
+    back (Any.long x) = x
 
 -- the next row
 pub next-found : {M : ℕ → Type 0} {from count i : ℕ} → Passed M from i → i < count → M i → Next M from count i

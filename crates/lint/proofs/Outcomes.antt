@@ -15,3 +15,7 @@ one-next {r = r} {s} l m n =
           let (a, b, c) = m .meets e in
           elim (ℕ-discrete s absent) [ yes f ↦ absurd (omega (arith, n .first r a b c)) | no f ↦ let (u, v, w) = n .meets f in omega (arith, m .first s u v w, n .first r a b c) ]
     ]
+
+-- and it does not go back
+pub onward : {M : ℕ → Type 0} {from count r : ℕ} → from ≤ absent → Next M from count r → from ≤ r
+onward {r = r} l n = elim (ℕ-discrete r absent) [ yes e ↦ omega arith | no e ↦ n .meets e .0 ]

@@ -80,12 +80,20 @@ pub record Long-string (text nodes : List ℕ) (row : ℕ) : Type 0 where
   pub string : kind-of nodes row ≡ number-of Node.String
   pub line : Line-ends text (start-of nodes row) (end-of nodes row)
 
+-- any of these
+pub data Any (text ts nodes : List ℕ) (row : ℕ) : Type 0 where
+  reaching : Reaching-not ts nodes row → Any text ts nodes row
+  cut : Cut-off ts nodes row → Any text ts nodes row
+  going : Going-on text ts nodes row → Any text ts nodes row
+  long : Long-string text nodes row → Any text ts nodes row
+
 -- a row meets a rule
 unfoldable pub Meets : Rule → (text ts nodes : List ℕ) (row : ℕ) → Type 0
 Meets Rule.ReachingNot text ts nodes row = Reaching-not ts nodes row
 Meets Rule.CutOff text ts nodes row = Cut-off ts nodes row
 Meets Rule.GoingOn text ts nodes row = Going-on text ts nodes row
 Meets Rule.LongString text ts nodes row = Long-string text nodes row
+Meets Rule.Any text ts nodes row = Any text ts nodes row
 
 -- r is the first of `count` rows, from a row on, that meets a rule: none that does comes before it, and it is one, unless it is absent
 pub record Next (M : ℕ → Type 0) (from count r : ℕ) : Type 0 where

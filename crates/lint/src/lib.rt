@@ -20,7 +20,7 @@ ghost use mathlib.Core.Path.{_≡_};
 ghost use Rattle.grammar.specs.Pattern.{among};
 ghost use Rattle.grammar.specs.Token.{count};
 ghost use Rattle.spelling.specs.Decides.{Decides};
-ghost use Rattle.lint.specs.Rules.{Line-ends, On-new-line, joining, Reached, Reaching-not, going-on, Cut-at, Cut-off, Going-on, Long-string, Meets, Next};
+ghost use Rattle.lint.specs.Rules.{Line-ends, On-new-line, joining, Reached, Reaching-not, going-on, Cut-at, Cut-off, Going-on, Long-string, Any, Meets, Next};
 
 // The rules: each has rows that meet it.
 pub enum Rule {
@@ -32,6 +32,8 @@ pub enum Rule {
     GoingOn,
     // a string in which a line ends
     LongString,
+    // any of these
+    Any,
 }
 
 // Whether a line ends from an offset of the text up to another.
@@ -76,7 +78,8 @@ fn joins(kind: u32) -> bool
 }
 
 // Whether row x is an `and` or an `or` whose sign stands outside of all brackets that are opened after row `row` starts.
-fn is_reached(tokens: &[u32], nodes: &[u32], row: u32, x: u32) -> bool
+// Ruled out: true of an `or` in parentheses; false of an `and` whose left operand stands in parentheses.
+pub fn reached(tokens: &[u32], nodes: &[u32], row: u32, x: u32) -> bool
     ensures { λ r. ⌜ Decides (Reached (now (tokens .entry)) (now (nodes .entry)) row x) r ⌝ }
 {
     if !joins(node(nodes, x, 0)) {
@@ -96,7 +99,7 @@ fn is_reaching(tokens: &[u32], nodes: &[u32], row: u32) -> bool
     let mut above = row;
     let mut x = last(nodes, row);
     while x < above {
-        if is_reached(tokens, nodes, row, x) {
+        if reached(tokens, nodes, row, x) {
             return true;
         }
         above = x;
@@ -178,6 +181,22 @@ fn is_long(text: &[u8], nodes: &[u32], row: u32) -> bool
     breaks(text, node(nodes, row, 1), node(nodes, row, 2))
 }
 
+// Rule Any.
+fn is_any(text: &[u8], tokens: &[u32], nodes: &[u32], row: u32) -> bool
+    ensures { λ r. ⌜ Decides (Any (now (text .entry)) (now (tokens .entry)) (now (nodes .entry)) row) r ⌝ }
+{
+    if is_reaching(tokens, nodes, row) {
+        return true;
+    }
+    if is_cut_off(tokens, nodes, row) {
+        return true;
+    }
+    if is_going_on(text, tokens, nodes, row) {
+        return true;
+    }
+    is_long(text, nodes, row)
+}
+
 // Whether a row meets a rule.
 // Ruled out: true of a `not` before parentheses that hold an `and`; false of a `-` on a line of its own that a `)` stands before.
 pub fn meets(rule: Rule, text: &[u8], tokens: &[u32], nodes: &[u32], row: u32) -> bool
@@ -188,6 +207,7 @@ pub fn meets(rule: Rule, text: &[u8], tokens: &[u32], nodes: &[u32], row: u32) -
         Rule::CutOff => is_cut_off(tokens, nodes, row),
         Rule::GoingOn => is_going_on(text, tokens, nodes, row),
         Rule::LongString => is_long(text, nodes, row),
+        Rule::Any => is_any(text, tokens, nodes, row),
     }
 }
 

@@ -20,10 +20,10 @@ returns : tie.Need-returns Inv-loop μ-loop
 returns c = no-not (number-is (c .before .node .ensures)) (c .if1 .taken)
 
 returns-2 : tie.Need-returns-2 Inv-loop μ-loop
-returns-2 c = let l = c .before .before .before .loop in reaching-from (number-is (c .before .before .before .before .before .before .node .ensures)) (c .before .before .before .before .before .if1 .left) (l .inv .0) (l .inv .1) (c .before .before .loop-test .taken) (held (said (c .before .is-reached .ensures) (c .if2 .taken)))
+returns-2 c = let l = c .before .before .before .loop in reaching-from (number-is (c .before .before .before .before .before .before .node .ensures)) (c .before .before .before .before .before .if1 .left) (l .inv .0) (l .inv .1) (c .before .before .loop-test .taken) (held (said (c .before .reached .ensures) (c .if2 .taken)))
 
 loop-again : tie.Need-loop-again Inv-loop μ-loop
-loop-again c = let l = c .before .before .before .before .loop in (a-step (l .inv .0) (l .inv .1) (c .before .before .before .loop-test .taken) (failed (said (c .before .before .is-reached .ensures) (c .before .if2 .left))), c .last2 .ensures)
+loop-again c = let l = c .before .before .before .before .loop in (a-step (l .inv .0) (l .inv .1) (c .before .before .before .loop-test .taken) (failed (said (c .before .before .reached .ensures) (c .before .if2 .left))), c .last2 .ensures)
 
 returns-3 : tie.Need-returns-3 Inv-loop μ-loop
 returns-3 c = let l = c .before .loop in reaching-nothing (l .inv .0) (l .inv .1) (c .loop-test .left)

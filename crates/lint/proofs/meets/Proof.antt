@@ -20,6 +20,10 @@ returns-4 : tie.Need-returns-4
 unfolding Meets
 returns-4 c = rw (c .before .enum-told4 .given .1) (c .is-long .ensures)
 
+returns-5 : tie.Need-returns-5
+unfolding Meets
+returns-5 c = rw (c .before .enum-told5 .given .1) (c .is-any .ensures)
+
 pub meets-spec : {M : Type 1} → statement M
 meets-spec =
     tie.close
@@ -32,7 +36,10 @@ meets-spec =
     (λ c κs. search needs)
     (λ c. search needs)
     (λ c κs. search needs)
+    (λ c. search needs)
+    (λ c κs. search needs)
     returns
     returns-2
     returns-3
-    returns-4)
+    returns-4
+    returns-5)

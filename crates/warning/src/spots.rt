@@ -1,0 +1,108 @@
+// Where a warning stands: parts of the text and tokens that a row is to be marked at.
+use ast::kinds;
+use children::node;
+use lint::Rule;
+use lint::reach::first_past;
+use lint::reach::last;
+use lint::reach::sign;
+use lint::reached;
+use showing::cover::Part;
+use showing::cover::part_of;
+use token::kinds::EOF;
+ghost use Prim.Native.Nat.{_≤_};
+ghost use lib.ListN.{length};
+
+// How many numbers the tokens of a list have, up to Eof, which is the last.
+pub(crate) fn count(list: &[u32]) -> usize
+    ensures { λ r. ⌜ r ≤ length (now (list .entry)) ⌝ }
+{
+    let n = list.len() / 3;
+    let mut k = 0;
+    while k < n {
+        if list[3 * k] == EOF {
+            return 3 * k + 3;
+        }
+        k += 1;
+    }
+    3 * n
+}
+
+// Number i of a token; 0 where the list has none.
+fn number(tokens: &[u32], k: usize, i: usize) -> u32
+    requires { ⌜ i ≤ 2 ⌝ }
+{
+    if k >= tokens.len() / 3 {
+        return 0;
+    }
+    let at = 3 * k + i;
+    tokens[at]
+}
+
+pub(crate) fn kind(tokens: &[u32], k: usize) -> u32 {
+    number(tokens, k, 0)
+}
+
+pub(crate) fn token_part(tokens: &[u32], k: usize) -> Part {
+    Part {
+        start: number(tokens, k, 1),
+        end: number(tokens, k, 2),
+    }
+}
+
+// The token before one.
+pub(crate) fn part_before(tokens: &[u32], k: usize) -> Part {
+    if k == 0 {
+        return Part { start: 0, end: 0 };
+    }
+    token_part(tokens, k - 1)
+}
+
+// The first sign of those that join rows from x on to the left, each outside of the brackets that are opened after row `row` starts.
+fn leftmost(tokens: &[u32], nodes: &[u32], row: u32, x: u32) -> usize {
+    let mut at = x;
+    let mut left = node(nodes, x, 3);
+    while left < at {
+        if !reached(tokens, nodes, row, left) {
+            return sign(tokens, nodes, at);
+        }
+        at = left;
+        left = node(nodes, at, 3);
+    }
+    sign(tokens, nodes, at)
+}
+
+// The first `and` or `or` that a `not` took by reaching on.
+pub(crate) fn first_sign(tokens: &[u32], nodes: &[u32], row: u32) -> usize {
+    let mut above = row;
+    let mut x = last(nodes, row);
+    while x < above {
+        if reached(tokens, nodes, row, x) {
+            return leftmost(tokens, nodes, row, x);
+        }
+        above = x;
+        x = last(nodes, x);
+    }
+    0
+}
+
+// The token at which a call or a sum goes on.
+pub(crate) fn going_on(tokens: &[u32], nodes: &[u32], row: u32) -> usize {
+    if node(nodes, row, 0) == kinds::FUNCTION_CALL {
+        return first_past(tokens, node(nodes, row, 1));
+    }
+    sign(tokens, nodes, row)
+}
+
+// The token after the `}` at which a statement ends.
+pub(crate) fn after_brace(tokens: &[u32], nodes: &[u32], row: u32) -> usize {
+    first_past(tokens, node(nodes, row, 2))
+}
+
+// What a warning of a row marks: all that a `not` took, a string, or the token that starts a statement or goes on.
+pub(crate) fn spot(rule: Rule, tokens: &[u32], nodes: &[u32], covers: &[u32], row: u32) -> Part {
+    match rule {
+        Rule::CutOff => token_part(tokens, after_brace(tokens, nodes, row)),
+        Rule::GoingOn => token_part(tokens, going_on(tokens, nodes, row)),
+        _ => part_of(covers, row),
+    }
+}
