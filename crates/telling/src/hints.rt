@@ -14,11 +14,12 @@ use page::words::put_cell;
 ghost use Prim.Native.Nat.{_≤_, _<_};
 ghost use lib.ListN.{length};
 
-// A line of the table: the place where it looks (0 the refused token, 1 the one before, 2 the one before that, 3 the first of the statement, 4 the name of a call before it); the
-// code, the kind that was required, and a fact (seen.rt), with a dot for any; then the spellings of which one has to stand at the place, any text where there are none; and after
-// a tab the hint. In it \x01 stands for the refused bytes in hex, \x02 for the place that is named, \x03 and \x07 for the `}` and the `{` of seen.rt, \x04 for the refused letter in ASCII, \x05 for the sign before the refused token,
-// \x06 for the refused token's kind, and \x08 for the line of the place that is named. Code `e` is `k` or `o`.
-const SIZE: usize = 5118;
+// A line of the table has four marks, spellings, a tab and the hint.
+// The first mark is the place where it looks: 0 the refused token, 1 the one before, 2 the one before that, 3 the first of the statement, 4 the name of the call before. Then come
+// the code, the kind that was required and a fact, as seen.rt has them; a dot is any, and code `e` is `k` or `o`. One of the spellings has to stand at the place, where there are any.
+// In the hint \x01 stands for the refused bytes in hex, \x02 and \x08 for the place that is named and its line, \x03 and \x07 for the places of a `}` and of the `{` that it closes,
+// \x04 for the refused letter in ASCII, \x05 for the sign before the refused token, and \x06 for the refused token's kind.
+const SIZE: usize = 5170;
 
 const HINTS: [u8; SIZE] = *b"\
     0..n\tKaori has no comments: one may start at \x02\n\
@@ -104,6 +105,7 @@ const HINTS: [u8; SIZE] = *b"\
     0k;m\ta `;` may be missing at the end of line \x08\n\
     3k..import\tan import is `import station.screen: show, beep;`\n\
     0k;.,\ta `,` ends no statement: type `;` and start the next one\n\
+    0o.h\tan operand may be missing at the end of line \x08\n\
     0k,i\ta `)` or a `,` may be missing at the end of line \x08\n\
     0k,j\ta `,` or a `}` may be missing at the end of line \x08\n\
     0k.g. (\t`.` and `(` follow a name: give it one first, by `let`\n\

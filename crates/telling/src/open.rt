@@ -18,7 +18,6 @@ use page::words::least;
 use page::words::put_cell;
 use token::kinds;
 use wire::output::found;
-ghost use Prim.Native.Nat.{_≤_};
 
 // The words of what is open: a cell of 34 bytes each, with `_` for a blank.
 const WORDS: [u8; 306] = *b"\

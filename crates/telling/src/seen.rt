@@ -19,7 +19,6 @@ use reading::codes;
 use syntax::Numbers;
 use token::kinds;
 use wire::output::found;
-ghost use Prim.Native.Nat.{_≤_};
 
 // The places: the refused token's, that of the one before it and of the one before that, that of the first token of the statement, that of the name of a call whose `)` is
 // the token before; the one that a hint names, which is the end of the token before where there are tokens; a `}` that may close too much, and the `{` that it closes.
@@ -38,59 +37,81 @@ pub struct Seen {
     pub opener: usize,
 }
 
-// The facts by the numbers of their digits: 0 is `a` in the table, and so on.
-// a: the bytes are a letter of Latin-1, in UTF-8. b: a string before goes on past the end of its line. c: a `:` could stand here. d: a name or a dot stands right behind a number.
-// e: the line of a string that is not closed has a quote with a backslash. f: an argument could end here. g: an expression could go on. i, j: an operand starts on a later line than the token before, and a `)`, or a `}`, could stand here.
-// k: a `:` behind the first thing in a block. l: the first token of the statement is the one before, or a call's name with a `{` behind the call. m: a statement starts on a later
-// line than the token before, or the file ends outside all blocks. n: a comment of another language starts before, on this line. o: a `{`. p: a parameter could end here. q: a `}` could
-// stand here. r: a `;` or a `}`. s: a `}` before may close too much. t: a dot, with a number behind it. v: a value behind the first name of a statement. w: a keyword. x: a bracket that closes nothing. y: a keyword, with a `:` behind it.
-// z: the first byte.
+// The facts, by the numbers of their digits. The letter is what the table of hints has for it.
+
+// a: the refused bytes are a letter of Latin-1, in UTF-8.
 const LETTER: u32 = 0;
 
+// b: a string further up goes on past the end of its line.
 const BROKEN: u32 = 1;
 
+// c: a `:` could stand here.
 const COLON: u32 = 2;
 
+// d: a name or a dot right behind a number.
 const STUCK: u32 = 3;
 
+// e: a quote with a backslash before it, on the line of a string that is not closed.
 const ESCAPED: u32 = 4;
 
+// f: an argument could end here.
 const ARGUMENT: u32 = 5;
 
+// g: an expression could go on here.
 const GOES_ON: u32 = 6;
 
+// h: on a later line than the token before, where no statement could start.
+const LATER_WITHIN: u32 = 7;
+
+// i: an operand on a later line than the token before, where a `)` could stand.
 const LATER_PAREN: u32 = 8;
 
+// j: an operand on a later line than the token before, where a `}` could stand.
 const LATER_BRACE: u32 = 9;
 
+// k: a `:` behind the first token of a block.
 const KEY: u32 = 10;
 
+// l: the first token of the statement stands right before, or is the name of a call that a `{` follows.
 const LED: u32 = 11;
 
+// m: what starts a statement, on a later line than the token before; or the end of the file, outside all blocks.
 const LATER: u32 = 12;
 
+// n: a comment of another language starts further left on this line.
 const NOTE: u32 = 13;
 
+// o: a `{`.
 const OPENS: u32 = 14;
 
+// p: a parameter could end here.
 const PARAMETER: u32 = 15;
 
+// q: a `}` could stand here.
 const BRACE: u32 = 16;
 
+// r: a `;` or a brace.
 const ENDS: u32 = 17;
 
+// s: the end of the file, where a `}` further up may close too much.
 const SLIPS: u32 = 18;
 
+// t: a dot with a number behind it.
 const POINT: u32 = 19;
 
+// v: a value behind the first token of a statement.
 const VALUE: u32 = 21;
 
+// w: a keyword.
 const KEYWORD: u32 = 22;
 
+// x: a bracket that closes nothing.
 const EXTRA: u32 = 23;
 
+// y: a keyword with a `:` behind it.
 const NAMED: u32 = 24;
 
+// z: the first byte of the file.
 const FIRST: u32 = 25;
 
 // What a value that is one token is.
@@ -282,12 +303,14 @@ fn facts_of_set(could: u64, kind: u32, later: bool) -> u32 {
     let brace = could >> kinds::RIGHT_BRACE & 1 == 1;
     let on = could >> kinds::EQUAL & 1 == 1;
     let colon = could >> kinds::COLON & 1 == 1;
+    let within = could >> kinds::LET & 1 == 0;
     let operand = later & has(OPERAND, kind);
     let starts = later & has(STARTS, kind);
     let ends = (kind == kinds::EOF) & !brace;
     (colon as u32) << COLON
         | ((paren & on) as u32) << ARGUMENT
         | (on as u32) << GOES_ON
+        | ((later & within) as u32) << LATER_WITHIN
         | ((operand & paren) as u32) << LATER_PAREN
         | ((operand & brace) as u32) << LATER_BRACE
         | ((starts | ends) as u32) << LATER
