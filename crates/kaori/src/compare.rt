@@ -19,8 +19,8 @@ use page::visible::put_path;
 use page::words::least;
 use reader::read_with;
 use showing::cover::cover;
+use showing::cover::noted;
 use showing::cover::part_of;
-use showing::cover::two_each;
 use syntax::Numbers;
 use telling::DEPTH;
 use telling::tell;
@@ -86,7 +86,7 @@ fn read_ends(
         &mut scratch,
     );
     if a.code == 0 {
-        let mut covers = two_each();
+        let mut covers = noted();
         cover(list, &nodes, &links, a.nodes, &mut covers);
         note_ends(list, &nodes, &covers, a.nodes, ends);
     }

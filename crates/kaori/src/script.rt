@@ -18,6 +18,7 @@ use syntax::Numbers;
 use telling::DEPTH;
 use telling::tell;
 use telling::tell_json;
+use warning::warn;
 ghost use Prim.Native.Nat.{_≤_};
 
 // What is asked for: the edition; the report of a refusal, the statements with their trees, the rows; the names of files above them; both editions side by side; all of
@@ -109,8 +110,37 @@ fn is_shown(wish: Wish, rows: u32) -> bool {
     rows > 1
 }
 
+// Whether a script is only checked.
+fn is_check(wish: Wish) -> bool {
+    if wish.tree {
+        return false;
+    }
+    !wish.rows
+}
+
+// The warnings of a script that is read. The answer is the status: 1 where there are some and they count.
+fn show_warnings(
+    wish: Wish,
+    path: &[u8],
+    text: &[u8],
+    list: &[u32],
+    nodes: &[u32],
+    links: &[u32],
+    rows: u32,
+    out: &mut [u8; 4096],
+) -> u32
+    ensures { λ r. ⌜ r ≤ 2 ⌝ }
+{
+    let some = warn(path, text, list, nodes, links, rows, wish.json, out);
+    if some {
+        if wish.strict {
+            return 1;
+        }
+    }
+    0
+}
+
 // What is shown of a script that is read. The answer is the status.
-// Warnings have their place here: where the script is only checked, each is shown, and makes the status 1 if `wish.strict`.
 fn show_read(
     wish: Wish,
     path: &[u8],
@@ -128,10 +158,11 @@ fn show_read(
     if wish.line != 0 {
         return show_place(wish, path, text, list, nodes, links, a.nodes, built, out);
     }
+    if is_check(wish) {
+        return show_warnings(wish, path, text, list, nodes, links, a.nodes, out);
+    }
     if wish.json {
-        if wish.tree {
-            show_json(path, text, list, nodes, links, a.nodes, built, out);
-        }
+        show_json(path, text, list, nodes, links, a.nodes, built, out);
         return 0;
     }
     if is_shown(wish, a.nodes) {

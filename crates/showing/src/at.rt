@@ -1,8 +1,8 @@
 // What stands at an offset: the innermost row that covers it, and then outward to the root, a line each.
 use crate::cover::Part;
 use crate::cover::cover;
+use crate::cover::noted;
 use crate::cover::part_of;
-use crate::cover::two_each;
 use crate::tree::finish;
 use crate::tree::lead;
 use crate::tree::put_node;
@@ -100,7 +100,7 @@ pub fn show_at(
     if rows == 0 {
         return;
     }
-    let mut covers = two_each();
+    let mut covers = noted();
     cover(list, nodes, links, rows, &mut covers);
     let first = innermost(&covers, rows - 1, offset);
     outward(text, nodes, &covers, built, out, first, rows - 1);

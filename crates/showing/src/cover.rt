@@ -200,9 +200,9 @@ fn count(list: &[u32]) -> u32 {
     n
 }
 
-// Room for what 4,096 rows cover, zero throughout.
-pub fn two_each() -> [u32; 8192] {
-    [0; 8192]
+// Room for what is noted of 4,096 rows, zero throughout: two numbers each for what they cover, and behind these one each for a mark.
+pub fn noted() -> [u32; 12288] {
+    [0; 12288]
 }
 
 // Notes what each of the first `rows` rows covers.

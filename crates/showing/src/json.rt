@@ -1,7 +1,9 @@
 // The rows of a script that is read, an object of JSON each, in the order of their numbers: children before their parents, and the script last.
 use crate::cover::cover;
+use crate::cover::noted;
 use crate::cover::part_of;
-use crate::cover::two_each;
+use crate::marks::is_marked;
+use crate::marks::mark;
 use crate::tree::is_built_in;
 use crate::words::put_name;
 use crate::words::put_sign;
@@ -85,7 +87,8 @@ fn show_row(
     let sorted = put_parent(nodes, row, root, out, counted);
     let tail = put_flag(b",\"tail\":", is_last(nodes, row), out, sorted);
     let marked = put_flag(b",\"built_in\":", is_built_in(nodes, row, built), out, tail);
-    let placed = put_part(text, part.start, part.end, out, marked);
+    let warned = put_flag(b",\"warning\":", is_marked(covers, row), out, marked);
+    let placed = put_part(text, part.start, part.end, out, warned);
     let upto = least(part.end as usize, text.len());
     let said = put_string(b",\"text\":", text, part.start as usize, upto, out, placed);
     let all = put_byte(b'}', out, said);
@@ -103,8 +106,9 @@ pub fn show_json(
     built: usize,
     out: &mut [u8; 4096],
 ) {
-    let mut covers = two_each();
+    let mut covers = noted();
     cover(list, nodes, links, rows, &mut covers);
+    mark(text, list, nodes, rows, &mut covers);
     let mut row: u32 = 0;
     while row < rows {
         show_row(path, text, nodes, &covers, built, out, row, rows - 1);

@@ -3,6 +3,7 @@ pub mod at;
 pub mod cover;
 pub mod json;
 pub mod listing;
+pub mod marks;
 mod reads;
 pub mod statements;
 mod tree;

@@ -1,7 +1,8 @@
 // The statements of a script, one after the other: where each starts, how it is read, and its tree.
 use crate::cover::cover;
+use crate::cover::noted;
 use crate::cover::part_of;
-use crate::cover::two_each;
+use crate::marks::mark;
 use crate::reads::is_closed;
 use crate::reads::say;
 use crate::tree::tree;
@@ -94,7 +95,8 @@ pub fn show_statements(
     if rows == 0 {
         return;
     }
-    let mut covers = two_each();
+    let mut covers = noted();
     cover(list, nodes, links, rows, &mut covers);
+    mark(text, list, nodes, rows, &mut covers);
     show_all(text, nodes, links, &covers, built, out, rows - 1);
 }

@@ -1,6 +1,7 @@
 // The tree of a statement: a line for each node, with its place, its name and operator, and the text that it covers.
 use crate::cover::Part;
 use crate::cover::part_of;
+use crate::marks::is_marked;
 use crate::words::indent;
 use crate::words::put_name;
 use crate::words::put_sign;
@@ -102,7 +103,8 @@ fn line(
     let part = part_of(covers, row);
     let led = lead(text, part, level, out);
     let named = put_node(nodes, row, built, out, led);
-    let marked = put_mark(tail, b" (tail)", out, named);
+    let tailed = put_mark(tail, b" (tail)", out, named);
+    let marked = put_mark(is_marked(covers, row), b" (warning)", out, tailed);
     finish(text, part, out, marked);
 }
 

@@ -1,6 +1,6 @@
 // What is said of a script that is refused: the place, the message, the line of the text, and a caret.
 use diagnostics::line::place;
-use diagnostics::text::message;
+use diagnostics::reason::reason;
 use page::end_line;
 use page::put;
 use page::put_first;
@@ -17,45 +17,25 @@ pub struct Why {
     pub found: u32,
 }
 
-// The message of codes 8 to 11.
-fn put_message(why: Why, out: &mut [u8; 4096], at: usize) -> usize
+// The message of a refusal, as the library has it.
+pub(crate) fn put_why(text: &[u8], why: Why, out: &mut [u8; 4096], at: usize) -> usize
     requires { ⌜ at ≤ 4096 ⌝ }
     ensures { λ r. ⌜ r ≤ 4096 ⌝ }
 {
     let mut room = [0u8; 64];
-    let told = message(why.code, why.expected, why.found, &mut room);
+    let told = reason(
+        text,
+        why.code,
+        why.start,
+        why.expected,
+        why.found,
+        &mut room,
+    );
     let k = told.length;
     if k <= 64 {
         return put_first(&room, k, out, at);
     }
     at
-}
-
-// The message of any code. The texts of 1, 2, 5 and 16 are the command's own.
-pub(crate) fn put_why(text: &[u8], why: Why, out: &mut [u8; 4096], at: usize) -> usize
-    requires { ⌜ at ≤ 4096 ⌝ }
-    ensures { λ r. ⌜ r ≤ 4096 ⌝ }
-{
-    let code = why.code;
-    match code {
-        1 => put(b"too many tokens: a script has at most 4,095", out, at),
-        2 => put(
-            b"file too large: a script has at most 65,536 bytes",
-            out,
-            at,
-        ),
-        5 => put(b"a byte that is not ASCII", out, at),
-        16 => {
-            let i = why.start as usize;
-            if i < text.len() {
-                if text[i] == b'"' {
-                    return put(b"a string that is not closed", out, at);
-                }
-            }
-            put(b"no token starts here", out, at)
-        }
-        _ => put_message(why, out, at),
-    }
 }
 
 // Says what is wrong with the file `path`, and shows a line of it with a caret below an offset.

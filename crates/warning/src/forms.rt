@@ -72,13 +72,7 @@ fn put_taken(text: &[u8], tokens: &[u32], part: Part, out: &mut [u8; 4096]) -> u
 }
 
 // A call or a sum over the end of a line.
-fn put_going_on(
-    text: &[u8],
-    tokens: &[u32],
-    part: Part,
-    k: usize,
-    out: &mut [u8; 4096],
-) -> usize
+fn put_going_on(text: &[u8], tokens: &[u32], part: Part, k: usize, out: &mut [u8; 4096]) -> usize
     ensures { λ r. ⌜ r ≤ 4096 ⌝ }
 {
     let mark = token_part(tokens, k);
@@ -92,7 +86,11 @@ fn put_going_on(
 fn put_long(text: &[u8], part: Part, out: &mut [u8; 4096]) -> usize
     ensures { λ r. ⌜ r ≤ 4096 ⌝ }
 {
-    let led = put(b"this string goes on over the end of its line, up to ", out, 0);
+    let led = put(
+        b"this string goes on over the end of its line, up to ",
+        out,
+        0,
+    );
     if part.end == 0 {
         return led;
     }
@@ -125,14 +123,7 @@ pub(crate) fn put_what(
 }
 
 // `not` on its first operand, and on all that it took; `k` is the first `and` or `or`.
-fn show_nots(
-    text: &[u8],
-    tokens: &[u32],
-    part: Part,
-    k: usize,
-    style: u32,
-    out: &mut [u8; 4096],
-) {
+fn show_nots(text: &[u8], tokens: &[u32], part: Part, k: usize, style: u32, out: &mut [u8; 4096]) {
     let led = put(b"  for `not` on the first alone, write: (", out, 0);
     let first = put_part(text, part.start, part_before(tokens, k).end, out, led);
     let shut = put(b") ", out, first);
@@ -184,13 +175,7 @@ fn show_cut(
 }
 
 // A lead, and the line of an offset.
-fn put_line_of(
-    lead: &[u8],
-    text: &[u8],
-    offset: u32,
-    out: &mut [u8; 4096],
-    at: usize,
-) -> usize
+fn put_line_of(lead: &[u8], text: &[u8], offset: u32, out: &mut [u8; 4096], at: usize) -> usize
     requires { ⌜ at ≤ 4096 ⌝ }
     ensures { λ r. ⌜ r ≤ 4096 ⌝ }
 {
@@ -203,7 +188,13 @@ fn put_line_of(
 fn show_ends(text: &[u8], tokens: &[u32], k: usize, style: u32, out: &mut [u8; 4096]) {
     let mark = token_part(tokens, k);
     let end = part_before(tokens, k).end;
-    let one = put_line_of(b"  for a new statement, write `;` at the end of line ", text, end, out, 0);
+    let one = put_line_of(
+        b"  for a new statement, write `;` at the end of line ",
+        text,
+        end,
+        out,
+        0,
+    );
     let more = end_hint(style, out, one);
     let led = put(b"  to go on, write the `", out, 0);
     let marked = put_part(text, mark.start, mark.end, out, led);

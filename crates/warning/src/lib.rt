@@ -27,8 +27,8 @@ use page::words::least;
 use page::write;
 use showing::cover::Part;
 use showing::cover::cover;
-use showing::cover::two_each;
-use spots::count;
+use showing::cover::noted;
+use showing::marks::numbers;
 use spots::spot;
 ghost use Prim.Native.Nat.{_≤_};
 ghost use lib.ListN.{length};
@@ -128,10 +128,54 @@ fn warn_of(
     out: &mut [u8; 4096],
 ) {
     let mut room = io::buffer();
-    warn_by(path, text, tokens, nodes, covers, Rule::ReachingNot, row, json, &mut room, out);
-    warn_by(path, text, tokens, nodes, covers, Rule::CutOff, row, json, &mut room, out);
-    warn_by(path, text, tokens, nodes, covers, Rule::GoingOn, row, json, &mut room, out);
-    warn_by(path, text, tokens, nodes, covers, Rule::LongString, row, json, &mut room, out);
+    warn_by(
+        path,
+        text,
+        tokens,
+        nodes,
+        covers,
+        Rule::ReachingNot,
+        row,
+        json,
+        &mut room,
+        out,
+    );
+    warn_by(
+        path,
+        text,
+        tokens,
+        nodes,
+        covers,
+        Rule::CutOff,
+        row,
+        json,
+        &mut room,
+        out,
+    );
+    warn_by(
+        path,
+        text,
+        tokens,
+        nodes,
+        covers,
+        Rule::GoingOn,
+        row,
+        json,
+        &mut room,
+        out,
+    );
+    warn_by(
+        path,
+        text,
+        tokens,
+        nodes,
+        covers,
+        Rule::LongString,
+        row,
+        json,
+        &mut room,
+        out,
+    );
 }
 
 // Warns of all rows that meet a rule, in the order of the rows. The answer is whether there are some.
@@ -166,8 +210,8 @@ pub fn warn(
     json: bool,
     out: &mut [u8; 4096],
 ) -> bool {
-    let n = count(list);
-    let mut covers = two_each();
+    let n = numbers(list);
+    let mut covers = noted();
     cover(list, nodes, links, rows, &mut covers);
     warn_all(path, text, &list[..n], nodes, &covers, rows, json, out)
 }

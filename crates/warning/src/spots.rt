@@ -8,24 +8,7 @@ use lint::reach::sign;
 use lint::reached;
 use showing::cover::Part;
 use showing::cover::part_of;
-use token::kinds::EOF;
 ghost use Prim.Native.Nat.{_≤_};
-ghost use lib.ListN.{length};
-
-// How many numbers the tokens of a list have, up to Eof, which is the last.
-pub(crate) fn count(list: &[u32]) -> usize
-    ensures { λ r. ⌜ r ≤ length (now (list .entry)) ⌝ }
-{
-    let n = list.len() / 3;
-    let mut k = 0;
-    while k < n {
-        if list[3 * k] == EOF {
-            return 3 * k + 3;
-        }
-        k += 1;
-    }
-    3 * n
-}
 
 // Number i of a token; 0 where the list has none.
 fn number(tokens: &[u32], k: usize, i: usize) -> u32
