@@ -234,6 +234,8 @@ const WIDE: &[Wide] = &[
     (b"a;", &["tree", "--strict", "screen.kaori"], &[], "--strict goes with check; see kaori help", 2),
     (b"a;", &["rows", "--json", "screen.kaori"], &[], "--json goes with check or tree; see kaori help", 2),
     (b"a;", &["--colour", "tree", "screen.kaori"], &[], "--colour: no such command; see kaori help", 2),
+    (b"a;", &["check ", "screen.kaori"], &[], "check : no such command; see kaori help", 2),
+    (b"a;", &["check", "screen.kaori", "--json"], &[], "--json: options stand before the files; see kaori help", 2),
     // objects
     (b"a;", &["check", "--json", "screen.kaori"], &[], "", 0),
     (b"let = 1;", &["check", "--json", "screen.kaori"], &[REFUSED_JSON], "", 1),
