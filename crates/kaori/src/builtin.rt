@@ -1,12 +1,15 @@
 // The built-in names that a file lists: a name a line, and empty lines between them. The file's text is their text, and a name's row is where its line starts and
 // ends. What a name is, and that no two are the same, is for crate builtins to say.
+use crate::load::end_error;
+use crate::load::put_error;
 use builtins::INDEX;
 use builtins::MOST;
 use builtins::NAME_WIDTH;
 use builtins::right;
 use diagnostics::line::place;
 use diagnostics::line::writing_end;
-use libc::STDERR_FILENO;
+use page::put;
+use page::put_number;
 ghost use Prim.Native.Nat.{_+_, _*_, _≤_};
 ghost use mathlib.Core.Path.{_≡_};
 ghost use lib.ListN.{length};
@@ -18,13 +21,14 @@ pub(crate) const ROWS: usize = NAME_WIDTH * MOST;
 const WRONG: usize = MOST + 1;
 
 // One line on standard error: the line of a file that an offset of its text is in, and what is wrong with it.
-fn complain(path: &[u8], text: &[u8], offset: usize, why: &[u8]) {
+fn complain_at(path: &[u8], text: &[u8], offset: usize, why: &[u8]) {
     let here = place(text, offset);
-    io::write_all(STDERR_FILENO, b"kaori: ");
-    io::write_all(STDERR_FILENO, path);
-    io::write_all(STDERR_FILENO, b":");
-    io::print_decimal(STDERR_FILENO, here.line as u64);
-    io::write_all(STDERR_FILENO, why);
+    let mut out = io::buffer();
+    let named = put_error(path, &mut out);
+    let colon = put(b":", &mut out, named);
+    let line = put_number(here.line, &mut out, colon);
+    let all = put(why, &mut out, line);
+    end_error(&mut out, all);
 }
 
 // Where the first line starts that is not empty, from an offset on that is the start of a line, or the newline of a pair.
@@ -62,16 +66,11 @@ pub(crate) fn list(path: &[u8], text: &[u8], rows: &mut [u32]) -> usize
     while at < text.len() {
         let end = writing_end(text, at);
         if count == MOST {
-            complain(path, text, at, b": more than 64 names\n");
+            complain_at(path, text, at, b": more than 64 names");
             return WRONG;
         }
         if !enter(text, at, end, rows, count) {
-            complain(
-                path,
-                text,
-                at,
-                b": not a name, or one that stands above it\n",
-            );
+            complain_at(path, text, at, b": not a name, or one that stands above it");
             return WRONG;
         }
         count += 1;

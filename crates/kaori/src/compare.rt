@@ -15,6 +15,7 @@ use page::source::put_place;
 use page::source::put_under;
 use page::source::put_where;
 use page::source::show_written;
+use page::visible::put_path;
 use page::words::least;
 use reader::read_with;
 use showing::cover::cover;
@@ -163,7 +164,7 @@ fn show_nots(
 
 // The last line of a comparison.
 fn conclude(path: &[u8], what: &[u8], out: &mut [u8; 4096]) {
-    let named = put(path, out, 0);
+    let named = put_path(path, out, 0);
     let all = put(what, out, named);
     end_line(out, all);
 }
@@ -198,7 +199,7 @@ fn put_differences(shown: u32, out: &mut [u8; 4096], at: usize) -> usize
 
 // The last line where there are differences.
 fn conclude_many(path: &[u8], shown: u32, out: &mut [u8; 4096]) {
-    let named = put(path, out, 0);
+    let named = put_path(path, out, 0);
     let gap = put(b": ", out, named);
     let counted = put_number(shown, out, gap);
     let told = put_differences(shown, out, counted);

@@ -16,68 +16,149 @@ use libc::STDOUT_FILENO;
 use load::complain;
 use load::fail;
 use load::load;
-use page::put_line;
 use script::Wish;
 use script::script;
 use token::editions;
-ghost use Prim.Native.Nat.{_≤_};
+ghost use Prim.Native.Nat.{_≤_, _<_};
 ghost use lib.ListN.{length};
 
-fn help() {
-    io::write_all(STDOUT_FILENO, b"kaori shows how Kaori reads a script.\n\n");
-    io::write_all(
-        STDOUT_FILENO,
-        b"  kaori check FILE ..         says what is wrong with a script, and where; nothing if it is good\n",
-    );
-    io::write_all(
-        STDOUT_FILENO,
-        b"  kaori tree FILE ..          shows each statement with its groups in parentheses, and its tree\n",
-    );
-    io::write_all(
-        STDOUT_FILENO,
-        b"  kaori rows FILE ..          lists the rows of the tree, for programs\n",
-    );
-    io::write_all(
-        STDOUT_FILENO,
-        b"  kaori all FILE ..           the tree and then the rows\n",
-    );
-    io::write_all(
-        STDOUT_FILENO,
-        b"  kaori at FILE LINE COLUMN   shows what stands at a place, from the innermost node outward\n",
-    );
-    io::write_all(
-        STDOUT_FILENO,
-        b"  kaori compare FILE ..       shows what editions 1 and 2 of Kaori group differently\n",
-    );
-    io::write_all(
-        STDOUT_FILENO,
-        b"  kaori --edition 2 ..        any of these in edition 2; without it, in edition 1\n",
-    );
-    io::write_all(
-        STDOUT_FILENO,
-        b"  kaori --names FILE ..       any of these with built-in names, a line each in FILE; the tree marks them\n",
-    );
-    io::write_all(
-        STDOUT_FILENO,
-        b"  kaori .. then ..            one after the other\n",
-    );
-    io::write_all(
-        STDOUT_FILENO,
-        b"  kaori help                  this text\n\n",
-    );
-    io::write_all(
-        STDOUT_FILENO,
-        b"A script has at most 65,536 bytes and 4,095 tokens, and is nested at most 64 deep. There are at most 64 built-in names.\n",
-    );
-    io::write_all(
-        STDOUT_FILENO,
-        b"Exit status: 0 if all scripts are good, 1 if one is not or the editions differ, 2 if a file cannot be read, has no such place or lists no right names.\n",
-    );
+// The text of `help`. It is one string, since each one is checked by itself.
+const HELP: [u8; 1508] = *b"\
+    kaori shows how Kaori reads a script.\n\
+    \n\
+    \x20 kaori check FILE ..         says what is wrong with a script, and where; nothing if it is good\n\
+    \x20 kaori tree FILE ..          shows each statement with its groups in parentheses, and its tree\n\
+    \x20 kaori rows FILE ..          lists the rows of the tree, for programs\n\
+    \x20 kaori all FILE ..           the tree and then the rows\n\
+    \x20 kaori at FILE LINE COLUMN   shows what stands at a place, from the innermost node outward\n\
+    \x20 kaori compare FILE ..       shows what editions 1 and 2 of Kaori group differently\n\
+    \x20 kaori .. then ..            one after the other\n\
+    \x20 kaori help                  this text; so do --help and -h\n\
+    \x20 kaori --version             which kaori this is\n\
+    \n\
+    FILE is the name of a file, or - for standard input. Options stand before the command or right after it:\n\
+    \n\
+    \x20 --edition 2                 edition 2 of Kaori; without it, edition 1\n\
+    \x20 --names FILE                built-in names, a line each in FILE; the tree marks them\n\
+    \x20 --json                      of check and tree: an object of JSON a line, for programs\n\
+    \x20 --strict                    of check: a warning makes the exit status 1\n\
+    \n\
+    A script has at most 65,536 bytes and 4,095 tokens, and is nested at most 64 deep. There are at most 64 built-in names.\n\
+    A byte that is no printed sign of ASCII is shown as \\x and two digits.\n\
+    Exit status: 0 if all scripts are good, 1 if one is not or the editions differ, 2 if a file cannot be read, has no such place or lists no right names, or if what is shown cannot be written.\n";
+
+const VERSION_LINE: [u8; 51] = *b"kaori 1.0.0: the syntax of Kaori, editions 1 and 2\n";
+
+// What has been done, from good to bad. A status over REFUSED is 2 to whoever started the program. After STOPPED nothing more is done: what is shown is not written.
+const GOOD: u32 = 0;
+
+const REFUSED: u32 = 1;
+
+const UNDONE: u32 = 2;
+
+const STOPPED: u32 = 3;
+
+// The words that a command may have: a cell of 10 bytes each.
+const WORDS: [u8; 140] = *b"\
+    check     compare   at        tree      all       rows      help      --help    -h        --version \
+    --edition --names   --json    --strict  ";
+
+const CELL: usize = 10;
+
+const CHECK: usize = 0;
+
+const COMPARE: usize = 1;
+
+const AT: usize = 2;
+
+const TREE: usize = 3;
+
+const ROWS_WORD: usize = 5;
+
+const HELP_WORD: usize = 6;
+
+const VERSION: usize = 9;
+
+const EDITION: usize = 10;
+
+const NAMES: usize = 11;
+
+const JSON: usize = 12;
+
+const STRICT: usize = 13;
+
+const NO_WORD: usize = 14;
+
+// The number of a word that blanks fill up.
+fn cell_of(word: &[u8; 10]) -> usize {
+    let table = WORDS;
+    let mut i = 0;
+    while i < NO_WORD {
+        let from = CELL * i;
+        let upto = from + CELL;
+        if same(&table[from..upto], word) {
+            return i;
+        }
+        i += 1;
+    }
+    NO_WORD
 }
 
-// The script in a file. The answer is the status.
+// The number of the word that argument i is.
+fn word_at(i: usize) -> usize {
+    let mut room = [b' '; 10];
+    let n = os::arg(i, &mut room);
+    if n == 0 {
+        return NO_WORD;
+    }
+    cell_of(&room)
+}
+
+// Writes a text, and answers the status.
+fn write_text(text: &[u8]) -> u32
+    ensures { λ r. ⌜ r ≤ 3 ⌝ }
+{
+    if io::write_all(STDOUT_FILENO, text) {
+        return GOOD;
+    }
+    fail(b"standard output");
+    STOPPED
+}
+
+fn help() -> u32
+    ensures { λ r. ⌜ r ≤ 3 ⌝ }
+{
+    let text = HELP;
+    write_text(&text)
+}
+
+fn version() -> u32
+    ensures { λ r. ⌜ r ≤ 3 ⌝ }
+{
+    let text = VERSION_LINE;
+    write_text(&text)
+}
+
+// What is shown of the script in a file. The answer is the status.
+fn show(
+    names: &[u8],
+    rows: &[u32],
+    wish: Wish,
+    path: &[u8],
+    text: &[u8],
+    out: &mut [u8; 4096],
+) -> u32
+    ensures { λ r. ⌜ r ≤ 3 ⌝ }
+{
+    if wish.compare {
+        return compare(names, rows, path, text, out);
+    }
+    script(names, rows, wish, path, text, out)
+}
+
+// The script in a file. The system's last error is none when this starts, and a file that is read leaves it so: if there is one in the end, it is that of a write.
 fn file(names: &[u8], rows: &[u32], wish: Wish, path: &[u8], out: &mut [u8; 4096]) -> u32
-    ensures { λ r. ⌜ r ≤ 2 ⌝ }
+    ensures { λ r. ⌜ r ≤ 3 ⌝ }
 {
     let mut text = io::large_buffer();
     let loaded = load(
@@ -86,45 +167,37 @@ fn file(names: &[u8], rows: &[u32], wish: Wish, path: &[u8], out: &mut [u8; 4096
         &mut text,
     );
     if !loaded.whole {
-        return 2;
+        return UNDONE;
     }
     let n = loaded.size;
-    if wish.compare {
-        return compare(names, rows, path, &text[..n], out);
+    let status = show(names, rows, wish, path, &text[..n], out);
+    if status == UNDONE {
+        return UNDONE;
     }
-    script(names, rows, wish, path, &text[..n], out)
+    if os::errno() != 0 {
+        fail(b"standard output");
+        return STOPPED;
+    }
+    status
 }
 
-// The file that an argument names. Where there are several files, the name stands above what is shown of one.
-fn argument(
-    names: &[u8],
-    rows: &[u32],
-    wish: Wish,
-    i: usize,
-    many: bool,
-    out: &mut [u8; 4096],
-) -> u32
-    ensures { λ r. ⌜ r ≤ 2 ⌝ }
+// The file that an argument names.
+fn argument(names: &[u8], rows: &[u32], wish: Wish, i: usize, out: &mut [u8; 4096]) -> u32
+    ensures { λ r. ⌜ r ≤ 3 ⌝ }
 {
     let mut path = io::buffer();
     let n = os::arg(i, &mut path);
     if os::errno() != 0 {
         fail(b"file name");
-        return 2;
-    }
-    if many {
-        if wish.heads {
-            io::write_all(STDOUT_FILENO, b"== ");
-            put_line(&path[..n], out);
-        }
+        return UNDONE;
     }
     file(names, rows, wish, &path[..n], out)
 }
 
 // The greater of two statuses.
 fn worse(a: u32, b: u32) -> u32
-    requires { ⌜ (a ≤ 2) × (b ≤ 2) ⌝ }
-    ensures { λ r. ⌜ r ≤ 2 ⌝ }
+    requires { ⌜ (a ≤ 3) × (b ≤ 3) ⌝ }
+    ensures { λ r. ⌜ r ≤ 3 ⌝ }
 {
     if a < b {
         return b;
@@ -134,18 +207,20 @@ fn worse(a: u32, b: u32) -> u32
 
 // The files that the arguments from `first` up to `end` name.
 fn files(names: &[u8], rows: &[u32], wish: Wish, first: usize, end: usize) -> u32
-    ensures { λ r. ⌜ r ≤ 2 ⌝ }
+    ensures { λ r. ⌜ r ≤ 3 ⌝ }
 {
     let mut out = io::buffer();
     if first >= end {
         complain(b"no file", b" is named; see kaori help");
-        return 2;
+        return UNDONE;
     }
-    let many = end - first > 1;
-    let mut status = 0;
+    let mut status = GOOD;
     let mut i = first;
     while i < end {
-        status = worse(status, argument(names, rows, wish, i, many, &mut out));
+        status = worse(status, argument(names, rows, wish, i, &mut out));
+        if status == STOPPED {
+            return STOPPED;
+        }
         i += 1;
     }
     status
@@ -169,88 +244,73 @@ fn number(i: usize) -> u32 {
 // What stands at the place that three arguments name: a file, a line and a column.
 fn place(names: &[u8], rows: &[u32], wish: Wish, first: usize, end: usize) -> u32
     requires { ⌜ first ≤ end ⌝ }
-    ensures { λ r. ⌜ r ≤ 2 ⌝ }
+    ensures { λ r. ⌜ r ≤ 3 ⌝ }
 {
     let mut out = io::buffer();
     if end - first != 3 {
         complain(b"at", b" takes a file, a line and a column; see kaori help");
-        return 2;
+        return UNDONE;
     }
     let mut there = wish;
     there.line = number(first + 1);
     if there.line == 0 {
-        return 2;
+        return UNDONE;
     }
     there.column = number(first + 2);
     if there.column == 0 {
-        return 2;
+        return UNDONE;
     }
-    argument(names, rows, there, first, false, &mut out)
+    argument(names, rows, there, first, &mut out)
 }
 
-// What a command asks for in an edition, and the files that follow it.
-fn command(names: &[u8], rows: &[u32], edition: u32, word: &[u8], first: usize, end: usize) -> u32
-    requires { ⌜ first ≤ end ⌝ }
-    ensures { λ r. ⌜ r ≤ 2 ⌝ }
-{
+// The options: the edition, 0 where one is wrong; whether what is shown is for programs, and whether warnings count; the argument that names the file of built-in names, or
+// 0; and the argument that is next.
+struct Choice {
+    edition: u32,
+    json: bool,
+    strict: bool,
+    names: usize,
+    next: usize,
+}
+
+// Whether a command shows trees.
+fn is_tree(word: usize) -> bool {
+    match word {
+        3..=4 => true,
+        _ => false,
+    }
+}
+
+// What a command asks for, where so many files are named.
+fn wish_of(word: usize, choice: Choice, many: usize) -> Wish {
     let mut wish = Wish {
-        edition: edition,
-        report: true,
-        tree: false,
-        rows: false,
+        edition: choice.edition,
+        report: word != ROWS_WORD,
+        tree: is_tree(word),
+        rows: word > TREE,
         heads: false,
-        compare: false,
+        compare: word == COMPARE,
+        json: choice.json,
+        strict: choice.strict,
         line: 0,
         column: 0,
     };
-    if same(word, b"check") {
-        return files(names, rows, wish, first, end);
+    if word >= TREE {
+        wish.heads = many > 1;
     }
-    if same(word, b"compare") {
-        wish.compare = true;
-        return files(names, rows, wish, first, end);
-    }
-    if same(word, b"at") {
-        return place(names, rows, wish, first, end);
-    }
-    if same(word, b"help") {
-        help();
-        return 0;
-    }
-    wish.heads = true;
-    if same(word, b"tree") {
-        wish.tree = true;
-        return files(names, rows, wish, first, end);
-    }
-    if same(word, b"all") {
-        wish.tree = true;
-        wish.rows = true;
-        return files(names, rows, wish, first, end);
-    }
-    if same(word, b"rows") {
-        wish.report = false;
-        wish.rows = true;
-        return files(names, rows, wish, first, end);
-    }
-    complain(word, b": no such command; see kaori help");
-    2
+    wish
 }
 
-// The command that argument i names, in an edition and beside built-in names; help where there is none.
-fn run(names: &[u8], rows: &[u32], edition: u32, i: usize, end: usize) -> u32
-    ensures { λ r. ⌜ r ≤ 2 ⌝ }
+// What a command asks for, and the files that follow it.
+fn command(names: &[u8], rows: &[u32], word: usize, choice: Choice, end: usize) -> u32
+    requires { ⌜ choice .next ≤ end ⌝ }
+    ensures { λ r. ⌜ r ≤ 3 ⌝ }
 {
-    if i >= end {
-        help();
-        return 0;
+    let wish = wish_of(word, choice, end - choice.next);
+    if word == AT {
+        return place(names, rows, wish, choice.next, end);
     }
-    let mut word = io::buffer();
-    let n = os::arg(i, &mut word);
-    if os::errno() != 0 {
-        fail(b"command");
-        return 2;
-    }
-    command(names, rows, edition, &word[..n], i + 1, end)
+    files(names, rows, wish, choice.next, end)
 }
 
 // Whether argument i is this word.
@@ -260,90 +320,113 @@ fn is_word(i: usize, word: &[u8]) -> bool {
     same(&room[..n], word)
 }
 
-// An edition, and the argument that is next.
-struct Choice {
-    edition: u32,
-    next: usize,
-}
-
 // The edition that argument i names; 0, with a complaint, where it names none.
-fn edition_at(i: usize, end: usize) -> Choice
-    requires { ⌜ i ≤ end ⌝ }
-    ensures { λ r. ⌜ r .next ≤ end ⌝ }
-{
-    if i < end {
-        if is_word(i, b"1") {
-            return Choice {
-                edition: editions::FIRST,
-                next: i + 1,
-            };
-        }
-        if is_word(i, b"2") {
-            return Choice {
-                edition: editions::SECOND,
-                next: i + 1,
-            };
-        }
+fn edition_at(i: usize) -> u32 {
+    if is_word(i, b"1") {
+        return editions::FIRST;
+    }
+    if is_word(i, b"2") {
+        return editions::SECOND;
     }
     complain(b"--edition", b" takes 1 or 2; see kaori help");
-    Choice {
-        edition: 0,
-        next: i,
+    0
+}
+
+// The options after one that takes a value, which argument `next` is.
+fn valued(choice: Choice, word: usize, end: usize) -> Choice
+    requires { ⌜ choice .next ≤ end ⌝ }
+    ensures { λ r. ⌜ (choice .next ≤ r .next) × (r .next ≤ end) ⌝ }
+{
+    let mut after = choice;
+    let value = choice.next;
+    if word == NAMES {
+        if value >= end {
+            complain(b"--names", b" takes a file; see kaori help");
+            after.edition = 0;
+            return after;
+        }
+        after.names = value;
+        after.next = value + 1;
+        return after;
+    }
+    if value >= end {
+        complain(b"--edition", b" takes 1 or 2; see kaori help");
+        after.edition = 0;
+        return after;
+    }
+    after.edition = edition_at(value);
+    after.next = value + 1;
+    after
+}
+
+// The options after the one that argument `next` is.
+fn option(choice: Choice, word: usize, end: usize) -> Choice
+    requires { ⌜ choice .next < end ⌝ }
+    ensures { λ r. ⌜ (choice .next < r .next) × (r .next ≤ end) ⌝ }
+{
+    let mut after = choice;
+    after.next = choice.next + 1;
+    if word == JSON {
+        after.json = true;
+        return after;
+    }
+    if word == STRICT {
+        after.strict = true;
+        return after;
+    }
+    valued(after, word, end)
+}
+
+// Whether a word is an option.
+fn is_option(word: usize) -> bool {
+    match word {
+        10..=13 => true,
+        _ => false,
     }
 }
 
-// The edition that stands after `--edition`, where that is argument i, and else the edition `otherwise`.
-fn chosen(otherwise: u32, i: usize, end: usize) -> Choice
-    requires { ⌜ i ≤ end ⌝ }
-    ensures { λ r. ⌜ r .next ≤ end ⌝ }
+// The options that stand from argument `next` on, up to `end` or to any other word.
+fn options(choice: Choice, end: usize) -> Choice
+    requires { ⌜ choice .next ≤ end ⌝ }
+    ensures { λ r. ⌜ (choice .next ≤ r .next) × (r .next ≤ end) ⌝ }
 {
-    if i < end {
-        if is_word(i, b"--edition") {
-            return edition_at(i + 1, end);
+    let mut now = choice;
+    while now.next < end {
+        let word = word_at(now.next);
+        if !is_option(word) {
+            return now;
+        }
+        now = option(now, word, end);
+        if now.edition == 0 {
+            return now;
         }
     }
-    Choice {
-        edition: otherwise,
-        next: i,
-    }
+    now
 }
 
-// The command from argument i on, which may be `--edition`, beside the names that a file's text lists.
-fn run_named(edition: u32, path: &[u8], text: &[u8], i: usize, end: usize) -> u32
-    requires { ⌜ (length (now text) ≤ 65536) × (i ≤ end) ⌝ }
-    ensures { λ r. ⌜ r ≤ 2 ⌝ }
+// The command beside the names that a file's text lists.
+fn run_named(path: &[u8], text: &[u8], word: usize, choice: Choice, end: usize) -> u32
+    requires { ⌜ (length (now text) ≤ 65536) × (choice .next ≤ end) ⌝ }
+    ensures { λ r. ⌜ r ≤ 3 ⌝ }
 {
-    let choice = chosen(edition, i, end);
-    if choice.edition == 0 {
-        return 2;
-    }
     let mut rows: [u32; ROWS] = [0; ROWS];
     let count = list(path, text, &mut rows);
     if count > MOST {
-        return 2;
+        return UNDONE;
     }
-    run(
-        text,
-        &rows[..NAME_WIDTH * count],
-        choice.edition,
-        choice.next,
-        end,
-    )
+    command(text, &rows[..NAME_WIDTH * count], word, choice, end)
 }
 
-// The command after argument i, which names the file that lists the built-in names.
-fn run_beside(edition: u32, i: usize, end: usize) -> u32
-    ensures { λ r. ⌜ r ≤ 2 ⌝ }
+// The command beside the names of a file that an argument names.
+fn run_beside(word: usize, choice: Choice, end: usize) -> u32
+    requires { ⌜ choice .next ≤ end ⌝ }
+    ensures { λ r. ⌜ r ≤ 3 ⌝ }
 {
-    if i >= end {
-        complain(b"--names", b" takes a file; see kaori help");
-        return 2;
-    }
     let mut path = io::buffer();
-    let n = os::arg(i, &mut path);
+    let n = os::arg(choice.names, &mut path);
     if os::errno() != 0 {
         fail(b"file name");
-        return 2;
+        return UNDONE;
     }
     let mut text = io::large_buffer();
     let loaded = load(
@@ -352,30 +435,98 @@ fn run_beside(edition: u32, i: usize, end: usize) -> u32
         &mut text,
     );
     if !loaded.whole {
-        return 2;
+        return UNDONE;
     }
     let size = loaded.size;
-    run_named(edition, &path[..n], &text[..size], i + 1, end)
+    run_named(&path[..n], &text[..size], word, choice, end)
 }
 
-// The command of the arguments from i up to `end`, which may begin with `--edition` and `--names`.
-fn start(i: usize, end: usize) -> u32
-    requires { ⌜ i ≤ end ⌝ }
-    ensures { λ r. ⌜ r ≤ 2 ⌝ }
+// A word that is no command.
+fn refuse(i: usize) -> u32
+    ensures { λ r. ⌜ r ≤ 3 ⌝ }
 {
-    let choice = chosen(editions::FIRST, i, end);
-    if choice.edition == 0 {
-        return 2;
+    let mut word = io::buffer();
+    let n = os::arg(i, &mut word);
+    if os::errno() != 0 {
+        fail(b"command");
+        return UNDONE;
     }
-    let at = choice.next;
-    if at < end {
-        if is_word(at, b"--names") {
-            return run_beside(choice.edition, at + 1, end);
+    complain(&word[..n], b": no such command; see kaori help");
+    UNDONE
+}
+
+// Whether a command has its options, with a complaint where it has not.
+fn takes(word: usize, choice: Choice) -> bool {
+    if choice.json {
+        if word != CHECK {
+            if word != TREE {
+                complain(b"--json", b" goes with check or tree; see kaori help");
+                return false;
+            }
         }
+    }
+    if choice.strict {
+        if word != CHECK {
+            complain(b"--strict", b" goes with check; see kaori help");
+            return false;
+        }
+    }
+    true
+}
+
+// A command that shows files, with its options.
+fn run(word: usize, choice: Choice, end: usize) -> u32
+    requires { ⌜ choice .next ≤ end ⌝ }
+    ensures { λ r. ⌜ r ≤ 3 ⌝ }
+{
+    if choice.edition == 0 {
+        return UNDONE;
+    }
+    if !takes(word, choice) {
+        return UNDONE;
+    }
+    if choice.names != 0 {
+        return run_beside(word, choice, end);
     }
     let names: [u8; 0] = [0; 0];
     let rows: [u32; 0] = [0; 0];
-    run(&names, &rows, choice.edition, at, end)
+    command(&names, &rows, word, choice, end)
+}
+
+// The command of the arguments from i up to `end`. Options stand before it or after it; help where there is none.
+fn start(i: usize, end: usize) -> u32
+    requires { ⌜ i ≤ end ⌝ }
+    ensures { λ r. ⌜ r ≤ 3 ⌝ }
+{
+    let mut choice = options(
+        Choice {
+            edition: editions::FIRST,
+            json: false,
+            strict: false,
+            names: 0,
+            next: i,
+        },
+        end,
+    );
+    if choice.edition == 0 {
+        return UNDONE;
+    }
+    let at = choice.next;
+    if at >= end {
+        return help();
+    }
+    let word = word_at(at);
+    if word > VERSION {
+        return refuse(at);
+    }
+    if word == VERSION {
+        return version();
+    }
+    if word >= HELP_WORD {
+        return help();
+    }
+    choice.next = at + 1;
+    run(word, options(choice, end), end)
 }
 
 // Where the command ends that begins at argument i: at the next `then`, or after the last of n arguments.
@@ -394,12 +545,15 @@ fn end_from(i: usize, n: usize) -> usize
 
 // The commands from argument `first` on, with `then` between two. The answer is the worst status.
 fn commands(first: usize) -> u32
-    ensures { λ r. ⌜ r ≤ 2 ⌝ }
+    ensures { λ r. ⌜ r ≤ 3 ⌝ }
 {
     let n = os::arg_count();
     let mut end = end_from(first, n);
     let mut status = start(first, end);
     while end < n {
+        if status == STOPPED {
+            return STOPPED;
+        }
         let next = end + 1;
         end = end_from(next, n);
         status = worse(status, start(next, end));
@@ -411,11 +565,11 @@ fn commands(first: usize) -> u32
 fn main() {
     if is_word(1, b"--status") {
         let status = commands(2);
-        if status == 0 {
+        if status == GOOD {
             io::write_all(3, b"0");
             return;
         }
-        if status == 1 {
+        if status == REFUSED {
             io::write_all(3, b"1");
             return;
         }

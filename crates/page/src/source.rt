@@ -3,6 +3,9 @@ use crate::end_line;
 use crate::put;
 use crate::put_byte;
 use crate::put_number;
+use crate::visible::is_plain;
+use crate::visible::put_path;
+use crate::visible::put_visible;
 use diagnostics::Place;
 use diagnostics::line::place;
 use diagnostics::line::writing_end;
@@ -20,12 +23,29 @@ pub fn put_place(text: &[u8], offset: u32, out: &mut [u8; 4096], at: usize) -> u
     put_number(here.column, out, colon)
 }
 
-// What stands below a byte: a tab below a tab, and a sign below anything else.
-fn under(byte: u8, sign: u8) -> u8 {
+// A byte of a line: a tab is one, and others are escaped unless they are shown as they are.
+fn put_written(byte: u8, out: &mut [u8; 4096], at: usize) -> usize
+    requires { ⌜ at ≤ 4096 ⌝ }
+    ensures { λ r. ⌜ r ≤ 4096 ⌝ }
+{
     if byte == 9 {
-        return 9;
+        return put_byte(9, out, at);
     }
-    sign
+    put_visible(byte, out, at)
+}
+
+// What stands below a byte: a tab below a tab, a sign below a byte that is shown as it is, and four below one that is escaped.
+fn put_below(byte: u8, sign: u8, out: &mut [u8; 4096], at: usize) -> usize
+    requires { ⌜ at ≤ 4096 ⌝ }
+    ensures { λ r. ⌜ r ≤ 4096 ⌝ }
+{
+    if byte == 9 {
+        return put_byte(9, out, at);
+    }
+    if is_plain(byte) {
+        return put_byte(sign, out, at);
+    }
+    put(&[sign, sign, sign, sign], out, at)
 }
 
 // A sign below each byte of the text from an offset up to another.
@@ -43,7 +63,7 @@ pub fn put_under(
     let mut now = at;
     let mut i = start;
     while i < end {
-        now = put_byte(under(text[i], sign), out, now);
+        now = put_below(text[i], sign, out, now);
         i += 1;
     }
     now
@@ -68,8 +88,13 @@ pub fn show_written(text: &[u8], start: usize, out: &mut [u8; 4096])
     requires { ⌜ start ≤ length (now text) ⌝ }
 {
     let end = writing_end(text, start);
-    let line = put(&text[start..end], out, 0);
-    end_line(out, line);
+    let mut at = 0;
+    let mut i = start;
+    while i < end {
+        at = put_written(text[i], out, at);
+        i += 1;
+    }
+    end_line(out, at);
 }
 
 // What is written on the line of an offset, and a caret below the offset.
@@ -88,7 +113,7 @@ pub fn show_line(text: &[u8], offset: usize, column: u32, out: &mut [u8; 4096]) 
 pub fn put_where(path: &[u8], here: Place, out: &mut [u8; 4096]) -> usize
     ensures { λ r. ⌜ r ≤ 4096 ⌝ }
 {
-    let named = put(path, out, 0);
+    let named = put_path(path, out, 0);
     let colon = put_byte(b':', out, named);
     let line = put_number(here.line, out, colon);
     let then = put_byte(b':', out, line);

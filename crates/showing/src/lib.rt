@@ -1,6 +1,7 @@
 // What is shown of a script that is read.
 pub mod at;
 pub mod cover;
+pub mod json;
 pub mod listing;
 mod reads;
 pub mod statements;

@@ -1,4 +1,6 @@
-// A statement once more, as it is read: every operand that is more than a word, a literal or a chain stands in parentheses.
+// A statement once more, as it is read: every operand that is more than a word, a literal or a chain stands in parentheses, but for the left one of two that is read from
+// left to right in any case.
+use crate::words::DEEPEST;
 use crate::words::indent;
 use crate::words::put_sign;
 use ast::ABSENT;
@@ -14,7 +16,7 @@ use page::end_line;
 use page::put;
 use page::put_byte;
 use page::words::put_text;
-ghost use Prim.Native.Nat.{_+_, _≤_, _<_};
+ghost use Prim.Native.Nat.{_≤_, _<_};
 
 // The name that a row has: symbol, start and end are its numbers from 3 or 4 on.
 fn put_named(
@@ -244,31 +246,77 @@ fn is_chain(kind: u32) -> bool {
     }
 }
 
+// The level of a Binary's operator, as ops.rs counts operators: the tightest is 1.
+fn level_of(operator: u32) -> u32 {
+    match operator {
+        0..=1 => 2,
+        2..=4 => 1,
+        5..=6 => 4,
+        _ => 3,
+    }
+}
+
+// The level of a row that joins two operands; 0 for any other row.
+fn level(nodes: &[u32], row: u32) -> u32 {
+    match node(nodes, row, 0) {
+        kinds::BINARY => level_of(node(nodes, row, 3)),
+        kinds::LOGICAL_AND => 5,
+        kinds::LOGICAL_OR => 6,
+        _ => 0,
+    }
+}
+
+// Whether the operand of an operator is put in parentheses. The left one of two is not, where it is of the operator's own level: it is read first in any case.
+fn is_operand_grouped(nodes: &[u32], row: u32, place: usize, kid: u32) -> bool {
+    if is_compound(node(nodes, kid, 0)) {
+        let of = level(nodes, kid);
+        if of == 0 {
+            return true;
+        }
+        if place != 0 {
+            return true;
+        }
+        return of != level(nodes, row);
+    }
+    false
+}
+
 // Whether a child is put in parentheses: the operand of an operator, and the body of a lambda; what a block or `=` follows, where it would not end there; and what a
 // call or a dot follows, where it is no chain.
-fn is_grouped(kind: u32, place: usize, kid: u32) -> bool {
-    match kind {
-        kinds::BINARY..=kinds::UNARY => is_compound(kid),
+fn is_grouped(nodes: &[u32], row: u32, place: usize, kid: u32) -> bool {
+    let sort = node(nodes, kid, 0);
+    match node(nodes, row, 0) {
+        kinds::BINARY..=kinds::UNARY => is_operand_grouped(nodes, row, place, kid),
         kinds::LAMBDA => {
-            if kid == kinds::BLOCK {
+            if sort == kinds::BLOCK {
                 return false;
             }
-            is_compound(kid)
+            is_compound(sort)
         }
         kinds::FUNCTION_CALL..=kinds::PROPERTY_ACCESS => {
             if place == 0 {
-                return !is_chain(kid);
+                return !is_chain(sort);
             }
             false
         }
         kinds::ASSIGN | kinds::IF..=kinds::WHILE_LOOP => {
             if place == 0 {
-                return is_open(kid);
+                return is_open(sort);
             }
             false
         }
         _ => false,
     }
+}
+
+// The level of what stands below a row: a block's is one deeper, up to the deepest indent.
+fn deeper(kind: u32, level: u32) -> u32 {
+    if kind == kinds::BLOCK {
+        if level < DEEPEST {
+            return level + 1;
+        }
+    }
+    level
 }
 
 // A new line at a level.
@@ -325,7 +373,7 @@ fn before(
     out: &mut [u8; 4096],
     at: usize,
 ) -> usize
-    requires { ⌜ (at ≤ 4096) × (level < 4294967295) ⌝ }
+    requires { ⌜ at ≤ 4096 ⌝ }
     ensures { λ r. ⌜ r ≤ 4096 ⌝ }
 {
     match kind {
@@ -342,7 +390,7 @@ fn before(
             at
         }
         kinds::MAP => before_entry(place, out, at),
-        kinds::BLOCK => new_line(level + 1, out, at),
+        kinds::BLOCK => new_line(deeper(kind, level), out, at),
         kinds::IF..=kinds::WHILE_LOOP => before_block(place, out, at),
         _ => at,
     }
@@ -449,17 +497,6 @@ fn put_if(wanted: bool, byte: u8, out: &mut [u8; 4096], at: usize) -> usize
     at
 }
 
-// The level of what stands below a row: a block's is one deeper.
-fn deeper(kind: u32, level: u32) -> u32
-    requires { ⌜ level < 4294967295 ⌝ }
-    ensures { λ r. ⌜ r ≤ level + 1 ⌝ }
-{
-    if kind == kinds::BLOCK {
-        return level + 1;
-    }
-    level
-}
-
 // A row as it is read. A child has a lower number than its parent, or it is left out: so the walk ends.
 pub(crate) fn say(
     text: &[u8],
@@ -470,7 +507,7 @@ pub(crate) fn say(
     level: u32,
     at: usize,
 ) -> usize
-    requires { ⌜ (at ≤ 4096) × (level + row < 4294967296) ⌝ }
+    requires { ⌜ at ≤ 4096 ⌝ }
     ensures { λ r. ⌜ r ≤ 4096 ⌝ }
 {
     let kind = node(nodes, row, 0);
@@ -483,7 +520,7 @@ pub(crate) fn say(
         let kid = child(links, b, i);
         if kid < row {
             let sort = node(nodes, kid, 0);
-            let grouped = is_grouped(kind, i, sort);
+            let grouped = is_grouped(nodes, row, i, kid);
             let led = before(kind, operator, i, level, out, now);
             let open = put_if(grouped, b'(', out, led);
             let said = say(text, nodes, links, out, kid, deeper(kind, level), open);

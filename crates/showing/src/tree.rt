@@ -27,15 +27,21 @@ fn is_named(kind: u32) -> bool {
     }
 }
 
-// The mark of a built-in name: `built` of them stand before all other symbols. A string or a property that spells one has its symbol, and is no name.
-fn put_built_in(nodes: &[u32], row: u32, built: usize, out: &mut [u8; 4096], at: usize) -> usize
+// Whether a row is a built-in name, or declares one: `built` of them stand before all other symbols. A string or a property that spells one has its symbol, and is no name.
+pub(crate) fn is_built_in(nodes: &[u32], row: u32, built: usize) -> bool {
+    if is_named(node(nodes, row, 0)) {
+        return (node(nodes, row, 3) as usize) < built;
+    }
+    false
+}
+
+// A mark, where it is wanted.
+fn put_mark(wanted: bool, mark: &[u8], out: &mut [u8; 4096], at: usize) -> usize
     requires { ⌜ at ≤ 4096 ⌝ }
     ensures { λ r. ⌜ r ≤ 4096 ⌝ }
 {
-    if is_named(node(nodes, row, 0)) {
-        if (node(nodes, row, 3) as usize) < built {
-            return put(b" (built-in)", out, at);
-        }
+    if wanted {
+        return put(mark, out, at);
     }
     at
 }
@@ -54,21 +60,10 @@ pub(crate) fn put_node(
     let kind = node(nodes, row, 0);
     let named = put_name(kind, out, at);
     if kind > kinds::ASSIGN {
-        return put_built_in(nodes, row, built, out, named);
+        return put_mark(is_built_in(nodes, row, built), b" (built-in)", out, named);
     }
     let gap = put_byte(b' ', out, named);
     put_sign(kind, node(nodes, row, 3), out, gap)
-}
-
-// The mark of a tail.
-fn put_tail(tail: bool, out: &mut [u8; 4096], at: usize) -> usize
-    requires { ⌜ at ≤ 4096 ⌝ }
-    ensures { λ r. ⌜ r ≤ 4096 ⌝ }
-{
-    if tail {
-        return put(b" (tail)", out, at);
-    }
-    at
 }
 
 // What a line starts with: where a part of the text starts, and the indent of a level.
@@ -107,7 +102,7 @@ fn line(
     let part = part_of(covers, row);
     let led = lead(text, part, level, out);
     let named = put_node(nodes, row, built, out, led);
-    let marked = put_tail(tail, out, named);
+    let marked = put_mark(tail, b" (tail)", out, named);
     finish(text, part, out, marked);
 }
 

@@ -85,12 +85,15 @@ pub(crate) fn put_first_line(
     put_excerpt(text, start, upto as u32, most, out, at)
 }
 
-// The indent of a level, two blanks each; deeper than 24 it grows no more.
+// The level from which on the indent grows no more.
+pub(crate) const DEEPEST: u32 = 24;
+
+// The indent of a level, two blanks each.
 pub(crate) fn indent(margin: usize, level: u32, out: &mut [u8; 4096], at: usize) -> usize
     requires { ⌜ (at ≤ 4096) × (margin ≤ 64) ⌝ }
     ensures { λ r. ⌜ r ≤ 4096 ⌝ }
 {
-    let deep = least(level as usize, 24);
+    let deep = least(level as usize, DEEPEST as usize);
     let column = margin + 2 * deep;
     if column == 0 {
         return at;

@@ -12,8 +12,15 @@ use expected::expected;
 use hints::show_hint;
 use open::show_open;
 use page::hint;
+use page::json::put_count;
+use page::json::put_note;
+use page::json::put_string;
+use page::put;
+use page::put_line;
+use page::write;
 use reading::codes;
 use report::Why;
+use report::put_why;
 use report::report;
 use seen::seen_at;
 use seen::seen_in;
@@ -21,6 +28,7 @@ use syntax::Numbers;
 use token::kinds;
 use tokens::end_before;
 use wire::output::found;
+ghost use Prim.Native.Nat.{_≤_};
 
 // How deep a script may be nested.
 pub const DEPTH: u32 = 64;
@@ -72,6 +80,16 @@ fn caret_of(list: &[u32], code: u32, at: u32, start: u32) -> usize {
     start as usize
 }
 
+// What a refusal is told by.
+fn why_of(list: &[u32], a: Numbers) -> Why {
+    Why {
+        code: a.code,
+        start: a.start,
+        expected: a.expected,
+        found: found(list, a.at),
+    }
+}
+
 // Says what is wrong with a script that is refused in an edition.
 pub fn tell(
     edition: u32,
@@ -81,12 +99,41 @@ pub fn tell(
     a: Numbers,
     out: &mut [u8; 4096],
 ) {
-    let why = Why {
-        code: a.code,
-        start: a.start,
-        expected: a.expected,
-        found: found(list, a.at),
-    };
-    report(path, text, why, caret_of(list, a.code, a.at, a.start), out);
+    let caret = caret_of(list, a.code, a.at, a.start);
+    report(path, text, why_of(list, a), caret, out);
     tell_more(edition, text, list, a, hint::LINES, out);
+}
+
+// The message as a string of JSON. It is made in a room of its own.
+fn put_message(
+    text: &[u8],
+    why: Why,
+    room: &mut [u8; 4096],
+    out: &mut [u8; 4096],
+    at: usize,
+) -> usize
+    requires { ⌜ at ≤ 4096 ⌝ }
+    ensures { λ r. ⌜ r ≤ 4096 ⌝ }
+{
+    let n = put_why(text, why, room, 0);
+    put_string(b",\"message\":", room, 0, n, out, at)
+}
+
+// Says the same in one object of JSON, on a line of its own.
+pub fn tell_json(
+    edition: u32,
+    path: &[u8],
+    text: &[u8],
+    list: &[u32],
+    a: Numbers,
+    out: &mut [u8; 4096],
+) {
+    let mut said = io::buffer();
+    let noted = put_note(path, text, a.start, a.end, b"error", out);
+    let coded = put_count(b",\"code\":", a.code, out, noted);
+    let told = put_message(text, why_of(list, a), &mut said, out, coded);
+    let open = put(b",\"hints\":[", out, told);
+    write(out, open);
+    tell_more(edition, text, list, a, hint::FIRST, out);
+    put_line(b"]}", out);
 }

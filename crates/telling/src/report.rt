@@ -6,6 +6,7 @@ use page::put;
 use page::put_first;
 use page::source::put_where;
 use page::source::show_line;
+use page::visible::put_path;
 ghost use Prim.Native.Nat.{_≤_};
 
 // A refusal: its code, its place in the text, the kind that was required, and the kind that was found.
@@ -31,7 +32,7 @@ fn put_message(why: Why, out: &mut [u8; 4096], at: usize) -> usize
 }
 
 // The message of any code. The texts of 1, 2, 5 and 16 are the command's own.
-fn put_why(text: &[u8], why: Why, out: &mut [u8; 4096], at: usize) -> usize
+pub(crate) fn put_why(text: &[u8], why: Why, out: &mut [u8; 4096], at: usize) -> usize
     requires { ⌜ at ≤ 4096 ⌝ }
     ensures { λ r. ⌜ r ≤ 4096 ⌝ }
 {
@@ -60,7 +61,7 @@ fn put_why(text: &[u8], why: Why, out: &mut [u8; 4096], at: usize) -> usize
 // Says what is wrong with the file `path`, and shows a line of it with a caret below an offset.
 pub(crate) fn report(path: &[u8], text: &[u8], why: Why, caret: usize, out: &mut [u8; 4096]) {
     if why.code < 3 {
-        let named = put(path, out, 0);
+        let named = put_path(path, out, 0);
         let gap = put(b": ", out, named);
         let all = put_why(text, why, out, gap);
         end_line(out, all);

@@ -1,7 +1,7 @@
-//! places COMMAND: what `COMMAND at screen.kaori ..` and `COMMAND --names names.txt ..` print, and their status, against
-//! runs that are written down here. COMMAND is the script `kaori` of the project: the program alone has no status.
+//! places COMMAND: what `COMMAND at screen.kaori ..` and `COMMAND --names names.txt ..` print, what its other options do, and
+//! their status, against runs that are written down here. COMMAND is the script `kaori` of the project: the program alone has no status.
 use std::{
-    fs,
+    fs::{self, File},
     io::Result,
     path::Path,
     process::{Command, ExitCode, Output},
@@ -165,6 +165,102 @@ const NAMED: &[Named] = &[
     (STATION, "a;", &["at", "screen.kaori", "1"], &[], THREE_WORDS, 2),
 ];
 
+/// A script, which is standard input too, the words of the command, and the rest as of a run.
+type Wide<'a> = (&'a [u8], &'a [&'a str], &'a [&'a str], &'a str, i32);
+
+const VERSION: &str = "kaori 1.0.0: the syntax of Kaori, editions 1 and 2";
+const REFUSED_JSON: &str = "{\"file\":\"screen.kaori\",\"line\":1,\"column\":5,\"start\":4,\"end\":5,\"severity\":\"error\",\
+    \"code\":8,\"message\":\"expected <identifier> and found `=`\",\"hints\":[\"expected a name\"]}";
+/// `-a;` and a string of bytes, as rows.
+const SIGN: &[u8] = b"-a; \"\\\"\x01\r\n\x7F\";";
+#[rustfmt::skip]
+const SIGN_JSON: &[&str] = &[
+    r#"{"file":"-","row":0,"parent":1,"kind":"Identifier","tail":false,"built_in":false,"line":1,"column":2,"start":1,"end":2,"text":"a"}"#,
+    r#"{"file":"-","row":1,"parent":3,"kind":"Unary","operator":"-","tail":false,"built_in":false,"line":1,"column":1,"start":0,"end":2,"text":"-a"}"#,
+    r#"{"file":"-","row":2,"parent":3,"kind":"String","tail":false,"built_in":false,"line":1,"column":5,"start":4,"end":12,"text":"\"\\\"\u0001\u000d\u000a\u007f\""}"#,
+    r#"{"file":"-","row":3,"parent":null,"kind":"Script","tail":false,"built_in":false,"line":1,"column":1,"start":0,"end":12,"text":"-a; \"\\\"\u0001\u000d\u000a\u007f\""}"#,
+];
+/// Bytes that are not printed: in a string of a good script, and on a line that is refused.
+const CONTROL: &[u8] = b"a(\"x  y\x1B\t\n\r\\\r\"  ,  b);";
+#[rustfmt::skip]
+const CONTROL_TREE: &[&str] = &[
+    "",
+    r#"line 1: a("x  y\x1b\t"#,
+    "  reads as",
+    "    a(\"x  y\\x1b\t",
+    "",
+    r#"\\x0d", b);"#,
+    "  tree",
+    r#"    1:1      FunctionCall                     a("x  y\x1b\t\n\r\\r" , b)"#,
+    "    1:1        Identifier                     a",
+    r#"    1:3        String                         "x  y\x1b\t\n\r\\r""#,
+    "    4:7        Identifier                     b",
+];
+const BYTES: &[u8] = b"a;\t\"\x1B\xC3\xA9\";";
+const BYTES_LINES: &[&str] =
+    &["screen.kaori:1:6: a byte that is not ASCII", "a;\t\"\\x1b\\xc3\\xa9\";", "  \t     ^"];
+const NOT_BYTES: &[&str] = &[
+    "screen.kaori:1:6: `not` takes less in edition 2",
+    "\"\\x1b\"; not \"\\x07\" and b;",
+    "        ^^^^^^^^^^^^^^^^ in edition 1",
+    "        ^^^^^^^^^^ in edition 2",
+    "screen.kaori: 1 difference between the editions",
+];
+const A: &[&str] =
+    &["", "line 1: a", "  reads as", "    a;", "  tree", "    1:1      Identifier                       a"];
+const TWO: &[&str] = &["== screen.kaori", A[0], A[1], A[2], A[3], A[4], A[5]];
+
+#[rustfmt::skip]
+const WIDE: &[Wide] = &[
+    (b"", &["--version"], &[VERSION], "", 0),
+    // standard input, also beside a file, and as a place
+    (b"a;", &["tree", "-"], A, "", 0),
+    (b"let = 1;", &["check", "-"], &["-:1:5: expected <identifier> and found `=`", REFUSED[1], REFUSED[2], REFUSED[3]], "", 1),
+    (b"a;", &["at", "-", "9", "1"], &[], "-: no place 9:1 in it", 2),
+    (b"a\nlet", &["--names", "-", "check", "screen.kaori"], &[], "-:2: not a name, or one that stands above it", 2),
+    // the name of a file stands above what is shown of it, and only there
+    (b"a;", &["tree", "screen.kaori", "empty.kaori"], TWO, "", 0),
+    (b"a;", &["tree", "empty.kaori", "empty.kaori"], &[], "", 0),
+    (b"a;", &["rows", "empty.kaori", "empty.kaori"], &["== empty.kaori", "ok 1 0 0", "0 20 0 0 0 0 4294967295 0 0 0 4294967295", "== empty.kaori", "ok 1 0 0", "0 20 0 0 0 0 4294967295 0 0 0 4294967295"], "", 0),
+    (b"a;", &["tree", "gone.kaori", "empty.kaori"], &[], "gone.kaori: No such file or directory", 2),
+    // options before and after the command
+    (b"return;", &["--edition", "2", "check", "screen.kaori"], &[], "", 0),
+    (b"return;", &["check", "--edition", "2", "screen.kaori"], &[], "", 0),
+    (b"return;", &["check", "--strict", "--edition", "2", "--names", "empty.kaori", "screen.kaori"], &[], "", 0),
+    (b"a;", &["--strict", "check", "screen.kaori"], &[], "", 0),
+    (b"a;", &["check", "--edition", "3", "screen.kaori"], &[], "--edition takes 1 or 2; see kaori help", 2),
+    (b"a;", &["check", "--edition"], &[], "--edition takes 1 or 2; see kaori help", 2),
+    (b"a;", &["check", "--names"], &[], "--names takes a file; see kaori help", 2),
+    (b"a;", &["tree", "--strict", "screen.kaori"], &[], "--strict goes with check; see kaori help", 2),
+    (b"a;", &["rows", "--json", "screen.kaori"], &[], "--json goes with check or tree; see kaori help", 2),
+    (b"a;", &["--colour", "tree", "screen.kaori"], &[], "--colour: no such command; see kaori help", 2),
+    // objects
+    (b"a;", &["check", "--json", "screen.kaori"], &[], "", 0),
+    (b"let = 1;", &["check", "--json", "screen.kaori"], &[REFUSED_JSON], "", 1),
+    (b"let = 1;", &["--json", "tree", "screen.kaori", "empty.kaori"], &[REFUSED_JSON, r#"{"file":"empty.kaori","row":0,"parent":null,"kind":"Script","tail":false,"built_in":false,"line":1,"column":1,"start":0,"end":0,"text":""}"#], "", 1),
+    (SIGN, &["tree", "--json", "-"], SIGN_JSON, "", 0),
+    // bytes that are not printed
+    (CONTROL, &["tree", "screen.kaori"], CONTROL_TREE, "", 0),
+    (BYTES, &["check", "screen.kaori"], BYTES_LINES, "", 1),
+    (b"\"\x1B\"; not \"\x07\" and b;", &["compare", "screen.kaori"], NOT_BYTES, "", 1),
+    (b"", &["check", "\x1B[2J\u{e9}.kaori"], &[], "\\x1b[2J\\xc3\\xa9.kaori: No such file or directory", 2),
+];
+
+/// Words of a command whose standard output takes nothing: one line is said, and the status is 2. A script that is good shows nothing.
+const FULL: &[(&[&str], &str, i32)] = &[
+    (
+        &["tree", "screen.kaori", "screen.kaori", "then", "tree", "screen.kaori"],
+        "standard output: No space left on device",
+        2,
+    ),
+    (&["tree", "--json", "screen.kaori"], "standard output: No space left on device", 2),
+    (&["rows", "screen.kaori"], "standard output: No space left on device", 2),
+    (&["compare", "screen.kaori"], "standard output: No space left on device", 2),
+    (&["help"], "standard output: No space left on device", 2),
+    (&["--version"], "standard output: No space left on device", 2),
+    (&["check", "screen.kaori", "empty.kaori"], "", 0),
+];
+
 /// Texts of names.txt, and the line that is wrong: a keyword, blanks, a digit first, a byte past ASCII, two words; a name that
 /// stands above it; and lines that end as they may. The script is refused too, but nothing is said of it.
 #[rustfmt::skip]
@@ -244,7 +340,22 @@ fn run(program: &str, folder: &Path) -> Result<ExitCode> {
         let names: String = (0..*count).map(|i| format!("name{i}\n")).collect();
         differences += named(&names, "a;", CHECK, &[], error, *status)? as usize;
     }
-    let runs = RUNS.len() + NAMED.len() + WRONG.len() + COUNTED.len();
+    fs::write(folder.join("empty.kaori"), "")?;
+    for (script, words, lines, error, status) in WIDE {
+        fs::write(folder.join("screen.kaori"), script)?;
+        let mut wide = command(words);
+        wide.stdin(File::open(folder.join("screen.kaori"))?);
+        let what = format!("\"{}\" {}", script.escape_ascii(), words.join(" "));
+        differences += differs(wide, &what, lines, error, *status)? as usize;
+    }
+    fs::write(folder.join("screen.kaori"), "a;")?;
+    for (words, error, status) in FULL {
+        let mut full = command(words);
+        full.stdout(File::create("/dev/full")?);
+        differences +=
+            differs(full, &format!("{} > /dev/full", words.join(" ")), &[], error, *status)? as usize;
+    }
+    let runs = RUNS.len() + NAMED.len() + WRONG.len() + COUNTED.len() + WIDE.len() + FULL.len();
     println!("{runs} runs, {differences} differences");
     Ok(ExitCode::from((differences > 0) as u8))
 }

@@ -6,14 +6,12 @@ use Rattle.page.proofs.words.put_excerpt.Statement.{statement}
 use Rattle.page.proofs.words.put_excerpt.Tie as tie
 
 abbrev Inv-loop : tie.InvT-loop
-Inv-loop text start end most out₀ at upto i₀ left₀ now₀ t11 out i left now = (now ≤ 4096) × (upto ≤ length text)
+Inv-loop text start end most out₀ at upto i₀ left₀ state₀ now₀ t13 out i left state now = (now ≤ 4096) × (upto ≤ length text)
 
 abbrev μ-loop : tie.MeasureT-loop
-μ-loop text start end most out₀ at upto i₀ left₀ now₀ t11 out i left now = upto - i
+μ-loop text start end most out₀ at upto i₀ left₀ state₀ now₀ t13 out i left state now = upto - i
 
 pub put-excerpt-spec : {M : Type 1} → statement M
 put-excerpt-spec =
     tie.close
-    (tie.spec Inv-loop μ-loop (λ c κs. search needs) (λ c. search needs) (λ c. search needs) (λ c κs. search needs) (λ c. search needs)
-    (λ c. search needs) (λ c. search needs) (λ c κs. search needs) (λ c κs. search needs) (λ c κs. search needs) (λ c. search needs) (λ c. search needs)
-    (λ c. search needs))
+    (tie.spec Inv-loop μ-loop (λ c κs. search needs) (λ c. search needs) (λ c. search needs) (λ c κs. search needs) (λ c. search needs) (λ c. search needs) (λ c. search needs) (λ c κs. search needs) (λ c κs. search needs) (λ c κs. search needs) (λ c. search needs) (λ c. search needs) (λ c. search needs))

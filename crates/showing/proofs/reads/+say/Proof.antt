@@ -1,5 +1,4 @@
--- `reads::say` meets its contract: the place stays in the room from child to child. It ends, since a child's number is below its parent's; for the same reason the level
--- grows no more often than the number falls.
+-- `reads::say` meets its contract: the place stays in the room from child to child. It ends, since a child's number is below its parent's.
 use mathlib.Core.Logic.{⊎-elim}
 use native.Mathlib.Omega.{arith}
 use borrow.Author.Needs.{needs}
@@ -41,11 +40,8 @@ say-Inv-loop text nodes links out₀ row level at kind operator b n now₀ i₀ 
 abbrev say-μ-loop : say-lts.MeasureT-loop
 say-μ-loop text nodes links out₀ row level at kind operator b n now₀ i₀ out now i = n - i
 
-say-deeper-requires : (t : ℕ) → say-lts.Need-deeper-requires (claims t) (say-at t) say.Post say-Inv-loop say-μ-loop
-say-deeper-requires t c κs = omega (arith, c .before .before .before .before .before .before .before .before .before .before .before .before .before .before .before .before .before .before .before .before .pre .1 .1, c .before .before .before .before .before .before .before .if1 .taken)
-
 say-say-requires : (t : ℕ) → say-lts.Need-say-requires (claims t) (say-at t) say.Post say-Inv-loop say-μ-loop
-say-say-requires t c κs = let start = c .before .before .before .before .before .before .before .before .before .before .before .before .before .before .before .before .before .before .before .before .before in let kid = c .before .before .before .before .before .before .before .before .if1 .taken in (omega (arith, start .pre .0, kid), (search needs, omega (arith, start .pre .1 .1, kid, c .deeper .ensures)))
+say-say-requires t c κs = (omega (arith, c .before .before .before .before .before .before .before .before .before .before .before .before .before .before .before .before .before .before .before .before .before .pre .0, c .before .before .before .before .before .before .before .before .if1 .taken), search needs)
 
 say-loop-again : (t : ℕ) → say-lts.Need-loop-again (claims t) (say-at t) say.Post say-Inv-loop say-μ-loop
 say-loop-again t c = ⊎-elim (λ w. search needs) (λ w. search needs) (c .if1 .came)
@@ -67,7 +63,7 @@ pub +say-spec : {M : Type 1} → statement M
     (λ c κs. search needs)
     (λ c κs. search needs)
     (λ c κs. search needs)
-    (say-deeper-requires t)
+    (λ c κs. search needs)
     (say-say-requires t)
     (λ c κs. search needs)
     (λ c κs. search needs)
