@@ -10,7 +10,7 @@ ghost use Prim.Native.Nat.{_≤_, _<_};
 ghost use Rattle.grammar.specs.Kind.{NumberLiteral};
 
 // A set has a binary digit for each kind. Three groups of kinds have one word each: what starts an operand, what starts a statement, and what joins two operands.
-const OPERAND: u64 = 1 << kinds::PLUS
+pub(crate) const OPERAND: u64 = 1 << kinds::PLUS
     | 1 << kinds::MINUS
     | 1 << kinds::CARET
     | 1 << kinds::PIPE
@@ -26,7 +26,7 @@ const OPERAND: u64 = 1 << kinds::PLUS
     | 1 << kinds::STRING_LITERAL
     | 1 << kinds::IDENTIFIER;
 
-const STATEMENT: u64 = OPERAND
+pub(crate) const STATEMENT: u64 = OPERAND
     | 1 << kinds::LET
     | 1 << kinds::CONST
     | 1 << kinds::REF
@@ -86,7 +86,7 @@ fn put_spelled(kind: u32, out: &mut [u8; 4096], at: usize) -> usize
 }
 
 // The word of a kind, or of a group.
-fn put_kind(kind: u32, out: &mut [u8; 4096], at: usize) -> usize
+pub(crate) fn put_kind(kind: u32, out: &mut [u8; 4096], at: usize) -> usize
     requires { ⌜ at ≤ 4096 ⌝ }
     ensures { λ r. ⌜ r ≤ 4096 ⌝ }
 {
@@ -118,7 +118,7 @@ fn kind_of(turn: u32) -> u32 {
 }
 
 // Whether a set has a kind.
-fn has(set: u64, kind: u32) -> bool {
+pub(crate) fn has(set: u64, kind: u32) -> bool {
     if kind < KINDS {
         return set >> kind & 1 == 1;
     }

@@ -1,10 +1,15 @@
 // What is said of a script that is refused: the place and the message, the line of the text, and below it what could have stood there and what is open.
 mod could;
+mod hints;
 mod open;
 mod report;
+mod run;
+mod seen;
+mod tokens;
 
 use could::show_could;
 use expected::expected;
+use hints::show_hint;
 use open::show_open;
 use page::hint;
 use page::json::put_count;
@@ -17,33 +22,62 @@ use reading::codes;
 use report::Why;
 use report::put_why;
 use report::report;
+use seen::seen_at;
+use seen::seen_in;
 use syntax::Numbers;
+use token::kinds;
+use tokens::end_before;
 use wire::output::found;
 ghost use Prim.Native.Nat.{_≤_};
 
 // How deep a script may be nested.
 pub const DEPTH: u32 = 64;
 
-// Says what could have stood at a token, and what is open there, where reading in an edition is refused by this code. The answer is the style of the next line.
+// Whether reading the tokens is what is refused by this code.
+fn is_of_tokens(code: u32) -> bool {
+    if code < codes::KIND_REQUIRED {
+        return false;
+    }
+    code <= codes::TOO_DEEP
+}
+
+// Says what could have stood at a token, and what is open there, where reading in an edition is refused; and a hint, if there is one. The answer is the style of the next line.
 fn tell_more(
     edition: u32,
     text: &[u8],
     list: &[u32],
-    code: u32,
-    at: u32,
+    a: Numbers,
     style: u32,
     out: &mut [u8; 4096],
 ) -> u32 {
-    if code < codes::KIND_REQUIRED {
-        return style;
+    if !is_of_tokens(a.code) {
+        return show_hint(text, seen_in(text, a.code, a.start as usize), style, out);
     }
-    if code > codes::TOO_DEEP {
-        return style;
-    }
-    let told = expected(list, edition, DEPTH, code, at);
+    let told = expected(list, edition, DEPTH, a.code, a.at);
     let next = show_could(told.kinds, style, out);
     let chain = told.chain;
-    show_open(text, list, chain, at, code == codes::TOO_DEEP, next, out)
+    let last = show_open(
+        text,
+        list,
+        chain,
+        a.at,
+        a.code == codes::TOO_DEEP,
+        next,
+        out,
+    );
+    show_hint(text, seen_at(text, list, a, told.kinds), last, out)
+}
+
+// Where the caret stands: at the refused token, but at the end of the file after the last one.
+fn caret_of(list: &[u32], code: u32, at: u32, start: u32) -> usize {
+    if is_of_tokens(code) {
+        if found(list, at) == kinds::EOF {
+            if at > 0 {
+                return end_before(list, at);
+            }
+        }
+    }
+    start as usize
 }
 
 // What a refusal is told by.
@@ -65,8 +99,9 @@ pub fn tell(
     a: Numbers,
     out: &mut [u8; 4096],
 ) {
-    report(path, text, why_of(list, a), out);
-    tell_more(edition, text, list, a.code, a.at, hint::LINES, out);
+    let caret = caret_of(list, a.code, a.at, a.start);
+    report(path, text, why_of(list, a), caret, out);
+    tell_more(edition, text, list, a, hint::LINES, out);
 }
 
 // The message as a string of JSON. It is made in a room of its own.
@@ -99,6 +134,6 @@ pub fn tell_json(
     let told = put_message(text, why_of(list, a), &mut said, out, coded);
     let open = put(b",\"hints\":[", out, told);
     write(out, open);
-    tell_more(edition, text, list, a.code, a.at, hint::FIRST, out);
+    tell_more(edition, text, list, a, hint::FIRST, out);
     put_line(b"]}", out);
 }

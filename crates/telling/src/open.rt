@@ -1,16 +1,23 @@
 // What is open at a refused token, innermost first. The chain of crate expected has the blocks, the `if`s, the signs and the expressions that are open. What keeps an
 // expression open is a bracket: those that no token closes before the place are looked for between an entry of the chain and the next one.
+use crate::tokens::before;
+use crate::tokens::end_before;
+use crate::tokens::one_more;
+use crate::tokens::previous;
+use crate::tokens::start_of;
+use diagnostics::line::place;
 use expected::Chain;
 use expected::sorts;
+use page::hint;
 use page::hint::end_hint;
 use page::put;
 use page::put_number;
 use page::source::put_place;
+use page::source::show_line;
 use page::words::least;
 use page::words::put_cell;
 use token::kinds;
 use wire::output::found;
-ghost use Prim.Native.Nat.{_≤_};
 
 // The words of what is open: a cell of 34 bytes each, with `_` for a blank.
 const WORDS: [u8; 306] = *b"\
@@ -45,37 +52,13 @@ const NOTHING: usize = 9;
 const MOST: u32 = 5;
 
 // How far a walk from the place back to the first token is: how many brackets were met that close one further back, whether a line speaks for the expression around
-// what was met last, how many lines there are, with those that are not shown, and the style of the next one.
+// what was met last, how many lines there are, with those that are not shown, the style of the next one, and where the last token ends if the file ends at the place, else 0.
 pub struct Walk {
     pub closed: u32,
     pub kept: bool,
     pub lines: u32,
     pub style: u32,
-}
-
-// One more. There are fewer tokens than this can count.
-fn one_more(n: u32) -> u32 {
-    if n < 65536 {
-        return n + 1;
-    }
-    n
-}
-
-// Where a token starts; 0 where there is none.
-fn start_of(list: &[u32], token: u32) -> u32 {
-    let i = 3 * (token as usize) + 1;
-    if i < list.len() {
-        return list[i];
-    }
-    0
-}
-
-// The kind of the token that stands so many before another; Eof where there is none.
-fn before(list: &[u32], token: u32, back: u32) -> u32 {
-    if token < back {
-        return kinds::EOF;
-    }
-    found(list, token - back)
+    pub mark: usize,
 }
 
 // The last `|` before a token.
@@ -172,14 +155,6 @@ fn start_token(list: &[u32], word: usize, token: u32) -> u32 {
     token
 }
 
-// The token before another, if there is one.
-fn previous(token: u32) -> u32 {
-    if token == 0 {
-        return 0;
-    }
-    token - 1
-}
-
 // A line: what is open, and where it starts. The answer is the style of the next line.
 fn show(
     text: &[u8],
@@ -197,6 +172,16 @@ fn show(
     end_hint(style, out, all)
 }
 
+// The line of what is open at the end of the file, with a caret below its start, unless the last token ends on that line.
+fn show_opening(text: &[u8], start: usize, w: Walk, out: &mut [u8; 4096]) {
+    let here = place(text, start);
+    if here.line < place(text, w.mark).line {
+        if w.style == hint::LINES {
+            show_line(text, start, here.column, out);
+        }
+    }
+}
+
 // The walk after one more line, which is shown if few enough are.
 fn say(text: &[u8], list: &[u32], word: usize, token: u32, w: Walk, out: &mut [u8; 4096]) -> Walk {
     let mut next = w;
@@ -204,6 +189,9 @@ fn say(text: &[u8], list: &[u32], word: usize, token: u32, w: Walk, out: &mut [u
     next.kept = word != EXPRESSION;
     if w.lines < MOST {
         next.style = show(text, list, word, token, w.style, out);
+    }
+    if w.lines == 0 {
+        show_opening(text, start_of(list, token) as usize, w, out);
     }
     next
 }
@@ -282,6 +270,14 @@ fn pass_entry(
     next
 }
 
+// Where the last token ends, if the file ends at this one; else 0.
+fn end_of_last(list: &[u32], at: u32) -> usize {
+    if found(list, at) == kinds::EOF {
+        return end_before(list, at);
+    }
+    0
+}
+
 // The walk's first step: a lambda whose names are open, or whose body is to start at the place.
 fn pass_lambda(text: &[u8], list: &[u32], at: u32, style: u32, out: &mut [u8; 4096]) -> Walk {
     let w = Walk {
@@ -289,6 +285,7 @@ fn pass_lambda(text: &[u8], list: &[u32], at: u32, style: u32, out: &mut [u8; 40
         kept: false,
         lines: 0,
         style: style,
+        mark: end_of_last(list, at),
     };
     if in_names(list, at) {
         return say(text, list, LAMBDA, bar_before(list, at), w, out);

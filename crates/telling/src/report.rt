@@ -58,10 +58,8 @@ pub(crate) fn put_why(text: &[u8], why: Why, out: &mut [u8; 4096], at: usize) ->
     }
 }
 
-// Says what is wrong with the file `path`.
-pub(crate) fn report(path: &[u8], text: &[u8], why: Why, out: &mut [u8; 4096]) {
-    let offset = why.start as usize;
-    let here = place(text, offset);
+// Says what is wrong with the file `path`, and shows a line of it with a caret below an offset.
+pub(crate) fn report(path: &[u8], text: &[u8], why: Why, caret: usize, out: &mut [u8; 4096]) {
     if why.code < 3 {
         let named = put_path(path, out, 0);
         let gap = put(b": ", out, named);
@@ -69,8 +67,10 @@ pub(crate) fn report(path: &[u8], text: &[u8], why: Why, out: &mut [u8; 4096]) {
         end_line(out, all);
         return;
     }
+    let here = place(text, why.start as usize);
     let led = put_where(path, here, out);
     let all = put_why(text, why, out, led);
     end_line(out, all);
-    show_line(text, offset, here.column, out);
+    let there = place(text, caret);
+    show_line(text, caret, there.column, out);
 }

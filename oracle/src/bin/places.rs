@@ -197,8 +197,12 @@ const CONTROL_TREE: &[&str] = &[
     "    4:7        Identifier                     b",
 ];
 const BYTES: &[u8] = b"a;\t\"\x1B\xC3\xA9\";";
-const BYTES_LINES: &[&str] =
-    &["screen.kaori:1:6: a byte that is not ASCII", "a;\t\"\\x1b\\xc3\\xa9\";", "  \t     ^"];
+const BYTES_LINES: &[&str] = &[
+    "screen.kaori:1:6: a byte that is not ASCII",
+    "a;\t\"\\x1b\\xc3\\xa9\";",
+    "  \t     ^",
+    "  hint: byte c3 a9 is no ASCII letter: type `e`, in strings too",
+];
 const NOT_BYTES: &[&str] = &[
     "screen.kaori:1:6: `not` takes less in edition 2",
     "\"\\x1b\"; not \"\\x07\" and b;",
