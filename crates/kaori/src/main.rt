@@ -111,6 +111,9 @@ fn word_at(i: usize) -> usize {
     if n == 0 {
         return NO_WORD;
     }
+    if room[n - 1] == b' ' {
+        return NO_WORD;
+    }
     cell_of(&room)
 }
 
@@ -181,10 +184,35 @@ fn file(names: &[u8], rows: &[u32], wish: Wish, path: &[u8], out: &mut [u8; 4096
     status
 }
 
+// What is said of argument i, where it has no place.
+fn refuse(i: usize, why: &[u8]) -> u32
+    ensures { λ r. ⌜ r ≤ 3 ⌝ }
+{
+    let mut word = io::buffer();
+    let n = os::arg(i, &mut word);
+    if os::errno() != 0 {
+        fail(b"word");
+        return UNDONE;
+    }
+    complain(&word[..n], why);
+    UNDONE
+}
+
+// Whether a word is an option.
+fn is_option(word: usize) -> bool {
+    match word {
+        10..=13 => true,
+        _ => false,
+    }
+}
+
 // The file that an argument names.
 fn argument(names: &[u8], rows: &[u32], wish: Wish, i: usize, out: &mut [u8; 4096]) -> u32
     ensures { λ r. ⌜ r ≤ 3 ⌝ }
 {
+    if is_option(word_at(i)) {
+        return refuse(i, b": options stand before the files; see kaori help");
+    }
     let mut path = io::buffer();
     let n = os::arg(i, &mut path);
     if os::errno() != 0 {
@@ -377,14 +405,6 @@ fn option(choice: Choice, word: usize, end: usize) -> Choice
     valued(after, word, end)
 }
 
-// Whether a word is an option.
-fn is_option(word: usize) -> bool {
-    match word {
-        10..=13 => true,
-        _ => false,
-    }
-}
-
 // The options that stand from argument `next` on, up to `end` or to any other word.
 fn options(choice: Choice, end: usize) -> Choice
     requires { ⌜ choice .next ≤ end ⌝ }
@@ -439,20 +459,6 @@ fn run_beside(word: usize, choice: Choice, end: usize) -> u32
     }
     let size = loaded.size;
     run_named(&path[..n], &text[..size], word, choice, end)
-}
-
-// A word that is no command.
-fn refuse(i: usize) -> u32
-    ensures { λ r. ⌜ r ≤ 3 ⌝ }
-{
-    let mut word = io::buffer();
-    let n = os::arg(i, &mut word);
-    if os::errno() != 0 {
-        fail(b"command");
-        return UNDONE;
-    }
-    complain(&word[..n], b": no such command; see kaori help");
-    UNDONE
 }
 
 // Whether a command has its options, with a complaint where it has not.
@@ -517,7 +523,7 @@ fn start(i: usize, end: usize) -> u32
     }
     let word = word_at(at);
     if word > VERSION {
-        return refuse(at);
+        return refuse(at, b": no such command; see kaori help");
     }
     if word == VERSION {
         return version();

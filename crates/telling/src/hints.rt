@@ -10,6 +10,7 @@ use page::hint::end_hint;
 use page::put;
 use page::put_byte;
 use page::put_number;
+use page::visible::put_escape;
 use page::words::put_cell;
 ghost use Prim.Native.Nat.{_≤_, _<_};
 ghost use lib.ListN.{length};
@@ -261,16 +262,6 @@ fn hint_for(table: &[u8; SIZE], text: &[u8], s: Seen) -> usize {
     i
 }
 
-// A hexadecimal digit.
-fn hex(n: u8) -> u8
-    requires { ⌜ n < 16 ⌝ }
-{
-    if n < 10 {
-        return b'0' + n;
-    }
-    b'a' - 10 + n
-}
-
 // The bytes of a letter that is not ASCII, in hex: the first, and up to three that go on with it.
 fn put_bytes(text: &[u8], start: usize, out: &mut [u8; 4096], at: usize) -> usize
     requires { ⌜ at ≤ 4096 ⌝ }
@@ -285,9 +276,7 @@ fn put_bytes(text: &[u8], start: usize, out: &mut [u8; 4096], at: usize) -> usiz
                 return now;
             }
         }
-        now = put_byte(b' ', out, now);
-        now = put_byte(hex(byte / 16), out, now);
-        now = put_byte(hex(byte % 16), out, now);
+        now = put_escape(b" ", byte, out, now);
         i += 1;
     }
     now

@@ -99,13 +99,8 @@ pub fn tell(
     a: Numbers,
     out: &mut [u8; 4096],
 ) {
-    report(
-        path,
-        text,
-        why_of(list, a),
-        caret_of(list, a.code, a.at, a.start),
-        out,
-    );
+    let caret = caret_of(list, a.code, a.at, a.start);
+    report(path, text, why_of(list, a), caret, out);
     tell_more(edition, text, list, a, hint::LINES, out);
 }
 

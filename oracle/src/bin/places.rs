@@ -197,8 +197,12 @@ const CONTROL_TREE: &[&str] = &[
     "    4:7        Identifier                     b",
 ];
 const BYTES: &[u8] = b"a;\t\"\x1B\xC3\xA9\";";
-const BYTES_LINES: &[&str] =
-    &["screen.kaori:1:6: a byte that is not ASCII", "a;\t\"\\x1b\\xc3\\xa9\";", "  \t     ^"];
+const BYTES_LINES: &[&str] = &[
+    "screen.kaori:1:6: a byte that is not ASCII",
+    "a;\t\"\\x1b\\xc3\\xa9\";",
+    "  \t     ^",
+    "  hint: byte c3 a9 is no ASCII letter: type `e`, in strings too",
+];
 const NOT_BYTES: &[&str] = &[
     "screen.kaori:1:6: `not` takes less in edition 2",
     "\"\\x1b\"; not \"\\x07\" and b;",
@@ -234,6 +238,8 @@ const WIDE: &[Wide] = &[
     (b"a;", &["tree", "--strict", "screen.kaori"], &[], "--strict goes with check; see kaori help", 2),
     (b"a;", &["rows", "--json", "screen.kaori"], &[], "--json goes with check or tree; see kaori help", 2),
     (b"a;", &["--colour", "tree", "screen.kaori"], &[], "--colour: no such command; see kaori help", 2),
+    (b"a;", &["check ", "screen.kaori"], &[], "check : no such command; see kaori help", 2),
+    (b"a;", &["check", "screen.kaori", "--json"], &[], "--json: options stand before the files; see kaori help", 2),
     // objects
     (b"a;", &["check", "--json", "screen.kaori"], &[], "", 0),
     (b"let = 1;", &["check", "--json", "screen.kaori"], &[REFUSED_JSON], "", 1),
