@@ -11,9 +11,10 @@ use crate::tokens::before;
 use crate::tokens::end_before;
 use crate::tokens::one_more;
 use crate::tokens::start_of;
+use diagnostics::line::NEWLINE;
+use diagnostics::line::RETURN;
 use diagnostics::line::ends_line;
 use diagnostics::line::place;
-use page::source::line_start;
 use page::words::least;
 use reading::codes;
 use syntax::Numbers;
@@ -249,16 +250,45 @@ fn opener_of(list: &[u32], token: u32) -> u32 {
     t
 }
 
-// The first byte on the line of an offset that is no blank, or the offset.
-fn first_on_line(text: &[u8], offset: usize) -> usize {
-    let mut i = line_start(offset, place(text, offset).column);
-    while i < offset {
-        if byte_at(text, i) > b' ' {
-            return i;
-        }
-        i += 1;
+// How far in a line starts, and whether nothing stands on it before an offset.
+pub struct Margin {
+    pub blanks: u32,
+    pub first: bool,
+}
+
+// The margin with one more byte before those that were looked at.
+fn widened(m: Margin, byte: u8) -> Margin {
+    if byte > b' ' {
+        return Margin {
+            blanks: 0,
+            first: false,
+        };
     }
-    offset
+    Margin {
+        blanks: one_more(m.blanks),
+        first: m.first,
+    }
+}
+
+// The margin of the line of an offset.
+fn margin_of(text: &[u8], offset: usize) -> Margin {
+    let mut m = Margin {
+        blanks: 0,
+        first: true,
+    };
+    let mut i = offset;
+    while i > 0 {
+        i -= 1;
+        let byte = byte_at(text, i);
+        if byte == NEWLINE {
+            return m;
+        }
+        if byte == RETURN {
+            return m;
+        }
+        m = widened(m, byte);
+    }
+    m
 }
 
 // Whether a token is a `}` that stands first on its line, and further left than the line starts whose `{` it closes.
@@ -266,12 +296,12 @@ fn slips(text: &[u8], list: &[u32], token: u32) -> bool {
     if found(list, token) != kinds::RIGHT_BRACE {
         return false;
     }
-    let here = start_of(list, token) as usize;
-    if first_on_line(text, here) != here {
+    let own = margin_of(text, start_of(list, token) as usize);
+    if !own.first {
         return false;
     }
-    let opener = start_of(list, opener_of(list, token)) as usize;
-    place(text, here).column < place(text, first_on_line(text, opener)).column
+    let other = margin_of(text, start_of(list, opener_of(list, token)) as usize);
+    own.blanks < other.blanks
 }
 
 // The first such token before another, where a `}` could stand at the end of the file; that other one where there is none.
