@@ -62,7 +62,7 @@ fn run(words: &[String], folder: &Path) -> Result<ExitCode> {
         }
         let said = Command::new(&words[0]).args(&words[1..]).arg("check").args(&files).output()?.stdout;
         let said = String::from_utf8_lossy(&said);
-        let lines: Vec<_> = said.split_inclusive('\n').collect();
+        let lines: Vec<_> = said.split_inclusive('\n').filter(|line| !line.starts_with("  hint: ")).collect();
         let mut reports = lines.chunks(3).map(|three| three.concat());
         for (file, (script, at)) in files.iter().zip(part) {
             let expected = report(file, script, *at);
