@@ -1,27 +1,25 @@
 -- What a search has passed, how far a row reaches, which token is its sign, and how each rule is decided. Every notion has at most one answer: one end, one first token,
 -- one sign.
-use Prim.Native.Nat.{ℕ, zero, suc, _+_, _-_, _*_, _≤_, _<_}
-use native.Mathlib.Decide.{ℕ-discrete, decLe, decLt}
+use Prim.Native.Nat.{ℕ, zero, suc, _+_, _-_, _≤_, _<_}
+use native.Mathlib.Decide.{ℕ-discrete, decLt}
 use native.Mathlib.Omega.{arith}
-use mathlib.Core.Bool.{Bool, true, false, not, cond, _||_, false≢true}
-use mathlib.Core.List.{List, [], _∷_}
+use mathlib.Core.Bool.{Bool, true, false, not, cond, false≢true}
+use mathlib.Core.List.{List}
 use mathlib.Core.Logic.{_⊎_, inl, inr, ⊎-elim}
 use mathlib.Core.Path.{_≡_, refl, sym, ap, _∙_, subst}
-use lib.Dec.{eqb, ltb, T, eqb→eq}
+use lib.Dec.{eqb, ltb}
 use lib.ListN.{length, getD, List·getD-eq-default}
 use borrow.Author.Tests.{ne-eqb, lt-ltb, le-ltb}
 use Rattle.grammar.specs.Handle.{absent}
 use Rattle.grammar.specs.Kind.{LeftParen, RightParen, LeftBrace, RightBrace}
 use Rattle.grammar.specs.Pattern.{among}
 use Rattle.grammar.specs.Token.{count, kind, start, end}
-use Rattle.grammar.proofs.Ranges.{None, not-among}
-use Rattle.grammar.proofs.Tests.{as-true, passes, within}
 use Rattle.spelling.specs.Decides.{Decides}
-use Rattle.spelling.proofs.Deciding.{holds, fails, held, failed, carried}
+use Rattle.spelling.proofs.Deciding.{holds, fails, carried}
 use Rattle.diagnostics.specs.Line.{ends}
 use Rattle.lint.specs.declared.Rule.{Rule}
 use Rattle.lint.specs.Reach.{number, kind-of, start-of, end-of, parent-of, last-numbers, last, Takes, next, Ends, here, Past, First-past, left-number, Sign, opens, closes, counted, after, brackets}
-use Rattle.lint.specs.Rules.{Line-ends, On-new-line, joining, going-on, Reached, Reaching-not, Cut-at, Cut-off, Call-goes-on, Sum-goes-on, Going-on, Long-string, Any, Next}
+use Rattle.lint.specs.Rules.{Line-ends, On-new-line, joining, going-on, Reached, Reaching-not, Cut-at, Cut-off, Going-on, Long-string, Any, Next}
 
 -- a search from a number on: it has come to i, and none of those before is what is looked for
 pub record Passed (P : ℕ → Type 0) (from i : ℕ) : Type 0 where

@@ -8,10 +8,11 @@ use lib.Dec.{eqb, ltb}
 use lib.ListN.{getD}
 use Rattle.grammar.specs.Handle.{absent}
 use Rattle.grammar.specs.Kind.{LeftParen, RightParen, LeftBrace, RightBrace}
-use Rattle.grammar.specs.Room.{node-width}
+use Rattle.grammar.specs.Label.{Node, number-of}
+use Rattle.grammar.specs.Room.{node-width, own-width}
 use Rattle.grammar.specs.Token.{count, kind, start}
 
--- number i of a row: its kind, its span, and what its kind has; absent where the room has none
+-- number i of a row: its kind, its span, what its kind has (Layout.antt) and its parent; absent where the room has none
 abbrev pub number : (nodes : List ℕ) (row i : ℕ) → ℕ
 number nodes row i = getD nodes (node-width * row + i) absent
 
@@ -25,7 +26,7 @@ abbrev pub end-of : (nodes : List ℕ) (row : ℕ) → ℕ
 end-of nodes row = number nodes row 2
 
 abbrev pub parent-of : (nodes : List ℕ) (row : ℕ) → ℕ
-parent-of nodes row = number nodes row 9
+parent-of nodes row = number nodes row own-width
 
 -- by kind, from 0 on: which number of a row names what it takes last, with nothing behind that; 0 where something closes it, or it takes nothing
 abbrev pub last-numbers : List ℕ
@@ -67,7 +68,7 @@ pub record First-past (ts : List ℕ) (offset k : ℕ) : Type 0 where
 
 -- which number of a row that joins two operands is the left one: a Binary has its operator before it
 abbrev pub left-number : (kind : ℕ) → ℕ
-left-number k = cond (eqb k 1) 4 3
+left-number k = cond (eqb k (number-of Node.Binary)) 4 3
 
 -- k is the token that joins the two operands of a row: past the left one stand the `)` that close it, and then the sign
 pub record Sign (ts nodes : List ℕ) (row k : ℕ) : Type 0 where

@@ -43,7 +43,7 @@ pub record Reaching-not (ts nodes : List ℕ) (row : ℕ) : Type 0 where
   pub takes : Takes nodes row taken
   pub reached : Reached ts nodes row taken
 
--- Rule 2: a statement that ends at a `}`, where the next token is one that an operand may start with and that could go on with one before it
+-- Rule 2: a statement, in a block or in the script, that ends at a `}`, where the next token may start an operand, and elsewhere goes on after one
 abbrev pub going-on : List ℕ
 going-on = Plus ∷ Minus ∷ Caret ∷ LeftParen ∷ []
 
@@ -67,7 +67,7 @@ pub record Call-goes-on (text ts nodes : List ℕ) (row : ℕ) : Type 0 where
 
 pub record Sum-goes-on (text ts nodes : List ℕ) (row : ℕ) : Type 0 where
   pub binary : kind-of nodes row ≡ number-of Node.Binary
-  pub operator : number nodes row 3 < 2
+  pub operator : number nodes row 3 < 2  -- `+` and `-` are the first two (Operator.antt)
   pub token : ℕ
   pub sign : Sign ts nodes row token
   pub line : On-new-line text ts token

@@ -1,8 +1,7 @@
 -- `breaks` meets its contract: it looks at one byte after another, up to the last that is asked for or that the text has.
 use borrow.Author.Needs.{needs}
 use Prim.Native.Nat.{_-_}
-use native.Mathlib.Omega.{arith}
-use mathlib.Core.Bool.{true, false}
+use mathlib.Core.Bool.{true}
 use mathlib.Core.Path.{_≡_, sym, _∙_}
 use Rattle.diagnostics.specs.Line.{ends}
 use Rattle.lint.proofs.Laws.{Passed, begun, one-more, line-found, no-line, no-text, not-both}

@@ -1,6 +1,5 @@
 -- `is_cut` meets its contract: each of three tests can fail, and where none does the rule is met.
 use borrow.Author.Needs.{needs}
-use native.Mathlib.Omega.{arith}
 use Rattle.lint.proofs.Laws.{cut-elsewhere, no-brace, cut-here}
 use Rattle.lint.proofs.is_cut.Statement.{statement}
 use Rattle.lint.proofs.is_cut.Tie as tie

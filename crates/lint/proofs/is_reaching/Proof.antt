@@ -1,6 +1,5 @@
 -- `is_reaching` meets its contract: one row after another of what the `not` took.
 use borrow.Author.Needs.{needs}
-use native.Mathlib.Omega.{arith}
 use mathlib.Core.Path.{_≡_}
 use Rattle.lint.specs.Reach.{last}
 use Rattle.lint.specs.Rules.{Reached}

@@ -1,8 +1,7 @@
 -- `joins` meets its contract: each kind is one of the two or none.
-use borrow.Author.Needs.{needs}
 use native.Mathlib.Omega.{arith}
-use mathlib.Core.Path.{refl, sym}
-use Rattle.grammar.proofs.Ranges.{true-on, false-on, not-among}
+use mathlib.Core.Path.{sym}
+use Rattle.grammar.proofs.Ranges.{true-on, not-among}
 use Rattle.grammar.specs.Pattern.{among}
 use Rattle.lint.specs.Rules.{joining}
 use Rattle.lint.proofs.joins.Statement.{statement}

@@ -1,7 +1,6 @@
 -- `next` meets its contract: one row after another.
 use borrow.Author.Needs.{needs}
 use Prim.Native.Nat.{_-_}
-use native.Mathlib.Omega.{arith}
 use Rattle.spelling.proofs.Deciding.{held, failed}
 use Rattle.lint.specs.Rules.{Meets}
 use Rattle.lint.proofs.Laws.{Passed, begun, one-more, next-found, next-none, said}

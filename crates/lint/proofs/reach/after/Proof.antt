@@ -1,6 +1,5 @@
 -- `reach::after` meets its contract: a token counts only past the offset.
 use borrow.Author.Needs.{needs}
-use native.Mathlib.Omega.{arith}
 use Rattle.lint.proofs.Laws.{uncounted, counts}
 use Rattle.lint.proofs.reach.after.Statement.{statement}
 use Rattle.lint.proofs.reach.after.Tie as tie

@@ -2,7 +2,7 @@
 use borrow.Author.Needs.{needs}
 use Prim.Native.Nat.{_+_, _-_, _≤_}
 use native.Mathlib.Omega.{arith}
-use mathlib.Core.Path.{_≡_, refl}
+use mathlib.Core.Path.{_≡_}
 use Rattle.lint.specs.Reach.{brackets}
 use Rattle.lint.proofs.Laws.{few, one-bracket-more, none-yet}
 use Rattle.lint.proofs.reach.brackets.Statement.{statement}

@@ -1,7 +1,6 @@
 -- `reach::counted` meets its contract: a bracket that opens, one that closes, or none.
 use borrow.Author.Needs.{needs}
 use native.Mathlib.Omega.{arith}
-use mathlib.Core.Path.{_∙_}
 use Rattle.lint.proofs.Laws.{opened-one, closed-one, no-bracket}
 use Rattle.lint.proofs.reach.counted.Statement.{statement}
 use Rattle.lint.proofs.reach.counted.Tie as tie

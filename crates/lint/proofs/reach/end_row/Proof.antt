@@ -1,7 +1,6 @@
 -- `reach::end_row` meets its contract. Its loop keeps what the row takes last, and that wherever this row ends the first one ends.
 use borrow.Author.Needs.{needs}
 use Prim.Native.Nat.{ℕ}
-use native.Mathlib.Omega.{arith}
 use mathlib.Core.Path.{_≡_, sym}
 use Rattle.lint.specs.Reach.{last, Ends, here}
 use Rattle.lint.proofs.reach.end_row.Statement.{statement}

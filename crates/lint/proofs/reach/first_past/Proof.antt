@@ -1,7 +1,6 @@
 -- `reach::first_past` meets its contract: one token after another.
 use borrow.Author.Needs.{needs}
 use Prim.Native.Nat.{_-_}
-use native.Mathlib.Omega.{arith}
 use mathlib.Core.Path.{refl}
 use Rattle.lint.specs.Reach.{Past}
 use Rattle.spelling.proofs.Deciding.{held, failed}

@@ -1,6 +1,5 @@
 -- `reach::is_past` meets its contract: the offset is tested first, then the kind.
 use borrow.Author.Needs.{needs}
-use native.Mathlib.Omega.{arith}
 use Rattle.lint.proofs.Laws.{not-past, past-at, other-kind}
 use Rattle.lint.proofs.reach.is_past.Statement.{statement}
 use Rattle.lint.proofs.reach.is_past.Tie as tie

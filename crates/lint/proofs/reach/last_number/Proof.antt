@@ -1,6 +1,5 @@
 -- `reach::last_number` meets its contract: the table is the definition's, and past it nothing is listed.
 use borrow.Author.Needs.{needs}
-use native.Mathlib.Omega.{arith}
 use Rattle.lint.proofs.Laws.{past-kinds}
 use Rattle.lint.proofs.reach.last_number.Statement.{statement}
 use Rattle.lint.proofs.reach.last_number.Tie as tie
