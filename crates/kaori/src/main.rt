@@ -26,7 +26,7 @@ ghost use lib.ListN.{length};
 const HELP: [u8; 1508] = *b"\
     kaori shows how Kaori reads a script.\n\
     \n\
-    \x20 kaori check FILE ..         says what is wrong with a script, and where; nothing if it is good\n\
+    \x20 kaori check FILE ..         says what is wrong with a script, and where, and warns of what may not be meant\n\
     \x20 kaori tree FILE ..          shows each statement with its groups in parentheses, and its tree\n\
     \x20 kaori rows FILE ..          lists the rows of the tree, for programs\n\
     \x20 kaori all FILE ..           the tree and then the rows\n\

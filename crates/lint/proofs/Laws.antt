@@ -3,7 +3,7 @@
 use Prim.Native.Nat.{ℕ, zero, suc, _+_, _-_, _≤_, _<_}
 use native.Mathlib.Decide.{ℕ-discrete, decLt}
 use native.Mathlib.Omega.{arith}
-use mathlib.Core.Bool.{Bool, true, false, not, cond, false≢true}
+use mathlib.Core.Bool.{Bool, true, false, not, cond, _&&_, false≢true}
 use mathlib.Core.List.{List}
 use mathlib.Core.Logic.{_⊎_, inl, inr, ⊎-elim}
 use mathlib.Core.Path.{_≡_, refl, sym, ap, _∙_, subst}
@@ -11,15 +11,15 @@ use lib.Dec.{eqb, ltb}
 use lib.ListN.{length, getD, List·getD-eq-default}
 use borrow.Author.Tests.{ne-eqb, lt-ltb, le-ltb}
 use Rattle.grammar.specs.Handle.{absent}
-use Rattle.grammar.specs.Kind.{LeftParen, RightParen, LeftBrace, RightBrace}
+use Rattle.grammar.specs.Kind.{LeftParen, RightParen, Hash, LeftBrace, RightBrace}
 use Rattle.grammar.specs.Pattern.{among}
 use Rattle.grammar.specs.Token.{count, kind, start, end}
 use Rattle.spelling.specs.Decides.{Decides}
 use Rattle.spelling.proofs.Deciding.{holds, fails, carried}
 use Rattle.diagnostics.specs.Line.{ends}
 use Rattle.lint.specs.declared.Rule.{Rule}
-use Rattle.lint.specs.Reach.{number, kind-of, start-of, end-of, parent-of, last-numbers, last, Takes, next, Ends, here, Past, First-past, left-number, Sign, opens, closes, counted, after, brackets}
-use Rattle.lint.specs.Rules.{Line-ends, On-new-line, joining, going-on, Reached, Reaching-not, Cut-at, Cut-off, Going-on, Long-string, Any, Next}
+use Rattle.lint.specs.Reach.{number, kind-of, start-of, end-of, parent-of, last-numbers, last, Takes, next, Ends, here, Past, First-past, left-number, Sign, opens, closes, counted, after, brackets, encloses, passing, enclosing, in-block}
+use Rattle.lint.specs.Rules.{Line-ends, On-new-line, joining, closed, going-on, Reached, Reaching-not, Cut-at, Cut-off, Going-on, Long-string, Any, Next}
 
 -- a search from a number on: it has come to i, and none of those before is what is looked for
 pub record Passed (P : ℕ → Type 0) (from i : ℕ) : Type 0 where
@@ -67,8 +67,11 @@ first-token e = fails λ r. absurd (omega (arith, r .second))
 pub no-token : {text ts : List ℕ} {k : ℕ} → count ts ≤ k → Decides (On-new-line text ts k) false
 no-token l = fails λ r. absurd (omega (arith, r .inside))
 
-pub between : {text ts : List ℕ} {k s e : ℕ} {r : Bool} → 0 < k → k < count ts → e ≡ end ts (k - 1) → s ≡ start ts k → Decides (Line-ends text e s) r → Decides (On-new-line text ts k) r
-between l h e s d = carried (λ b. record { second = l; inside = h; breaks = rw (sym e) (rw (sym s) b) }) (λ n. rw e (rw s (n .breaks))) d
+pub in-brackets : {text ts : List ℕ} {k : ℕ} → in-block ts k ≡ false → Decides (On-new-line text ts k) false
+in-brackets f = fails λ r. not-both f (r .level)
+
+pub between : {text ts : List ℕ} {k s e : ℕ} {r : Bool} → 0 < k → k < count ts → in-block ts k ≡ true → e ≡ end ts (k - 1) → s ≡ start ts k → Decides (Line-ends text e s) r → Decides (On-new-line text ts k) r
+between l h i e s d = carried (λ b. record { second = l; inside = h; level = i; breaks = rw (sym e) (rw (sym s) b) }) (λ n. rw e (rw s (n .breaks))) d
 
 -- what a row takes last
 pub past-kinds : (k : ℕ) → 19 < k → 0 ≡ getD last-numbers k 0
@@ -165,6 +168,90 @@ pub one-bracket-more : (ts : List ℕ) (offset i : ℕ) {n r : ℕ} → n ≡ br
 unfolding brackets
 one-bracket-more ts offset i e f = let n : suc i ≡ i + 1 = omega arith in rw e at f ∙ ap (λ (k : ℕ). brackets ts offset k) n
 
+-- the innermost open bracket
+pub past-open : (x n : ℕ) → (n ≡ 0 → ⊥) → false ≡ encloses x n
+past-open x n z = go (opens x)
+  where
+    go : (b : Bool) → false ≡ (b && eqb n 0)
+    go true = sym (ne-eqb n 0 z)
+    go false = refl
+
+pub opens-paren : {x n : ℕ} → x ≡ LeftParen → n ≡ 0 → true ≡ encloses x n
+opens-paren e z = rw e (rw z refl)
+
+pub opens-brace : {x n : ℕ} → (x ≡ LeftParen → ⊥) → n ≡ 0 → eqb x LeftBrace ≡ encloses x n
+opens-brace {x} p z = rw (ne-eqb x LeftParen p) (rw z (go (eqb x LeftBrace)))
+  where
+    go : (b : Bool) → b ≡ (b && true)
+    go true = refl
+    go false = refl
+
+pub closing-one : {x : ℕ} (n : ℕ) → (x ≡ RightParen) ⊎ (x ≡ RightBrace) → n + 1 ≡ passing x n
+closing-one n (inl e) = rw e (omega arith)
+closing-one n (inr e) = rw e (omega arith)
+
+pub opening-one : {x m : ℕ} (n : ℕ) → (x ≡ LeftParen) ⊎ (x ≡ LeftBrace) → m ≡ n - 1 → m ≡ passing x n
+opening-one n (inl e) f = rw e f
+opening-one n (inr e) f = rw e f
+
+pub passing-other : {x : ℕ} (n : ℕ) → ((x ≡ RightParen) ⊎ (x ≡ RightBrace) → ⊥) → ((x ≡ LeftParen) ⊎ (x ≡ LeftBrace) → ⊥) → n ≡ passing x n
+passing-other {x} n c o = rw (ne-eqb x RightParen (λ e. c (inl e))) (rw (ne-eqb x RightBrace (λ e. c (inr e))) (rw (ne-eqb x LeftParen (λ e. o (inl e))) (rw (ne-eqb x LeftBrace (λ e. o (inr e))) refl)))
+
+pub one-back : (ts : List ℕ) (n : ℕ) {i : ℕ} (j : ℕ) → i ≡ suc j → encloses (kind ts j) n ≡ false → enclosing ts i n ≡ enclosing ts j (passing (kind ts j) n)
+unfolding enclosing
+one-back ts n j e f = rw e (rw f refl)
+
+pub encloses-here : (ts : List ℕ) (n : ℕ) {i : ℕ} (j : ℕ) → i ≡ suc j → encloses (kind ts j) n ≡ true → enclosing ts i n ≡ j
+unfolding enclosing
+encloses-here ts n j e f = rw e (rw f refl)
+
+pub back-one : (ts : List ℕ) (n : ℕ) {i x m t : ℕ} {b : Bool} (j : ℕ) → i ≡ suc j → x ≡ kind ts j → b ≡ encloses x n → b ≡ false → m ≡ passing x n → enclosing ts i n ≡ t → enclosing ts j m ≡ t
+back-one ts n j e x b f m t = rw m (rw x (sym (one-back ts n j e (rw x at (sym b ∙ f))) ∙ t))
+
+pub found-open : (ts : List ℕ) (n : ℕ) {i x t : ℕ} {b : Bool} (j : ℕ) → i ≡ suc j → x ≡ kind ts j → b ≡ encloses x n → b ≡ true → enclosing ts i n ≡ t → j ≡ t
+found-open ts n j e x b f t = sym (encloses-here ts n j e (rw x at (sym b ∙ f))) ∙ t
+
+pub none-open : (ts : List ℕ) (n : ℕ) → enclosing ts 0 n ≡ absent
+unfolding enclosing
+none-open ts n = refl
+
+pub passing-few : (x n : ℕ) → passing x n ≤ suc n
+passing-few x n = go (closes x) (opens x)
+  where
+    go : (b c : Bool) → cond b (suc n) (cond c (n - 1) n) ≤ suc n
+    go true c = omega arith
+    go false true = omega arith
+    go false false = omega arith
+
+pub open-before : (ts : List ℕ) (k n : ℕ) → (enclosing ts k n ≡ absent) ⊎ (enclosing ts k n < k)
+unfolding enclosing
+open-before ts zero n = inl refl
+open-before ts (suc i) n = go (encloses (kind ts i) n) (open-before ts i (passing (kind ts i) n))
+  where
+    go : (b : Bool) → (enclosing ts i (passing (kind ts i) n) ≡ absent) ⊎ (enclosing ts i (passing (kind ts i) n) < i) → (cond b i (enclosing ts i (passing (kind ts i) n)) ≡ absent) ⊎ (cond b i (enclosing ts i (passing (kind ts i) n)) < suc i)
+    go true d = inr (omega arith)
+    go false (inl e) = inl e
+    go false (inr l) = inr (omega (arith, l))
+
+pub within-list : (ts : List ℕ) (k : ℕ) {e : ℕ} → e ≡ enclosing ts k 0 → (e ≡ absent → ⊥) → e < k
+within-list ts k e n = ⊎-elim (λ a. absurd (n (e ∙ a))) (λ l. omega (arith, e, l)) (open-before ts k 0)
+
+pub nothing-open : (ts : List ℕ) (k : ℕ) {e : ℕ} → e ≡ enclosing ts k 0 → e ≡ absent → true ≡ in-block ts k
+unfolding in-block
+nothing-open ts k e a = rw (sym e) (rw a refl)
+
+pub other-open : (ts : List ℕ) (k : ℕ) {e x : ℕ} → e ≡ enclosing ts k 0 → (e ≡ absent → ⊥) → x ≡ kind ts e → (x ≡ LeftBrace → ⊥) → false ≡ in-block ts k
+unfolding in-block
+other-open ts k {e} {x} q a y b = rw (sym q) (rw (ne-eqb e absent a) (rw (sym y) (rw (ne-eqb x LeftBrace b) refl)))
+
+pub first-open : (ts : List ℕ) (k : ℕ) {e x : ℕ} → e ≡ enclosing ts k 0 → (e ≡ absent → ⊥) → x ≡ kind ts e → x ≡ LeftBrace → e ≡ 0 → true ≡ in-block ts k
+unfolding in-block
+first-open ts k {e} {x} q a y b z = let f : kind ts 0 ≡ LeftBrace = rw z at (sym y) ∙ b in rw (sym q) (rw (ne-eqb e absent a) (rw z (rw f refl)))
+
+pub brace-open : (ts : List ℕ) (k : ℕ) {e x y : ℕ} → e ≡ enclosing ts k 0 → (e ≡ absent → ⊥) → x ≡ kind ts e → x ≡ LeftBrace → y ≡ kind ts (e - 1) → not (eqb y Hash) ≡ in-block ts k
+unfolding in-block
+brace-open ts k {e} {x} {y} q a u b v = rw (sym q) (rw (ne-eqb e absent a) (rw (sym u) (rw b (rw (sym v) refl))))
+
 -- a walk over what a row took: where it stands, and that nothing before is looked for
 pub record Walked (nodes : List ℕ) (P : ℕ → Type 0) (row x : ℕ) : Type 0 where
   pub on : (y : ℕ) → Takes nodes x y → Takes nodes row y
@@ -220,11 +307,14 @@ no-brace e n = fails λ r. n (e ∙ r .brace)
 pub cut-here : {ts : List ℕ} {offset k e x y : ℕ} {r : Bool} → k + 1 < count ts → e ≡ end ts k → e ≡ offset → x ≡ kind ts k → x ≡ RightBrace → y ≡ kind ts (k + 1) → r ≡ among going-on y → Decides (Cut-at ts offset k) r
 cut-here l e f x b y g = carried (λ t. record { inside = l; last = sym e ∙ f; brace = sym x ∙ b; next = t }) (λ c. c .next) (is-true (g ∙ ap (λ (i : ℕ). among going-on i) y))
 
+pub not-closed : {ts nodes : List ℕ} {row x : ℕ} {b : Bool} → x ≡ kind-of nodes row → b ≡ among closed x → b ≡ false → Decides (Cut-off ts nodes row) false
+not-closed x c f = fails λ r. not-both (rw x at (sym c ∙ f)) (r .own)
+
 pub no-statement : {ts nodes : List ℕ} {row p x : ℕ} → p ≡ parent-of nodes row → x ≡ kind-of nodes p → (x ≡ 20 → ⊥) → Decides (Cut-off ts nodes row) false
 no-statement {nodes = nodes} p x n = fails λ r. n (x ∙ ap (λ (i : ℕ). kind-of nodes i) p ∙ r .statement)
 
-pub cut-found : {ts nodes : List ℕ} {row p x e k : ℕ} → p ≡ parent-of nodes row → x ≡ kind-of nodes p → x ≡ 20 → e ≡ end-of nodes row → Cut-at ts e k → Decides (Cut-off ts nodes row) true
-cut-found {nodes = nodes} {k = k} p x b e c = holds (record { statement = sym (ap (λ (i : ℕ). kind-of nodes i) p) ∙ sym x ∙ b; token = k; cut = rw (sym e) c })
+pub cut-found : {ts nodes : List ℕ} {row y p x e k : ℕ} {b : Bool} → y ≡ kind-of nodes row → b ≡ among closed y → b ≡ true → p ≡ parent-of nodes row → x ≡ kind-of nodes p → x ≡ 20 → e ≡ end-of nodes row → Cut-at ts e k → Decides (Cut-off ts nodes row) true
+cut-found {nodes = nodes} {k = k} y o t p x b e c = holds (record { own = rw y at (sym o ∙ t); statement = sym (ap (λ (i : ℕ). kind-of nodes i) p) ∙ sym x ∙ b; token = k; cut = rw (sym e) c })
 
 pub cut-nowhere : {ts nodes : List ℕ} {row e k : ℕ} → e ≡ end-of nodes row → Passed (Cut-at ts e) 0 k → count ts ≤ k + 1 → Decides (Cut-off ts nodes row) false
 cut-nowhere {ts} {k = k} e s l = fails λ r. let c = rw (sym e) at (r .cut) in s .none (r .token) (omega arith) (omega (arith, c .inside, l)) c

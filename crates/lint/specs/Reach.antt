@@ -1,13 +1,13 @@
 -- How far a row reaches. An operator, a sign, a `not` and a lambda end where their last operand ends, and nothing closes them: what they took by reaching on is not to be
 -- seen at their start. Rows are numbers that anyone may have written: a row that is not below the one that names it is not followed.
 use Prim.Native.Nat.{ℕ, zero, suc, _+_, _-_, _*_, _≤_, _<_}
-use mathlib.Core.Bool.{Bool, cond, _||_}
+use mathlib.Core.Bool.{Bool, cond, not, _&&_, _||_}
 use mathlib.Core.List.{List, [], _∷_}
 use mathlib.Core.Path.{_≡_}
 use lib.Dec.{eqb, ltb}
 use lib.ListN.{getD}
 use Rattle.grammar.specs.Handle.{absent}
-use Rattle.grammar.specs.Kind.{LeftParen, RightParen, LeftBrace, RightBrace}
+use Rattle.grammar.specs.Kind.{LeftParen, RightParen, Hash, LeftBrace, RightBrace}
 use Rattle.grammar.specs.Label.{Node, number-of}
 use Rattle.grammar.specs.Room.{node-width, own-width}
 use Rattle.grammar.specs.Token.{count, kind, start}
@@ -92,3 +92,18 @@ after ts offset i n = cond (ltb offset (start ts i)) (counted (kind ts i) n) n
 unfoldable pub brackets : (ts : List ℕ) (offset k : ℕ) → ℕ
 brackets ts offset zero = 0
 brackets ts offset (suc i) = after ts offset i (brackets ts offset i)
+
+-- the innermost bracket that is open before token k, going back from it past as many that are closed; absent where none is
+abbrev pub encloses : (kind closed : ℕ) → Bool
+encloses x n = opens x && eqb n 0
+
+abbrev pub passing : (kind closed : ℕ) → ℕ
+passing x n = cond (closes x) (suc n) (cond (opens x) (n - 1) n)
+
+unfoldable pub enclosing : (ts : List ℕ) (k closed : ℕ) → ℕ
+enclosing ts zero n = absent
+enclosing ts (suc i) n = cond (encloses (kind ts i) n) i (enclosing ts i (passing (kind ts i) n))
+
+-- a statement could start at token k: it stands in no parentheses and in no map, so in a block or in the script itself
+unfoldable pub in-block : (ts : List ℕ) (k : ℕ) → Bool
+in-block ts k = let e = enclosing ts k 0 in eqb e absent || (eqb (kind ts e) LeftBrace && not (eqb (kind ts (e - 1)) Hash))

@@ -12,7 +12,7 @@ use Rattle.grammar.specs.Pattern.{among}
 use Rattle.grammar.specs.Token.{count, kind, start, end}
 use Rattle.diagnostics.specs.Line.{ends}
 use Rattle.lint.specs.declared.Rule.{Rule}
-use Rattle.lint.specs.Reach.{number, kind-of, start-of, end-of, parent-of, Takes, First-past, Sign, brackets}
+use Rattle.lint.specs.Reach.{number, kind-of, start-of, end-of, parent-of, Takes, First-past, Sign, brackets, in-block}
 
 -- a line ends from one offset of the text up to another
 pub record Line-ends (text : List ℕ) (from upto : ℕ) : Type 0 where
@@ -21,10 +21,11 @@ pub record Line-ends (text : List ℕ) (from upto : ℕ) : Type 0 where
   pub before : at < upto
   pub there : ends text at ≡ true
 
--- token k has a token before it, and a line ends between the two
+-- token k has a token before it, and a line ends between the two, in no parentheses and no map
 pub record On-new-line (text ts : List ℕ) (k : ℕ) : Type 0 where
   pub second : 0 < k
   pub inside : k < count ts
+  pub level : in-block ts k ≡ true
   pub breaks : Line-ends text (end ts (k - 1)) (start ts k)
 
 -- Rule 1: a `not` that took an `and` or an `or` by reaching on, outside of all brackets that are opened after the `not`
@@ -43,7 +44,10 @@ pub record Reaching-not (ts nodes : List ℕ) (row : ℕ) : Type 0 where
   pub takes : Takes nodes row taken
   pub reached : Reached ts nodes row taken
 
--- Rule 2: a statement, in a block or in the script, that ends at a `}`, where the next token may start an operand, and elsewhere goes on after one
+-- Rule 2: a statement, in a block or in the script, that ends at its own `}`, where the next token may start an operand, and elsewhere goes on after one
+abbrev pub closed : List ℕ
+closed = number-of Node.Function ∷ number-of Node.Block ∷ number-of Node.If ∷ number-of Node.WhileLoop ∷ []
+
 abbrev pub going-on : List ℕ
 going-on = Plus ∷ Minus ∷ Caret ∷ LeftParen ∷ []
 
@@ -54,6 +58,7 @@ pub record Cut-at (ts : List ℕ) (offset token : ℕ) : Type 0 where
   pub next : among going-on (kind ts (token + 1)) ≡ true
 
 pub record Cut-off (ts nodes : List ℕ) (row : ℕ) : Type 0 where
+  pub own : among closed (kind-of nodes row) ≡ true
   pub statement : kind-of nodes (parent-of nodes row) ≡ number-of Node.Block
   pub token : ℕ
   pub cut : Cut-at ts (end-of nodes row) token

@@ -4,6 +4,7 @@ pub mod reach;
 
 use crate::reach::brackets;
 use crate::reach::first_past;
+use crate::reach::in_block;
 use crate::reach::last;
 use crate::reach::sign;
 use ast::ABSENT;
@@ -20,7 +21,7 @@ ghost use mathlib.Core.Path.{_≡_};
 ghost use Rattle.grammar.specs.Pattern.{among};
 ghost use Rattle.grammar.specs.Token.{count};
 ghost use Rattle.spelling.specs.Decides.{Decides};
-ghost use Rattle.lint.specs.Rules.{Line-ends, On-new-line, joining, Reached, Reaching-not, going-on, Cut-at, Cut-off, Going-on, Long-string, Any, Meets, Next};
+ghost use Rattle.lint.specs.Rules.{Line-ends, On-new-line, joining, Reached, Reaching-not, closed, going-on, Cut-at, Cut-off, Going-on, Long-string, Any, Meets, Next};
 
 // The rules: each has rows that meet it.
 pub enum Rule {
@@ -54,7 +55,7 @@ fn breaks(text: &[u8], from: u32, upto: u32) -> bool
     false
 }
 
-// Whether a token stands on another line than the one before it.
+// Whether a token stands on another line than the one before it, in no parentheses and no map.
 fn on_new_line(text: &[u8], tokens: &[u32], k: usize) -> bool
     ensures { λ r. ⌜ Decides (On-new-line (now (text .entry)) (now (tokens .entry)) k) r ⌝ }
 {
@@ -62,6 +63,9 @@ fn on_new_line(text: &[u8], tokens: &[u32], k: usize) -> bool
         return false;
     }
     if k >= tokens.len() / 3 {
+        return false;
+    }
+    if !in_block(tokens, k) {
         return false;
     }
     breaks(text, end_at(tokens, k - 1), start_at(tokens, k))
@@ -133,10 +137,23 @@ fn is_cut(tokens: &[u32], offset: u32, k: usize) -> bool
     goes_on(kind_at(tokens, k + 1))
 }
 
+// Whether a statement of this kind ends at a `}` of its own.
+fn is_closed(kind: u32) -> bool
+    ensures { λ r. ⌜ r ≡ among closed kind ⌝ }
+{
+    match kind {
+        kinds::FUNCTION | kinds::BLOCK | kinds::IF | kinds::WHILE_LOOP => true,
+        _ => false,
+    }
+}
+
 // Rule CutOff.
 fn is_cut_off(tokens: &[u32], nodes: &[u32], row: u32) -> bool
     ensures { λ r. ⌜ Decides (Cut-off (now (tokens .entry)) (now (nodes .entry)) row) r ⌝ }
 {
+    if !is_closed(node(nodes, row, 0)) {
+        return false;
+    }
     let parent = node(nodes, row, PARENT as u32);
     if node(nodes, parent, 0) != kinds::BLOCK {
         return false;

@@ -9,7 +9,7 @@ ghost use mathlib.Core.Path.{_≡_};
 ghost use lib.ListN.{getD};
 ghost use Rattle.grammar.specs.Token.{count};
 ghost use Rattle.spelling.specs.Decides.{Decides};
-ghost use Rattle.lint.specs.Reach.{last-numbers, last as last-of, Ends, Past, First-past, Sign, left-number, counted as counted-in, after as after-in, brackets as brackets-in};
+ghost use Rattle.lint.specs.Reach.{last-numbers, last as last-of, Ends, Past, First-past, Sign, left-number, counted as counted-in, after as after-in, brackets as brackets-in, encloses, passing as passing-in, enclosing as enclosing-in, in-block};
 
 // By kind, from 0 on: which number of a row names what it takes last, with nothing behind that; 0 where something closes it, or it takes nothing. Binary, LogicalAnd,
 // LogicalOr, LogicalNot, Unary and, at the end, Lambda have one.
@@ -138,4 +138,71 @@ pub fn brackets(tokens: &[u32], offset: u32, upto: usize) -> usize
         i += 1;
     }
     so_far
+}
+
+// Whether a token of this kind opens what is open, where so many brackets are passed that were closed.
+fn is_enclosing(kind: u32, closed: usize) -> bool
+    ensures { λ r. ⌜ r ≡ encloses kind closed ⌝ }
+{
+    if closed != 0 {
+        return false;
+    }
+    if kind == token::kinds::LEFT_PAREN {
+        return true;
+    }
+    kind == token::kinds::LEFT_BRACE
+}
+
+// How many brackets are passed that were closed, with a token of this kind.
+fn passing(kind: u32, closed: usize) -> usize
+    requires { ⌜ closed < 18446744073709551615 ⌝ }
+    ensures { λ r. ⌜ r ≡ passing-in kind closed ⌝ }
+{
+    match kind {
+        token::kinds::RIGHT_PAREN | token::kinds::RIGHT_BRACE => closed + 1,
+        token::kinds::LEFT_PAREN | token::kinds::LEFT_BRACE => {
+            if closed == 0 {
+                return 0;
+            }
+            closed - 1
+        }
+        _ => closed,
+    }
+}
+
+// The innermost bracket that is open before token k; the absent number where none is.
+fn enclosing(tokens: &[u32], k: usize) -> usize
+    requires { ⌜ k ≤ count (now tokens) ⌝ }
+    ensures { λ r. ⌜ r ≡ enclosing-in (now (tokens .entry)) k 0 ⌝ }
+{
+    let mut i = k;
+    let mut closed = 0;
+    while i > 0 {
+        i -= 1;
+        let kind = kind_at(tokens, i);
+        if is_enclosing(kind, closed) {
+            return i;
+        }
+        closed = passing(kind, closed);
+    }
+    ABSENT as usize
+}
+
+// Whether token k stands in no parentheses and in no map: in a block, or in the script itself. It asks that the list has the token.
+// Ruled out: true in the arguments of a call; false after a map that is closed.
+pub fn in_block(tokens: &[u32], k: usize) -> bool
+    requires { ⌜ k < count (now tokens) ⌝ }
+    ensures { λ r. ⌜ r ≡ in-block (now (tokens .entry)) k ⌝ }
+{
+    let e = enclosing(tokens, k);
+    if e == ABSENT as usize {
+        return true;
+    }
+    if kind_at(tokens, e) != token::kinds::LEFT_BRACE {
+        return false;
+    }
+    if e == 0 {
+        return true;
+    }
+    kind_at(tokens, e - 1) != token::kinds::HASH
 }

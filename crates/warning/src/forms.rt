@@ -1,7 +1,9 @@
 // The words of each warning, and how to write what was perhaps meant, in the script's own words.
 use crate::spots::after_brace;
-use crate::spots::first_sign;
+use crate::spots::first_joined;
 use crate::spots::going_on;
+use crate::spots::in_condition;
+use crate::spots::is_bare;
 use crate::spots::kind;
 use crate::spots::part_before;
 use crate::spots::token_part;
@@ -10,6 +12,7 @@ use children::node;
 use diagnostics::line::place;
 use lint::Rule;
 use lint::reach::first_past;
+use lint::reach::sign;
 use page::hint::end_hint;
 use page::put;
 use page::put_byte;
@@ -22,8 +25,10 @@ use showing::cover::part_of;
 ghost use Prim.Native.Nat.{_≤_};
 ghost use lib.ListN.{length};
 
-// The most bytes of the script in a line.
+// The most bytes of the script in a message, and in each part of what is to be written: there it is whole, but for what no line holds.
 const MOST: usize = 72;
+
+const WHOLE: usize = 1200;
 
 // The names of the rules, for programs: a cell of 16 bytes each.
 const NAMES: [u8; 64] = *b"reaching-not    cut-off         going-on        long-string     ";
@@ -56,6 +61,14 @@ fn put_part(text: &[u8], start: u32, end: u32, out: &mut [u8; 4096], at: usize) 
     ensures { λ r. ⌜ r ≤ 4096 ⌝ }
 {
     put_excerpt(text, start, end, MOST, out, at)
+}
+
+// The same, to be written.
+fn put_form(text: &[u8], start: u32, end: u32, out: &mut [u8; 4096], at: usize) -> usize
+    requires { ⌜ at ≤ 4096 ⌝ }
+    ensures { λ r. ⌜ r ≤ 4096 ⌝ }
+{
+    put_excerpt(text, start, end, WHOLE, out, at)
 }
 
 // Where the first token after the one at an offset starts.
@@ -122,15 +135,38 @@ pub(crate) fn put_what(
     }
 }
 
-// `not` on its first operand, and on all that it took; `k` is the first `and` or `or`.
-fn show_nots(text: &[u8], tokens: &[u32], part: Part, k: usize, style: u32, out: &mut [u8; 4096]) {
-    let led = put(b"  for `not` on the first alone, write: (", out, 0);
-    let first = put_part(text, part.start, part_before(tokens, k).end, out, led);
-    let shut = put(b") ", out, first);
-    let one = put_part(text, token_part(tokens, k).start, part.end, out, shut);
+// A `not` on the first of what it took, from one offset up to another, in parentheses; that in its own, where it is a sum or the like, so that both editions read it alike.
+fn put_first_not(text: &[u8], start: u32, end: u32, bare: bool, out: &mut [u8; 4096]) -> usize
+    ensures { λ r. ⌜ r ≤ 4096 ⌝ }
+{
+    let led = put(b"  for `not` on the first alone, write: (not ", out, 0);
+    if bare {
+        let open = put_byte(b'(', out, led);
+        let said = put_form(text, start, end, out, open);
+        return put(b")) ", out, said);
+    }
+    let said = put_form(text, start, end, out, led);
+    put(b") ", out, said)
+}
+
+// `not` on its first operand, and on all that it took; row x is the leftmost `and` or `or`.
+fn show_nots(
+    text: &[u8],
+    tokens: &[u32],
+    nodes: &[u32],
+    part: Part,
+    x: u32,
+    style: u32,
+    out: &mut [u8; 4096],
+) {
+    let k = sign(tokens, nodes, x);
+    let from = start_after(tokens, part.start);
+    let bare = is_bare(tokens, nodes, node(nodes, x, 3), part.start);
+    let first = put_first_not(text, from, part_before(tokens, k).end, bare, out);
+    let one = put_form(text, token_part(tokens, k).start, part.end, out, first);
     let more = end_hint(style, out, one);
     let lead = put(b"  for `not` on all of it, write: not (", out, 0);
-    let taken = put_part(text, start_after(tokens, part.start), part.end, out, lead);
+    let taken = put_form(text, from, part.end, out, lead);
     let all = put_byte(b')', out, taken);
     end_hint(more, out, all);
 }
@@ -149,7 +185,7 @@ fn can_go_on(sort: u32, sign: u32) -> bool {
 // A statement in parentheses, with which a sum can start.
 fn show_grouped(text: &[u8], part: Part, mark: Part, style: u32, out: &mut [u8; 4096]) -> u32 {
     let led = put(b"  to go on with it, write: (", out, 0);
-    let said = put_part(text, part.start, part.end, out, led);
+    let said = put_form(text, part.start, part.end, out, led);
     let shut = put(b") ", out, said);
     let signed = put_part(text, mark.start, mark.end, out, shut);
     let all = put(b" ..", out, signed);
@@ -170,7 +206,11 @@ fn show_cut(
     if can_go_on(sort, kind(tokens, k)) {
         more = show_grouped(text, part, token_part(tokens, k), style, out);
     }
-    let all = put(b"  for a new statement, write `;` after the `}`", out, 0);
+    let all = put(
+        b"  to keep it a new statement, write `;` after the `}`",
+        out,
+        0,
+    );
     end_hint(more, out, all);
 }
 
@@ -184,22 +224,43 @@ fn put_line_of(lead: &[u8], text: &[u8], offset: u32, out: &mut [u8; 4096], at: 
     put_number(here.line, out, led)
 }
 
-// What to write at the end of the line before token k.
-fn show_ends(text: &[u8], tokens: &[u32], k: usize, style: u32, out: &mut [u8; 4096]) {
+// What to write at the end of the line before token k: the token, to go on, or a `;`.
+fn show_end(text: &[u8], tokens: &[u32], k: usize, style: u32, out: &mut [u8; 4096]) -> u32 {
     let mark = token_part(tokens, k);
     let end = part_before(tokens, k).end;
-    let one = put_line_of(
-        b"  for a new statement, write `;` at the end of line ",
+    let led = put(b"  to go on, write the `", out, 0);
+    let marked = put_part(text, mark.start, mark.end, out, led);
+    let all = put_line_of(b"` at the end of line ", text, end, out, marked);
+    end_hint(style, out, all)
+}
+
+fn show_start(text: &[u8], tokens: &[u32], k: usize, style: u32, out: &mut [u8; 4096]) -> u32 {
+    let end = part_before(tokens, k).end;
+    let all = put_line_of(
+        b"  to start a new statement, write `;` at the end of line ",
         text,
         end,
         out,
         0,
     );
-    let more = end_hint(style, out, one);
-    let led = put(b"  to go on, write the `", out, 0);
-    let marked = put_part(text, mark.start, mark.end, out, led);
-    let all = put_line_of(b"` at the end of line ", text, end, out, marked);
-    end_hint(more, out, all);
+    end_hint(style, out, all)
+}
+
+// The two, but no statement starts in a condition.
+fn show_ends(
+    text: &[u8],
+    tokens: &[u32],
+    nodes: &[u32],
+    row: u32,
+    k: usize,
+    style: u32,
+    out: &mut [u8; 4096],
+) {
+    let mut more = style;
+    if !in_condition(nodes, row) {
+        more = show_start(text, tokens, k, style, out);
+    }
+    show_end(text, tokens, k, more, out);
 }
 
 // What to write for a string.
@@ -228,8 +289,8 @@ pub(crate) fn show_forms(
     let part = part_of(covers, row);
     match rule {
         Rule::ReachingNot => {
-            let k = first_sign(tokens, nodes, row);
-            show_nots(text, tokens, part, k, style, out);
+            let x = first_joined(tokens, nodes, row);
+            show_nots(text, tokens, nodes, part, x, style, out);
         }
         Rule::CutOff => {
             let k = after_brace(tokens, nodes, row);
@@ -237,7 +298,7 @@ pub(crate) fn show_forms(
         }
         Rule::GoingOn => {
             let k = going_on(tokens, nodes, row);
-            show_ends(text, tokens, k, style, out);
+            show_ends(text, tokens, nodes, row, k, style, out);
         }
         _ => {
             show_quote(text, part, style, out);

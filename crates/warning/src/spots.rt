@@ -1,7 +1,9 @@
 // Where a warning stands: parts of the text and tokens that a row is to be marked at.
+use ast::PARENT;
 use ast::kinds;
 use children::node;
 use lint::Rule;
+use lint::reach::brackets;
 use lint::reach::first_past;
 use lint::reach::last;
 use lint::reach::sign;
@@ -40,22 +42,22 @@ pub(crate) fn part_before(tokens: &[u32], k: usize) -> Part {
     token_part(tokens, k - 1)
 }
 
-// The first sign of those that join rows from x on to the left, each outside of the brackets that are opened after row `row` starts.
-fn leftmost(tokens: &[u32], nodes: &[u32], row: u32, x: u32) -> usize {
+// The leftmost of the rows from x on to the left that are joined outside of the brackets that are opened after row `row` starts.
+fn leftmost(tokens: &[u32], nodes: &[u32], row: u32, x: u32) -> u32 {
     let mut at = x;
     let mut left = node(nodes, x, 3);
     while left < at {
         if !reached(tokens, nodes, row, left) {
-            return sign(tokens, nodes, at);
+            return at;
         }
         at = left;
         left = node(nodes, at, 3);
     }
-    sign(tokens, nodes, at)
+    at
 }
 
-// The first `and` or `or` that a `not` took by reaching on.
-pub(crate) fn first_sign(tokens: &[u32], nodes: &[u32], row: u32) -> usize {
+// The leftmost `and` or `or` that a `not` took by reaching on.
+pub(crate) fn first_joined(tokens: &[u32], nodes: &[u32], row: u32) -> u32 {
     let mut above = row;
     let mut x = last(nodes, row);
     while x < above {
@@ -65,7 +67,43 @@ pub(crate) fn first_sign(tokens: &[u32], nodes: &[u32], row: u32) -> usize {
         above = x;
         x = last(nodes, x);
     }
-    0
+    row
+}
+
+// Whether a row is of an operator that binds tighter than `and`, outside of the brackets that are opened past an offset.
+pub(crate) fn is_bare(tokens: &[u32], nodes: &[u32], row: u32, offset: u32) -> bool {
+    if node(nodes, row, 0) != kinds::BINARY {
+        return false;
+    }
+    let k = sign(tokens, nodes, row);
+    if k > tokens.len() / 3 {
+        return false;
+    }
+    brackets(tokens, offset, k) == 0
+}
+
+// The most rows of a script.
+const ROWS: usize = 4096;
+
+// Whether a row stands in the condition of an `if` or a `while`, and in no block of its own there: no statement can end in it.
+pub(crate) fn in_condition(nodes: &[u32], row: u32) -> bool {
+    let mut at = row;
+    let mut i = 0;
+    while i < ROWS {
+        let above = node(nodes, at, PARENT as u32);
+        match node(nodes, above, 0) {
+            kinds::BLOCK => {
+                return false;
+            }
+            kinds::IF | kinds::WHILE_LOOP => {
+                return node(nodes, above, 3) == at;
+            }
+            _ => {}
+        }
+        at = above;
+        i += 1;
+    }
+    false
 }
 
 // The token at which a call or a sum goes on.

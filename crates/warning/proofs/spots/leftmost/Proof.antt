@@ -10,4 +10,4 @@ abbrev μ-loop : tie.MeasureT-loop
 μ-loop tokens nodes row x at₀ left₀ at left = at
 
 pub leftmost-spec : {M : Type 1} → statement M
-leftmost-spec = tie.close (tie.spec Inv-loop μ-loop (λ c κs. search needs) (λ c. search needs) (λ c κs. search needs) (λ c κs. search needs) (λ c. search needs) (λ c κs. search needs) (λ c. search needs) (λ c. search needs) (λ c κs. search needs) (λ c. search needs))
+leftmost-spec = tie.close (tie.spec Inv-loop μ-loop (λ c κs. search needs) (λ c. search needs) (λ c κs. search needs) (λ c. search needs) (λ c κs. search needs) (λ c. search needs) (λ c. search needs) (λ c. search needs))
