@@ -31,6 +31,7 @@ pub mod terms;
 pub mod texts;
 pub mod tight;
 pub mod told;
+pub mod warnable;
 pub mod warned;
 
 pub use answer::{LIMIT, answer, answer_with};
