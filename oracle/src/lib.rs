@@ -11,6 +11,7 @@ pub mod drawn;
 pub mod editions;
 pub mod fixed;
 pub mod frame;
+pub mod grouping;
 pub mod judge;
 pub mod kinds;
 pub mod lexer;
@@ -30,6 +31,8 @@ pub mod terms;
 pub mod texts;
 pub mod tight;
 pub mod told;
+pub mod warnable;
+pub mod warned;
 
 pub use answer::{LIMIT, answer, answer_with};
 
