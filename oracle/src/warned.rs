@@ -52,6 +52,20 @@ fn is_on_later_line(case: &Case, at: usize) -> bool {
     at > 0 && has_line_end(&case.text[case.tokens[at - 1].end as usize..case.tokens[at].start as usize])
 }
 
+/// Whether a statement could start at a token: the innermost bracket that is open there is a block's, or none is open.
+fn is_in_block(case: &Case, at: usize) -> bool {
+    let mut open = Vec::new();
+    for before in 0..at {
+        match kind(case, before) {
+            Token::LeftParen | Token::LeftBrace => open.push(before),
+            Token::RightParen | Token::RightBrace => drop(open.pop()),
+            _ => {}
+        }
+    }
+    let is_map = |brace: usize| brace > 0 && kind(case, brace - 1) == Token::Hash;
+    open.last().is_none_or(|&last| kind(case, last) == Token::LeftBrace && !is_map(last))
+}
+
 /// The warnings of an accepted script, in order.
 pub fn warnings(case: &Case, grouping: &Grouping) -> Vec<Warning> {
     let text = str::from_utf8(&case.text).expect("ASCII");
@@ -73,7 +87,7 @@ pub fn warnings(case: &Case, grouping: &Grouping) -> Vec<Warning> {
         }
     }
     for at in grouping.calls.iter().chain(&grouping.sums) {
-        if is_on_later_line(case, *at) {
+        if is_on_later_line(case, *at) && is_in_block(case, *at) {
             warn(GOING_ON, *at);
         }
     }

@@ -74,12 +74,26 @@ fn what_goes_on_over_a_line() {
             let text = format!("a{end}{sign}b{};", if sign == "(" { ")" } else { "" });
             both(&text, &format!("going-on {line}:1"));
         }
-        for text in
-            ["a*E b;", "aE*b;", "a +E b;", "a(Eb);", "aE== b;", "a;E-b;", "a *E-b;", "aE.b;", "(E(a));"]
-        {
+        for text in [
+            "a*E b;",
+            "aE*b;",
+            "a +E b;",
+            "a(Eb);",
+            "aE== b;",
+            "a;E-b;",
+            "a *E-b;",
+            "aE.b;",
+            "(E(a));",
+            "(aE+b);",
+            "f(aE-b);",
+            "#{ a: bE- c };",
+            "f(a, #{ b: cE(d) });",
+        ] {
             both(&text.replace('E', end), "");
         }
     }
+    both("f(|x| { a\n-b });", "going-on 2:1");
+    both("if a\n- b { c }", "going-on 2:1");
     assert_eq!(told(SECOND, "(a)\n(b);"), "going-on 2:1");
     both("\"a\nb\" + c;", "long-string 1:1");
 }
