@@ -23,7 +23,7 @@ ghost use Prim.Native.Nat.{_≤_, _<_};
 ghost use lib.ListN.{length};
 
 // The text of `help`. It is one string, since each one is checked by itself.
-const HELP: [u8; 1508] = *b"\
+const HELP: [u8; 1521] = *b"\
     kaori shows how Kaori reads a script.\n\
     \n\
     \x20 kaori check FILE ..         says what is wrong with a script, and where, and warns of what may not be meant\n\
