@@ -27,6 +27,10 @@ use oracle::{
 /// So many files are named in one run.
 const FILES: usize = 500;
 
+/// The kinds of parentheses, as numbers.
+const LEFT_PAREN: u8 = 17;
+const RIGHT_PAREN: u8 = 18;
+
 /// The deepest that the program reads.
 const LIMIT: u32 = 64;
 
@@ -251,7 +255,8 @@ fn fault(
     if is_whole {
         return (!is_same).then_some("other rows with this for all of it");
     }
-    // the `not` stands after one new parenthesis, and takes the same tokens up to the first `and` or `or`
+    // the `not` stands after one new parenthesis, and takes the same tokens up to the first `and` or `or`, which may have parentheses
+    // of their own
     let text = str::from_utf8(&again.case.text).expect("ASCII");
     let place = place(text, start + 1);
     let warned = |warning: &Warning| warning.rule == REACHING_NOT && (warning.line, warning.column) == place;
@@ -260,8 +265,12 @@ fn fault(
     };
     let sign = reached(&script.case, &script.grouping, not)[0];
     let taken = again.grouping.nots.iter().find(|other| other.0 == not.0 + 1);
-    let takes =
-        taken.is_some_and(|taken| kinds(&again.case, taken.0, taken.1) == kinds(&script.case, not.0, sign));
+    let before = kinds(&script.case, not.0 + 1, sign);
+    let grouped = [&[LEFT_PAREN], before.as_slice(), &[RIGHT_PAREN]].concat();
+    let takes = taken.is_some_and(|taken| {
+        let now = kinds(&again.case, taken.0 + 1, taken.1);
+        now == before || now == grouped
+    });
     if again.warnings.iter().any(warned) {
         Some("still warned of with this for the first alone")
     } else if is_same {
