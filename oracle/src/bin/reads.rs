@@ -79,10 +79,10 @@ fn field<'a>(object: &'a str, key: &str) -> &'a str {
     &rest[..end]
 }
 
-/// What a row has apart from its place: its number, its parent, its kind and so on; and the text of a word or a number.
+/// What a row has apart from its warning and its place: its number, its parent, its kind and so on; and the text of a word or a number.
 fn shape(object: &str) -> String {
     let Some(from) = object.find(",\"row\":") else { return field(object, "message").to_string() };
-    let upto = object.find(",\"line\":").unwrap_or(object.len());
+    let upto = object.find(",\"warning\":").unwrap_or(object.len());
     let leaf = matches!(field(object, "kind"), "Identifier" | "Number" | "Boolean" | "Nil");
     format!("{} {}", &object[from..upto], if leaf { field(object, "text") } else { "" })
 }
