@@ -171,14 +171,22 @@ type Wide<'a> = (&'a [u8], &'a [&'a str], &'a [&'a str], &'a str, i32);
 const VERSION: &str = "kaori 1.0.0: the syntax of Kaori, editions 1 and 2";
 const REFUSED_JSON: &str = "{\"file\":\"screen.kaori\",\"line\":1,\"column\":5,\"start\":4,\"end\":5,\"severity\":\"error\",\
     \"code\":8,\"message\":\"expected <identifier> and found `=`\",\"hints\":[\"expected a name\"]}";
+/// A `not` that took an `and`.
+const NOT_TAKES: &[&str] = &[
+    "screen.kaori:1:4: warning: `not` takes all of this: a and b",
+    "if not a and b { c(); }",
+    "   ^^^^^^^^^^^",
+    "  for `not` on the first alone, write: (not a) and b",
+    "  for `not` on all of it, write: not (a and b)",
+];
 /// `-a;` and a string of bytes, as rows.
 const SIGN: &[u8] = b"-a; \"\\\"\x01\r\n\x7F\";";
 #[rustfmt::skip]
 const SIGN_JSON: &[&str] = &[
-    r#"{"file":"-","row":0,"parent":1,"kind":"Identifier","tail":false,"built_in":false,"line":1,"column":2,"start":1,"end":2,"text":"a"}"#,
-    r#"{"file":"-","row":1,"parent":3,"kind":"Unary","operator":"-","tail":false,"built_in":false,"line":1,"column":1,"start":0,"end":2,"text":"-a"}"#,
-    r#"{"file":"-","row":2,"parent":3,"kind":"String","tail":false,"built_in":false,"line":1,"column":5,"start":4,"end":12,"text":"\"\\\"\u0001\u000d\u000a\u007f\""}"#,
-    r#"{"file":"-","row":3,"parent":null,"kind":"Script","tail":false,"built_in":false,"line":1,"column":1,"start":0,"end":12,"text":"-a; \"\\\"\u0001\u000d\u000a\u007f\""}"#,
+    r#"{"file":"-","row":0,"parent":1,"kind":"Identifier","tail":false,"built_in":false,"warning":false,"line":1,"column":2,"start":1,"end":2,"text":"a"}"#,
+    r#"{"file":"-","row":1,"parent":3,"kind":"Unary","operator":"-","tail":false,"built_in":false,"warning":false,"line":1,"column":1,"start":0,"end":2,"text":"-a"}"#,
+    r#"{"file":"-","row":2,"parent":3,"kind":"String","tail":false,"built_in":false,"warning":true,"line":1,"column":5,"start":4,"end":12,"text":"\"\\\"\u0001\u000d\u000a\u007f\""}"#,
+    r#"{"file":"-","row":3,"parent":null,"kind":"Script","tail":false,"built_in":false,"warning":false,"line":1,"column":1,"start":0,"end":12,"text":"-a; \"\\\"\u0001\u000d\u000a\u007f\""}"#,
 ];
 /// Bytes that are not printed: in a string of a good script, and on a line that is refused.
 const CONTROL: &[u8] = b"a(\"x  y\x1B\t\n\r\\\r\"  ,  b);";
@@ -193,7 +201,7 @@ const CONTROL_TREE: &[&str] = &[
     "  tree",
     r#"    1:1      FunctionCall                     a("x  y\x1b\t\n\r\\r" , b)"#,
     "    1:1        Identifier                     a",
-    r#"    1:3        String                         "x  y\x1b\t\n\r\\r""#,
+    r#"    1:3        String (warning)               "x  y\x1b\t\n\r\\r""#,
     "    4:7        Identifier                     b",
 ];
 const BYTES: &[u8] = b"a;\t\"\x1B\xC3\xA9\";";
@@ -231,6 +239,9 @@ const WIDE: &[Wide] = &[
     (b"return;", &["--edition", "2", "check", "screen.kaori"], &[], "", 0),
     (b"return;", &["check", "--edition", "2", "screen.kaori"], &[], "", 0),
     (b"return;", &["check", "--strict", "--edition", "2", "--names", "empty.kaori", "screen.kaori"], &[], "", 0),
+    (b"if not a and b { c(); }", &["check", "screen.kaori"], NOT_TAKES, "", 0),
+    (b"if not a and b { c(); }", &["check", "--strict", "screen.kaori"], NOT_TAKES, "", 1),
+    (b"if not (a and b) { c(); }", &["check", "--strict", "screen.kaori"], &[], "", 0),
     (b"a;", &["--strict", "check", "screen.kaori"], &[], "", 0),
     (b"a;", &["check", "--edition", "3", "screen.kaori"], &[], "--edition takes 1 or 2; see kaori help", 2),
     (b"a;", &["check", "--edition"], &[], "--edition takes 1 or 2; see kaori help", 2),
@@ -243,7 +254,7 @@ const WIDE: &[Wide] = &[
     // objects
     (b"a;", &["check", "--json", "screen.kaori"], &[], "", 0),
     (b"let = 1;", &["check", "--json", "screen.kaori"], &[REFUSED_JSON], "", 1),
-    (b"let = 1;", &["--json", "tree", "screen.kaori", "empty.kaori"], &[REFUSED_JSON, r#"{"file":"empty.kaori","row":0,"parent":null,"kind":"Script","tail":false,"built_in":false,"line":1,"column":1,"start":0,"end":0,"text":""}"#], "", 1),
+    (b"let = 1;", &["--json", "tree", "screen.kaori", "empty.kaori"], &[REFUSED_JSON, r#"{"file":"empty.kaori","row":0,"parent":null,"kind":"Script","tail":false,"built_in":false,"warning":false,"line":1,"column":1,"start":0,"end":0,"text":""}"#], "", 1),
     (SIGN, &["tree", "--json", "-"], SIGN_JSON, "", 0),
     // bytes that are not printed
     (CONTROL, &["tree", "screen.kaori"], CONTROL_TREE, "", 0),
