@@ -25,10 +25,11 @@ use showing::cover::part_of;
 ghost use Prim.Native.Nat.{_≤_};
 ghost use lib.ListN.{length};
 
-// The most bytes of the script in a message, and in each part of what is to be written: there it is whole, but for what no line holds.
+// The most bytes of the script in a message, and in each of the two parts of what is to be written. A byte may take four places, and a line stays in its room: else its
+// first half would be written before it is made a string of JSON.
 const MOST: usize = 72;
 
-const WHOLE: usize = 1200;
+const WHOLE: usize = 480;
 
 // The names of the rules, for programs: a cell of 16 bytes each.
 const NAMES: [u8; 64] = *b"reaching-not    cut-off         going-on        long-string     ";
@@ -224,7 +225,7 @@ fn put_line_of(lead: &[u8], text: &[u8], offset: u32, out: &mut [u8; 4096], at: 
     put_number(here.line, out, led)
 }
 
-// What to write at the end of the line before token k: the token, to go on, or a `;`.
+// What to write at the end of the line before token k: the token, to go on.
 fn show_end(text: &[u8], tokens: &[u32], k: usize, style: u32, out: &mut [u8; 4096]) -> u32 {
     let mark = token_part(tokens, k);
     let end = part_before(tokens, k).end;
@@ -234,6 +235,7 @@ fn show_end(text: &[u8], tokens: &[u32], k: usize, style: u32, out: &mut [u8; 40
     end_hint(style, out, all)
 }
 
+// And a `;`, to start a statement at token k.
 fn show_start(text: &[u8], tokens: &[u32], k: usize, style: u32, out: &mut [u8; 4096]) -> u32 {
     let end = part_before(tokens, k).end;
     let all = put_line_of(
