@@ -122,6 +122,22 @@ fn told(object: &str) -> Told {
     Told { warning, start: number(object, "start"), end: number(object, "end"), hints }
 }
 
+/// Whether a line can be an object: between braces, and outside of its strings nothing but signs, numbers and the words of JSON.
+fn is_whole(line: &str) -> bool {
+    let (mut inside, mut escaped) = (false, false);
+    let mut outside = true;
+    for byte in line.bytes() {
+        match byte {
+            _ if escaped => escaped = false,
+            b'\\' if inside => escaped = true,
+            b'"' => inside = !inside,
+            _ if inside => outside &= (32..127).contains(&byte),
+            _ => outside &= byte.is_ascii_alphanumeric() || b"{}[]:,".contains(&byte),
+        }
+    }
+    outside && !inside && line.starts_with('{') && line.ends_with('}')
+}
+
 /// What the program says of each of these scripts.
 fn ask(words: &[String], folder: &Path, edition: u32, scripts: &[Script]) -> Result<Vec<Vec<Told>>> {
     let name = |i: usize| folder.join(i.to_string()).display().to_string();
@@ -138,6 +154,7 @@ fn ask(words: &[String], folder: &Path, edition: u32, scripts: &[Script]) -> Res
     let said = String::from_utf8_lossy(&output.stdout).into_owned();
     let mut all: HashMap<String, Vec<Told>> = HashMap::new();
     for object in said.lines() {
+        assert!(is_whole(object), "no object of JSON: {object}");
         all.entry(text_of(object, "file")).or_default().push(told(object));
     }
     let answers = files.iter().map(|file| all.remove(file).unwrap_or_default()).collect();
@@ -319,12 +336,18 @@ fn forms(lexer: &Lexer, edition: u32, script: &Script, told: &Told, count: &mut 
     made
 }
 
+/// A `not` and what it took, with bytes that take four places each where they are shown: more than a line of the program holds.
+fn wide() -> Vec<u8> {
+    [b"not \"", &[1; 1100][..], b"\" and \"", &[2; 900], b"\";"].concat()
+}
+
 fn run(words: &[String], folder: &Path, wish: &Wish) -> Result<ExitCode> {
     let lexer = Lexer::new();
     let mut count = Count::default();
     for &edition in &wish.editions {
         let mut random = Random::of(wish.seed, 0);
         let mut texts = warnable::short(edition, wish.short, &mut random);
+        texts.push(wide());
         let short = texts.len();
         let mut index = 0;
         let mut done = 0;
