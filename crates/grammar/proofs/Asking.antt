@@ -7,10 +7,11 @@ use native.Mathlib.Omega.{arith}
 use lib.Dec.{T}
 use Rattle.grammar.specs.Edition.{Edition}
 use Rattle.grammar.specs.Handle.{Handle}
-use Rattle.grammar.specs.Kaori.{Table, Form, kaori, Script}
+use Rattle.grammar.specs.Kaori.{Table, Form, above, kaori}
 use Rattle.grammar.specs.Label.{Node, Label}
 use Rattle.grammar.specs.Parent.{parented, written}
 use Rattle.grammar.specs.Phrase.{node, Tree, Aim, whole, Reads}
+use Rattle.grammar.specs.Profile.{Profile, Reads-all}
 use Rattle.grammar.specs.Rows.{Rows, blank, make, walk, unparented}
 use Rattle.grammar.specs.Rule.{rule}
 use Rattle.grammar.specs.Space.{has-word}
@@ -100,7 +101,8 @@ module _ (ts : List ℕ) (σ τ : ℕ → ℕ) where
         let (i, j) = node-same f y (spoken-entry e m _ k) l (λ v. walk-same y v l) in
         made-same f b c (Tree.more t u) i (more-same t u (walk-same x h (omega (arith, takes e y))) j) w
 
--- the rows of a script
-pub written-same : (e : Edition) (ts : List ℕ) (σ τ : ℕ → ℕ) {kind : ℕ → ℕ} {n : ℕ} {t : Tree Label} → Script e kind n t → ((i : ℕ) → i < n → a-name (kind i) ≡ true → σ i ≡ τ i) → written ts σ t ≡ written ts τ t
-unfolding written unparented spoken has-word
-written-same e ts σ τ x same = ap (λ r. parented (r .rows)) (walk-same ts σ τ e same x tt (omega arith) blank)
+-- the rows of a script and of a guard
+pub written-same : (p : Profile) (n : ℕ) (e : Edition) (ts : List ℕ) (σ τ : ℕ → ℕ) {kind : ℕ → ℕ} {t : Tree Label} → Reads-all p e kind n t → ((i : ℕ) → i < n → a-name (kind i) ≡ true → σ i ≡ τ i) → written ts σ t ≡ written ts τ t
+unfolding written unparented spoken has-word above
+written-same Profile.script n e ts σ τ x same = ap (λ r. parented (r .rows)) (walk-same ts σ τ e same x tt (omega arith) blank)
+written-same Profile.guard n e ts σ τ x same = ap (λ r. parented (r .rows)) (walk-same ts σ τ e same x tt (omega arith) blank)

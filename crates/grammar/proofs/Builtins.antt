@@ -16,9 +16,10 @@ use Rattle.grammar.specs.Builtin.{Builtins, none, built, built-rows, Rig
 use Rattle.grammar.specs.Door.{Whole, Right-symbols}
 use Rattle.grammar.specs.Edition.{Edition}
 use Rattle.grammar.specs.Handle.{absent}
-use Rattle.grammar.specs.Kaori.{kaori, script, Script}
+use Rattle.grammar.specs.Kaori.{kaori}
 use Rattle.grammar.specs.Label.{Label}
 use Rattle.grammar.specs.Outcome.{Outcome, accepted, refusal, Comes}
+use Rattle.grammar.specs.Profile.{Profile, form, Reads-all}
 use Rattle.grammar.specs.Parent.{written}
 use Rattle.grammar.specs.Phrase.{Tree, depth}
 use Rattle.grammar.specs.Refusal.{Refused, Refuses}
@@ -82,19 +83,19 @@ module _ (text ts : List ℕ) where
   symbols-in-before room = fun-ext (symbol-in-as-before room)
 
 -- what came of a token list then
-pub data Came (e : Edition) (text ts : List ℕ) (limit : ℕ) (space : Space) (room : ℕ) : Outcome → Type 0 where
-  read : {t : Tree Label} → Script e (kind ts) (count ts - 1) t → depth t ≤ limit → Enough space (written ts (first-place text ts) t) → length (first-places text ts (count ts)) ≤ room → Came e text ts limit space room (accepted (written ts (first-place text ts) t) (first-places text ts (count ts)))
-  stop : {q : Refused} → Refuses ts (first-place-in text ts room) limit space (kaori e) (kind ts) script 0 0 blank q → Came e text ts limit space room (refusal q)
+pub data Came (p : Profile) (e : Edition) (text ts : List ℕ) (limit : ℕ) (space : Space) (room : ℕ) : Outcome → Type 0 where
+  read : {t : Tree Label} → Reads-all p e (kind ts) (count ts) t → depth t ≤ limit → Enough space (written ts (first-place text ts) t) → length (first-places text ts (count ts)) ≤ room → Came p e text ts limit space room (accepted (written ts (first-place text ts) t) (first-places text ts (count ts)))
+  stop : {q : Refused} → Refuses ts (first-place-in text ts room) limit space (kaori e) (kind ts) (form p) 0 0 blank q → Came p e text ts limit space room (refusal q)
 
-module _ {e : Edition} {text ts : List ℕ} {limit : ℕ} {space : Space} {room : ℕ} where
-  pub comes-as-before : {r : Outcome} → Comes e none text ts limit space room r → Came e text ts limit space room r
+module _ {p : Profile} {e : Edition} {text ts : List ℕ} {limit : ℕ} {space : Space} {room : ℕ} where
+  pub comes-as-before : {r : Outcome} → Comes p e none text ts limit space room r → Came p e text ts limit space room r
   comes-as-before (Comes.read x h i j) =
       let s = symbols-before text ts in
       let f = rows-as-before text ts (count ts) in
       rw (s, f) (Came.read x h (rw s at i) (rw f at j))
   comes-as-before (Comes.stop x) = Came.stop (rw (symbols-in-before text ts room) at x)
 
-  pub came-comes : {r : Outcome} → Came e text ts limit space room r → Comes e none text ts limit space room r
+  pub came-comes : {r : Outcome} → Came p e text ts limit space room r → Comes p e none text ts limit space room r
   came-comes (Came.read x h i j) =
       let s = symbols-before text ts in
       let f = rows-as-before text ts (count ts) in
@@ -330,21 +331,21 @@ module _ (names : Builtins) (text ts : List ℕ) where
       omega (arith, met-renamed m, name-has-row names text ts (m .token) (m .name), rows-grow names text ts (suc (m .token)) (count ts) (m .before))
 
 -- what was read beside no names is read beside them, with its symbols renamed
-pub record Renamed (e : Edition) (names : Builtins) (text ts : List ℕ) (limit : ℕ) (space : Space) (room : ℕ) (w : Rows) (ss : List ℕ) : Type 0 where
+pub record Renamed (p : Profile) (e : Edition) (names : Builtins) (text ts : List ℕ) (limit : ℕ) (space : Space) (room : ℕ) (w : Rows) (ss : List ℕ) : Type 0 where
   pub tree : Tree Label
   pub rows : w ≡ written ts (symbol none text ts) tree
   pub symbols : ss ≡ symbol-rows none text ts (count ts)
   pub renamed : written ts (symbol names text ts) tree ≡ written ts (λ i. rename names text ts (symbol none text ts i)) tree
-  pub comes : Comes e names text ts limit space room (accepted (written ts (λ i. rename names text ts (symbol none text ts i)) tree) (symbol-rows names text ts (count ts)))
+  pub comes : Comes p e names text ts limit space room (accepted (written ts (λ i. rename names text ts (symbol none text ts i)) tree) (symbol-rows names text ts (count ts)))
 
-module _ {e : Edition} {names : Builtins} {text ts : List ℕ} {limit : ℕ} {space : Space} {room room′ : ℕ} where
-  pub renamed-rows : {w : Rows} {ss : List ℕ} → length (symbol-rows names text ts (count ts)) ≤ room′ → Comes e none text ts limit space room (accepted w ss) → Renamed e names text ts limit space room′ w ss
+module _ {p : Profile} {e : Edition} {names : Builtins} {text ts : List ℕ} {limit : ℕ} {space : Space} {room room′ : ℕ} where
+  pub renamed-rows : {w : Rows} {ss : List ℕ} → length (symbol-rows names text ts (count ts)) ≤ room′ → Comes p e none text ts limit space room (accepted w ss) → Renamed p e names text ts limit space room′ w ss
   renamed-rows k (Comes.read {t = t} x h i j) =
       let σ = symbol none text ts in
       let τ = symbol names text ts in
-      let r : written ts τ t ≡ written ts (λ n. rename names text ts (σ n)) t = written-same e ts τ (λ n. rename names text ts (σ n)) x (λ n l z. renamed-symbol names text ts n z (omega arith)) in
+      let r : written ts τ t ≡ written ts (λ n. rename names text ts (σ n)) t = written-same p (count ts) e ts τ (λ n. rename names text ts (σ n)) x (λ n l z. renamed-symbol names text ts n z l) in
       record { tree = t; rows = refl; symbols = refl; renamed = r; comes = rw (← r) (Comes.read x h (enough-written ts σ τ t (enough-then ts σ σ t i)) k) }
 
   -- and what was refused is refused, and by the same refusal
-  pub same-refusals : {q : Refused} → Whole ts → built names ≤ 64 → length (symbol-rows none text ts (count ts)) ≤ room → length (symbol-rows names text ts (count ts)) ≤ room′ → Comes e none text ts limit space room (refusal q) ↔ Comes e names text ts limit space room′ (refusal q)
+  pub same-refusals : {q : Refused} → Whole ts → built names ≤ 64 → length (symbol-rows none text ts (count ts)) ≤ room → length (symbol-rows names text ts (count ts)) ≤ room′ → Comes p e none text ts limit space room (refusal q) ↔ Comes p e names text ts limit space room′ (refusal q)
   same-refusals l few h k = (same-refusal l (omega arith) few h k, same-refusal l few (omega arith) k h)

@@ -11,10 +11,11 @@ use lib.ListN.{length, getD}
 use Rattle.grammar.specs.Builtin.{Builtins, built, Right-names}
 use Rattle.grammar.specs.Call.{Call}
 use Rattle.grammar.specs.Derivative.{matches}
-use Rattle.grammar.specs.Door.{Whole, Roomy, Right-symbols, Right-edition, Ascii, Sound, Closed, Admitted, First-without, Wrong, Turned-away}
+use Rattle.grammar.specs.Door.{Whole, Roomy, Right-symbols, Right-edition, Ascii, Sound, Closed, Inside, Admitted, First-without, Wrong, Turned-away}
 use Rattle.grammar.specs.Kind.{And, Nil, Identifier, Eof}
 use Rattle.grammar.specs.Lexeme.{spelling, pattern, Fits}
 use Rattle.grammar.specs.Pattern.{Pattern, Matches}
+use Rattle.grammar.specs.Profile.{allowed}
 use Rattle.grammar.specs.Room.{symbol-width, scratch-width}
 use Rattle.grammar.specs.Symbol.{same}
 use Rattle.grammar.specs.Table.{Part, start-of, end-of, word}
@@ -147,6 +148,9 @@ module _ (c : Call) where
   unfoldable pub in-ends : Search (Closed (c .tokens)) (count (c .tokens))
   in-ends = look-through (Closed (c .tokens)) (closes (c .tokens)) (count (c .tokens))
 
+  unfoldable pub in-profile : Search (Inside (c .profile) (c .tokens)) (count (c .tokens))
+  in-profile = look-through (Inside (c .profile) (c .tokens)) (λ i. by-test (allowed (c .profile) (kind (c .tokens) i)) (λ h. h) (λ h. h)) (count (c .tokens))
+
   -- what each check asks
   abbrev pub Asked : (turn : ℕ) → Type 0
   Asked zero = Unit {0}
@@ -160,7 +164,8 @@ module _ (c : Call) where
   Asked (suc (suc (suc (suc (suc (suc (suc (suc zero)))))))) = Ascii (c .text)
   Asked (suc (suc (suc (suc (suc (suc (suc (suc (suc zero))))))))) = (i : ℕ) → i < count (c .tokens) → Sound (c .text) (c .tokens) i
   Asked (suc (suc (suc (suc (suc (suc (suc (suc (suc (suc zero)))))))))) = (i : ℕ) → i < count (c .tokens) → Closed (c .tokens) i
-  Asked (suc (suc (suc (suc (suc (suc (suc (suc (suc (suc (suc k))))))))))) = Unit {0}
+  Asked (suc (suc (suc (suc (suc (suc (suc (suc (suc (suc (suc zero))))))))))) = (i : ℕ) → i < count (c .tokens) → Inside (c .profile) (c .tokens) i
+  Asked (suc (suc (suc (suc (suc (suc (suc (suc (suc (suc (suc (suc k)))))))))))) = Unit {0}
 
   unfoldable pub ask : (turn : ℕ) → Dec (Asked turn)
   ask zero = yes tt
@@ -174,7 +179,8 @@ module _ (c : Call) where
   ask (suc (suc (suc (suc (suc (suc (suc (suc zero)))))))) = each in-bytes
   ask (suc (suc (suc (suc (suc (suc (suc (suc (suc zero))))))))) = each in-tokens
   ask (suc (suc (suc (suc (suc (suc (suc (suc (suc (suc zero)))))))))) = each in-ends
-  ask (suc (suc (suc (suc (suc (suc (suc (suc (suc (suc (suc k))))))))))) = yes tt
+  ask (suc (suc (suc (suc (suc (suc (suc (suc (suc (suc (suc zero))))))))))) = each in-profile
+  ask (suc (suc (suc (suc (suc (suc (suc (suc (suc (suc (suc (suc k)))))))))))) = yes tt
 
   -- something is wrong exactly where a check asks for what there is not
   pub not-had : {n k at from upto : ℕ} → Wrong c n k at from upto → Asked n → ⊥
@@ -189,6 +195,7 @@ module _ (c : Call) where
   not-had (Wrong.byte {i = i} x) a = x .lacks (a i (x .place))
   not-had (Wrong.token {i = i} x) a = x .lacks (a i (x .place))
   not-had (Wrong.eof {i = i} x) a = x .lacks (a i (x .place))
+  not-had (Wrong.outside {i = i} x) a = x .lacks (a i (x .place))
 
   abbrev pub Finding : ℕ → Type 0
   Finding n = (code at from upto : ℕ) × Wrong c n code at from upto
@@ -205,18 +212,19 @@ module _ (c : Call) where
   find (suc (suc (suc (suc (suc (suc (suc (suc zero)))))))) z = elim in-bytes [ all f ↦ absurd (z f) | lacking {i = i} x ↦ (5, 0, i, i + 1, Wrong.byte x) ]
   find (suc (suc (suc (suc (suc (suc (suc (suc (suc zero))))))))) z = elim in-tokens [ all f ↦ absurd (z f) | lacking {i = i} x ↦ (6, i, start (c .tokens) i, end (c .tokens) i, Wrong.token x) ]
   find (suc (suc (suc (suc (suc (suc (suc (suc (suc (suc zero)))))))))) z = elim in-ends [ all f ↦ absurd (z f) | lacking {i = i} x ↦ (7, i, start (c .tokens) i, end (c .tokens) i, Wrong.eof x) ]
-  find (suc (suc (suc (suc (suc (suc (suc (suc (suc (suc (suc k))))))))))) z = absurd (z tt)
+  find (suc (suc (suc (suc (suc (suc (suc (suc (suc (suc (suc zero))))))))))) z = elim in-profile [ all f ↦ absurd (z f) | lacking {i = i} x ↦ (17, i, start (c .tokens) i, end (c .tokens) i, Wrong.outside x) ]
+  find (suc (suc (suc (suc (suc (suc (suc (suc (suc (suc (suc (suc k)))))))))))) z = absurd (z tt)
 
   -- what the door says of a call
   pub data Verdict : Type 0 where
     inside : Admitted c → Verdict
     turned : (code at from upto : ℕ) → Turned-away c code at from upto → Verdict
 
-  pub away : {turn code at from upto : ℕ} → First-without Asked 11 turn → Wrong c turn code at from upto → Turned-away c code at from upto
+  pub away : {turn code at from upto : ℕ} → First-without Asked 12 turn → Wrong c turn code at from upto → Turned-away c code at from upto
   away {turn} x w = record { turn = turn; wrong = w; first = λ {t} v. elim (decLt t turn) [ yes h ↦ absurd (not-had v (x .before t h)) | no h ↦ omega arith ] }
 
   unfoldable pub verdict : Verdict
-  verdict = elim (look-through Asked ask 11) [
-    | all f ↦ inside (record { whole = f 1 (omega arith); short = f 2 (omega arith); some-depth = f 3 (omega arith) .0; least-depth = f 3 (omega arith) .1; edition = f 4 (omega arith); roomy = f 5 (omega arith); named = f 6 (omega arith); names-fit = f 7 (omega arith); ascii = f 8 (omega arith); sound = f 9 (omega arith); closed = f 10 (omega arith) })
+  verdict = elim (look-through Asked ask 12) [
+    | all f ↦ inside (record { whole = f 1 (omega arith); short = f 2 (omega arith); some-depth = f 3 (omega arith) .0; least-depth = f 3 (omega arith) .1; edition = f 4 (omega arith); roomy = f 5 (omega arith); named = f 6 (omega arith); names-fit = f 7 (omega arith); ascii = f 8 (omega arith); sound = f 9 (omega arith); closed = f 10 (omega arith); inside = f 11 (omega arith) })
     | lacking {i = i} x ↦ let f = find i (x .lacks) in turned (f .0) (f .1) (f .2) (f .3) (away x (f .4))
   ]

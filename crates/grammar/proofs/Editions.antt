@@ -11,6 +11,7 @@ use Rattle.grammar.specs.Kaori.{Script, script}
 use Rattle.grammar.specs.Kind.{Not}
 use Rattle.grammar.specs.Label.{Label}
 use Rattle.grammar.specs.Outcome.{accepted, Comes}
+use Rattle.grammar.specs.Profile.{Profile}
 use Rattle.grammar.specs.Parent.{written}
 use Rattle.grammar.specs.Phrase.{Tree, whole}
 use Rattle.grammar.specs.Rows.{Rows, blank}
@@ -39,12 +40,12 @@ alike-written ts σ t u e =
 
 module _ {names : Builtins} {text ts : List ℕ} {limit : ℕ} {space : Space} {room : ℕ} where
   -- the symbol rows are the tokens' own, in both editions
-  pub accepted-later : {w : Rows} {ss : List ℕ} → Comes Edition.first names text ts limit space room (accepted w ss) → (w′ : Rows) × (length (w′ .nodes) ≡ length (w .nodes)) × (length (w′ .links) ≡ length (w .links)) × Comes Edition.second names text ts limit space room (accepted w′ ss)
+  pub accepted-later : {w : Rows} {ss : List ℕ} → Comes Profile.script Edition.first names text ts limit space room (accepted w ss) → (w′ : Rows) × (length (w′ .nodes) ≡ length (w .nodes)) × (length (w′ .links) ≡ length (w .links)) × Comes Profile.script Edition.second names text ts limit space room (accepted w′ ss)
   accepted-later (Comes.read {t = t} x d i j) =
       let l = read-later x in
       let a = alike-written ts (symbol names text ts) t (l .tree) (l .is) in
       (_, a .nodes, a .links, Comes.read (l .reads) (omega (arith, l .deep)) (omega arith) j)
 
   -- a list without a `not`
-  pub same-without-not : {w : Rows} {ss : List ℕ} → ((i : ℕ) → i < count ts → kind ts i ≡ Not → ⊥) → Comes Edition.first names text ts limit space room (accepted w ss) → Comes Edition.second names text ts limit space room (accepted w ss)
+  pub same-without-not : {w : Rows} {ss : List ℕ} → ((i : ℕ) → i < count ts → kind ts i ≡ Not → ⊥) → Comes Profile.script Edition.first names text ts limit space room (accepted w ss) → Comes Profile.script Edition.second names text ts limit space room (accepted w ss)
   same-without-not h (Comes.read x d i j) = Comes.read (script-without x (λ k l. h k (omega arith))) d i j

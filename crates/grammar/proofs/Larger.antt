@@ -12,12 +12,13 @@ use Rattle.grammar.specs.Call.{Call}
 use Rattle.grammar.specs.Door.{Whole, Right-symbols, Admitted}
 use Rattle.grammar.specs.Edition.{Edition, edition}
 use Rattle.grammar.specs.Handle.{absent}
-use Rattle.grammar.specs.Kaori.{Table, Form, kaori, script, Script}
+use Rattle.grammar.specs.Kaori.{Table, Form, above, kaori, Script}
 use Rattle.grammar.specs.Kind.{Eof}
 use Rattle.grammar.specs.Label.{Label}
 use Rattle.grammar.specs.Outcome.{Outcome, accepted, refusal, Stops, Comes}
 use Rattle.grammar.specs.Parent.{written}
 use Rattle.grammar.specs.Phrase.{Phrase, Grammar, Tree, none, more, deeper, made, Aim, whole, Reads, depth}
+use Rattle.grammar.specs.Profile.{Profile, form, taken, Reads-all}
 use Rattle.grammar.specs.Refusal.{Refused, Passes, Refuses}
 use Rattle.grammar.specs.Room.{Rooms, node-width, link-width, symbol-width}
 use Rattle.grammar.specs.Rows.{Rows, blank, then, unparented}
@@ -27,9 +28,9 @@ use Rattle.grammar.specs.Token.{kind, count}
 use Rattle.grammar.proofs.Demands.{last-token, Refused-at}
 use Rattle.grammar.proofs.Lengths.{Alike, alike-self, then-alike, tree-whole, written-alike, enough-written, enough-then}
 use Rattle.grammar.proofs.Machine.{asked, read-not-refused}
-use Rattle.grammar.proofs.Outcomes.{script-not-refused}
+use Rattle.grammar.proofs.Outcomes.{reading-not-refused}
 use Rattle.grammar.proofs.Places.{proper, proper-entry, proper-link, reading-ends, rest, before, code-of}
-use Rattle.grammar.proofs.Room.{paid, paid-node, paid-entry, pays, script-room}
+use Rattle.grammar.proofs.Room.{paid, paid-node, paid-entry, pays, script-room, all-room}
 use Rattle.grammar.proofs.Symbols.{named-all, symbol-in-kept, symbol-there, rows-few, rows-whole}
 use Rattle.grammar.proofs.Tests.{both}
 use Rattle.grammar.proofs.Worded.{words-fit}
@@ -100,41 +101,41 @@ code (accepted w ss) = 0
 code (refusal q) = code-of q
 
 -- what comes of a list in larger rooms is what came of it before, the same rows or the same refusal, unless that was a 4
-pub outcome-kept : {e : Edition} {names : Builtins} {text ts : List ℕ} {limit : ℕ} {s z : Space} {room larger : ℕ} {r : Outcome} → Larger s z room larger → Comes e names text ts limit s room r → (code r ≡ 4 → ⊥) → Comes e names text ts limit z larger r
+pub outcome-kept : {p : Profile} {e : Edition} {names : Builtins} {text ts : List ℕ} {limit : ℕ} {s z : Space} {room larger : ℕ} {r : Outcome} → Larger s z room larger → Comes p e names text ts limit s room r → (code r ≡ 4 → ⊥) → Comes p e names text ts limit z larger r
 outcome-kept g (Comes.read x h i j) n = Comes.read x h (omega (arith, i, g)) (omega (arith, j, g))
 outcome-kept {names = names} {text} {ts} g (Comes.stop x) n = Comes.stop (refusal-kept (omega arith) (keeps names text ts g) alike-self x (λ e. omega arith) (λ e. absurd (n e)))
 
-pub success-kept : {e : Edition} {names : Builtins} {text ts : List ℕ} {limit : ℕ} {s z : Space} {room larger : ℕ} {w : Rows} {ss : List ℕ} → Larger s z room larger → Comes e names text ts limit s room (accepted w ss) → Comes e names text ts limit z larger (accepted w ss)
+pub success-kept : {p : Profile} {e : Edition} {names : Builtins} {text ts : List ℕ} {limit : ℕ} {s z : Space} {room larger : ℕ} {w : Rows} {ss : List ℕ} → Larger s z room larger → Comes p e names text ts limit s room (accepted w ss) → Comes p e names text ts limit z larger (accepted w ss)
 success-kept g x = outcome-kept g x (λ e. omega arith)
 
--- a list succeeds with just what a reading writes that the limit and the rooms let pass: all symbol rows fit where the built-in ones do and each node of a script
+-- a list succeeds with just what a reading writes that the limit and the rooms let pass: all symbol rows fit where the built-in ones do and each node of what is read
 -- has its symbol
-pub passing-comes : (e : Edition) (names : Builtins) (text ts : List ℕ) {limit : ℕ} {space : Space} (room : ℕ) → Right-symbols names room → {t : Tree Label} → Passes ts (symbol-in names text ts room) limit space (kaori e) (kind ts) (whole script) 0 0 blank (count ts - 1) t → Comes e names text ts limit space room (accepted (written ts (symbol names text ts) t) (symbol-rows names text ts (count ts)))
-passing-comes e names text ts room r {t} x = Comes.read (x .reads) (omega (arith, x .deep)) (enough-written ts (symbol-in names text ts room) (symbol names text ts) t (x .fits)) (words-fit e names text ts room r (x .reads) (x .named))
+pub passing-comes : (p : Profile) (e : Edition) (names : Builtins) (text ts : List ℕ) {limit : ℕ} {space : Space} (room : ℕ) → Right-symbols names room → {t : Tree Label} → Passes ts (symbol-in names text ts room) limit space (kaori e) (kind ts) (whole (form p)) 0 0 blank (taken p (count ts)) t → Comes p e names text ts limit space room (accepted (written ts (symbol names text ts) t) (symbol-rows names text ts (count ts)))
+passing-comes p e names text ts room r {t} x = Comes.read (x .reads) (omega (arith, x .deep)) (enough-written ts (symbol-in names text ts room) (symbol names text ts) t (x .fits)) (words-fit p e names text ts room r (x .reads) (x .named))
 
 -- succeeding with these rows: a reading within the limit, and its rows fit all three rooms
-pub record Succeeds (e : Edition) (names : Builtins) (text ts : List ℕ) (limit : ℕ) (space : Space) (room : ℕ) (w : Rows) (ss : List ℕ) : Type 0 where
+pub record Succeeds (p : Profile) (e : Edition) (names : Builtins) (text ts : List ℕ) (limit : ℕ) (space : Space) (room : ℕ) (w : Rows) (ss : List ℕ) : Type 0 where
   pub tree : Tree Label
-  pub reading : Script e (kind ts) (count ts - 1) tree
+  pub reading : Reads-all p e (kind ts) (count ts) tree
   pub deep : depth tree ≤ limit
   pub fits : Enough space w
   pub symbols-fit : length ss ≤ room
   pub rows-are : w ≡ written ts (symbol names text ts) tree
   pub symbols-are : ss ≡ symbol-rows names text ts (count ts)
 
-pub succeeds : {e : Edition} {names : Builtins} {text ts : List ℕ} {limit : ℕ} {space : Space} {room : ℕ} {w : Rows} {ss : List ℕ} → Comes e names text ts limit space room (accepted w ss) → Succeeds e names text ts limit space room w ss
+pub succeeds : {p : Profile} {e : Edition} {names : Builtins} {text ts : List ℕ} {limit : ℕ} {space : Space} {room : ℕ} {w : Rows} {ss : List ℕ} → Comes p e names text ts limit space room (accepted w ss) → Succeeds p e names text ts limit space room w ss
 succeeds (Comes.read {t = t} x h i j) = record { tree = t; reading = x; deep = h; fits = i; symbols-fit = j; rows-are = refl; symbols-are = refl }
 
-pub success-comes : {e : Edition} {names : Builtins} {text ts : List ℕ} {limit : ℕ} {space : Space} {room : ℕ} {w : Rows} {ss : List ℕ} → Succeeds e names text ts limit space room w ss → Comes e names text ts limit space room (accepted w ss)
+pub success-comes : {p : Profile} {e : Edition} {names : Builtins} {text ts : List ℕ} {limit : ℕ} {space : Space} {room : ℕ} {w : Rows} {ss : List ℕ} → Succeeds p e names text ts limit space room w ss → Comes p e names text ts limit space room (accepted w ss)
 success-comes x = rw (x .rows-are, x .symbols-are) (Comes.read (x .reading) (x .deep) (rw (x .rows-are) at (x .fits)) (rw (x .symbols-are) at (x .symbols-fit)))
 
-module _ (e : Edition) (names : Builtins) (text ts : List ℕ) {limit : ℕ} {space : Space} (room : ℕ) {n : ℕ} {t : Tree Label} {q : Refused} where
-  -- where a script is refused by 4, the rows of no reading fit, however deep it is
-  pub short-truly : Whole ts → built names ≤ 64 → Stops e names text ts limit space room q → code-of q ≡ 4 → Script e (kind ts) n t → Enough space (written ts (symbol names text ts) t) → length (symbol-rows names text ts (count ts)) ≤ room → ⊥
-  short-truly l few x c r i j = script-not-refused e names text ts room l few r (omega arith) i j (refusal-kept {l = limit + depth t} (omega arith) keeps-self alike-self x (λ f. omega arith) (λ f. keeps-self))
+module _ (p : Profile) (e : Edition) (names : Builtins) (text ts : List ℕ) {limit : ℕ} {space : Space} (room : ℕ) {n : ℕ} {t : Tree Label} {q : Refused} where
+  -- where a list is refused by 4, the rows of no reading fit, however deep it is
+  pub short-truly : Whole ts → built names ≤ 64 → Stops p e names text ts limit space room q → code-of q ≡ 4 → Reads (kaori e) (kind ts) (whole (form p)) 0 n t → Enough space (written ts (symbol names text ts) t) → length (symbol-rows names text ts (count ts)) ≤ room → ⊥
+  short-truly l few x c r i j = reading-not-refused p e names text ts room l few r (omega arith) i j (refusal-kept {l = limit + depth t} (omega arith) keeps-self alike-self x (λ f. omega arith) (λ f. keeps-self))
 
   -- and where it is refused by another code, no reading is within the limit, whatever its rows
-  pub refused-truly : Stops e names text ts limit space room q → (code-of q ≡ 4 → ⊥) → Script e (kind ts) n t → depth t ≤ limit → ⊥
+  pub refused-truly : Stops p e names text ts limit space room q → (code-of q ≡ 4 → ⊥) → Reads (kaori e) (kind ts) (whole (form p)) 0 n t → depth t ≤ limit → ⊥
   refused-truly x c r h =
       let τ : ℕ → ℕ = λ i. 0 in
       let w = then ts τ t blank in
@@ -143,20 +144,20 @@ module _ (e : Edition) (names : Builtins) (text ts : List ℕ) {limit : ℕ} {sp
       read-not-refused {ts = ts} {symbol = τ} {limit = limit} {space = z} {o = 0} {w = blank} (record { reads = r; deep = omega arith; named = named-all (λ i f. omega arith) t; fits = omega arith }) (refusal-kept (omega arith) g alike-self x (λ f. omega arith) (λ f. absurd (c f)))
 
 -- reading does not depend on the text nor on built-in names: with others, and room for the rows of both, the same refusal comes, or the rows of the same tree
-pub same-refusal : {e : Edition} {names others : Builtins} {text other ts : List ℕ} {limit : ℕ} {space : Space} {room room′ : ℕ} {q : Refused} → Whole ts → built names ≤ 64 → built others ≤ 64 → length (symbol-rows names text ts (count ts)) ≤ room → length (symbol-rows others other ts (count ts)) ≤ room′ → Comes e names text ts limit space room (refusal q) → Comes e others other ts limit space room′ (refusal q)
+pub same-refusal : {p : Profile} {e : Edition} {names others : Builtins} {text other ts : List ℕ} {limit : ℕ} {space : Space} {room room′ : ℕ} {q : Refused} → Whole ts → built names ≤ 64 → built others ≤ 64 → length (symbol-rows names text ts (count ts)) ≤ room → length (symbol-rows others other ts (count ts)) ≤ room′ → Comes p e names text ts limit space room (refusal q) → Comes p e others other ts limit space room′ (refusal q)
 same-refusal {names = names} {others} {text} {other} {ts} {space = space} {room = room} {room′ = room′} l few fewer h i (Comes.stop x) =
     Comes.stop (refusal-kept (omega arith) (there (symbol-in names text ts room) others other fewer i) alike-self x (λ c. omega arith) (λ c. there (symbol-in others other ts room′) names text few h))
   where
     there : (σ : ℕ → ℕ) (ns : Builtins) (u : List ℕ) → built ns ≤ 64 → {n : ℕ} → length (symbol-rows ns u ts (count ts)) ≤ n → Keeps space space σ (symbol-in ns u ts n)
     there σ ns u f k = record { nodes = omega arith; links = omega arith; words = λ j a. absurd (symbol-there ns u ts l f k j a) }
 
-pub record Same-tree (e : Edition) (names others : Builtins) (text other ts : List ℕ) (limit : ℕ) (space : Space) (room : ℕ) (w : Rows) (ss : List ℕ) : Type 0 where
+pub record Same-tree (p : Profile) (e : Edition) (names others : Builtins) (text other ts : List ℕ) (limit : ℕ) (space : Space) (room : ℕ) (w : Rows) (ss : List ℕ) : Type 0 where
   pub tree : Tree Label
   pub rows : w ≡ written ts (symbol names text ts) tree
   pub symbols : ss ≡ symbol-rows names text ts (count ts)
-  pub comes : Comes e others other ts limit space room (accepted (written ts (symbol others other ts) tree) (symbol-rows others other ts (count ts)))
+  pub comes : Comes p e others other ts limit space room (accepted (written ts (symbol others other ts) tree) (symbol-rows others other ts (count ts)))
 
-pub same-tree : {e : Edition} {names others : Builtins} {text other ts : List ℕ} {limit : ℕ} {space : Space} {room room′ : ℕ} {w : Rows} {ss : List ℕ} → length (symbol-rows others other ts (count ts)) ≤ room′ → Comes e names text ts limit space room (accepted w ss) → Same-tree e names others text other ts limit space room′ w ss
+pub same-tree : {p : Profile} {e : Edition} {names others : Builtins} {text other ts : List ℕ} {limit : ℕ} {space : Space} {room room′ : ℕ} {w : Rows} {ss : List ℕ} → length (symbol-rows others other ts (count ts)) ≤ room′ → Comes p e names text ts limit space room (accepted w ss) → Same-tree p e names others text other ts limit space room′ w ss
 same-tree {names = names} {others} {text} {other} {ts} k (Comes.read {t = t} x h i j) = record { tree = t; rows = refl; symbols = refl; comes = Comes.read x h (enough-written ts (symbol names text ts) (symbol others other ts) t (enough-then ts (symbol names text ts) (symbol names text ts) t i)) k }
 
 -- rows that the tokens before a pay for
@@ -205,14 +206,17 @@ module _ (e : Edition) (ts : List ℕ) (σ : ℕ → ℕ) (space : Space) (kind 
   never (Refuses.no-room-joined x k y l) h i j v = λ c. within (Reads.joined (x .reads) k (y .reads)) h i j v l
   never (Refuses.stopped {e = k}) h i j v = λ c. omega (arith, leb→le 9 k (both (leb 9 k) (leb k 10) i .0))
 
-  script-never : {limit : ℕ} {q : Refused} → Refuses ts σ limit space (kaori e) kind script 0 0 blank q → code-of q ≡ 4 → ⊥
-  unfolding paid proper unparented
-  script-never (Refuses.in-node x) = never x tt tt (omega arith) (omega arith)
-  script-never (Refuses.no-room {b = b} x l) = λ c.
+  form-never : (p : Profile) {limit : ℕ} {q : Refused} → Refuses ts σ limit space (kaori e) kind (form p) 0 0 blank q → code-of q ≡ 4 → ⊥
+  unfolding paid proper unparented above
+  form-never Profile.script (Refuses.in-node x) = never x tt tt (omega arith) (omega arith)
+  form-never Profile.script (Refuses.no-room {b = b} x l) = λ c.
       let r : Script e kind b _ = Reads.labelled (x .reads) in
       let k = reading-ends e kind n last r tt (omega arith) in
       let f = script-room e ts σ r in
       spacious room (omega arith) l
+  form-never Profile.guard (Refuses.in-first x) = never x tt tt (omega arith) (omega arith)
+  form-never Profile.guard (Refuses.in-second x (Refuses.missing k)) = λ c. omega arith
+  form-never Profile.guard (Refuses.in-second x (Refuses.past-token k y)) = absurd (elim y [ ])
 
 -- the rooms have a row for each of n tokens, and the symbol room one for each built-in name, too
 pub record Ample (names : Builtins) (n : ℕ) (space : Space) (room : ℕ) : Type 0 where
@@ -220,29 +224,29 @@ pub record Ample (names : Builtins) (n : ℕ) (space : Space) (room : ℕ) : Typ
   pub links : link-width * n ≤ space .links
   pub symbols : symbol-width * (built names + n) ≤ room
 
-module _ (e : Edition) (names : Builtins) (text ts : List ℕ) {space : Space} {room : ℕ} (l : Whole ts) (h : Ample names (count ts) space room) where
+module _ (p : Profile) (e : Edition) (names : Builtins) (text ts : List ℕ) {space : Space} {room : ℕ} (l : Whole ts) (h : Ample names (count ts) space room) where
   symbols-enough : length (symbol-rows names text ts (count ts)) ≤ room
   symbols-enough = omega (arith, rows-few names text ts (count ts), h .symbols)
 
-  -- a script is never refused by 4 where each room has a row for each token: what was promised before rooms could be small
-  pub ample-never-short : built names ≤ 64 → {limit : ℕ} {q : Refused} → kind ts (count ts - 1) ≡ Eof → Stops e names text ts limit space room q → code-of q ≡ 4 → ⊥
+  -- a list is never refused by 4 where each room has a row for each token: what was promised before rooms could be small
+  pub ample-never-short : built names ≤ 64 → {limit : ℕ} {q : Refused} → kind ts (count ts - 1) ≡ Eof → Stops p e names text ts limit space room q → code-of q ≡ 4 → ⊥
   ample-never-short few last x =
       let some = l .some in
       let same : count ts - 1 + 1 ≡ count ts = omega arith in
-      script-never e ts (symbol-in names text ts room) space (kind ts) (count ts - 1) last (rw same (record { nodes = h .nodes; links = h .links; words = symbol-there names text ts l few symbols-enough })) x
+      form-never e ts (symbol-in names text ts room) space (kind ts) (count ts - 1) last (rw same (record { nodes = h .nodes; links = h .links; words = symbol-there names text ts l few symbols-enough })) p x
 
   -- and has room for the rows
-  pub ample-enough : {t : Tree Label} → Script e (kind ts) (count ts - 1) t → Enough space (written ts (symbol names text ts) t) × (length (symbol-rows names text ts (count ts)) ≤ room)
+  pub ample-enough : {t : Tree Label} → Reads-all p e (kind ts) (count ts) t → Enough space (written ts (symbol names text ts) t) × (length (symbol-rows names text ts (count ts)) ≤ room)
   unfolding unparented
   ample-enough {t} x =
-      let f = script-room e ts (symbol names text ts) x in
+      let f = all-room e ts (symbol names text ts) p (count ts) x (l .some) in
       let a = written-alike ts (symbol names text ts) t in
       (omega (arith, l .some, h .nodes, h .links, f, a), symbols-enough)
 
 -- of a call whose rooms have a row for each token, and each built-in name: what is let in has a code from 8 where it is refused, as before
 pub ample-codes : {c : Call} {a : Answer} {after : Rooms} → Admitted c → Ample (c .names) (count (c .tokens)) (space-of (c .rooms)) (length (c .rooms .symbols)) → Refused-at c a after → 8 ≤ a .code
 ample-codes {c} {a} d h x =
-    let never : a .code ≡ 4 → ⊥ = ample-never-short (edition (c .edition)) (c .names) (c .text) (c .tokens) (d .whole) h (d .named .few) (last-token d) (x .refusal) in
+    let never : a .code ≡ 4 → ⊥ = ample-never-short (c .profile) (edition (c .edition)) (c .names) (c .text) (c .tokens) (d .whole) h (d .named .few) (last-token d) (x .refusal) in
     x .codes .others (omega (arith, never, x .codes .least))
 
 -- rows are written whole: numbers fit exactly where the counts of an answer are no more than the rooms' whole rows, and a number left over in a room is of no use

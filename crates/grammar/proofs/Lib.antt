@@ -28,6 +28,7 @@ pub mod Shapes
 pub mod Pieces
 pub mod Forest
 pub mod Decoding
+pub mod Tops
 pub mod Trees
 pub mod Parents
 pub mod Lengths

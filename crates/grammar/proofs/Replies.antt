@@ -26,18 +26,18 @@ use Rattle.grammar.specs.Rule.{rule}
 use Rattle.grammar.specs.Space.{has-word, space-of}
 use Rattle.grammar.specs.Symbol.{same, seek, look-up, interned, symbol-rows, symbol, symbol-in}
 use Rattle.grammar.specs.Token.{start, end}
-use Rattle.grammar.proofs.Doors.{by-test, carried, also, either, implies, denied, look-through, each, text-is, matched, fitting, parted, sounds, closes, in-parts, in-names, in-identifiers, right-names, in-bytes, in-tokens, in-ends, ask, find, Verdict, inside, turned, verdict}
+use Rattle.grammar.proofs.Doors.{by-test, carried, also, either, implies, denied, look-through, each, text-is, matched, fitting, parted, sounds, closes, in-parts, in-names, in-identifiers, right-names, in-bytes, in-tokens, in-ends, in-profile, ask, find, Verdict, inside, turned, verdict}
 use Rattle.grammar.proofs.Reader.{fit-rows, fit-word, fit, reader}
 use Rattle.grammar.proofs.Samples.{answer, outcome-of, right, coming}
 
 module _ (c : Call) where
   -- what comes of its list
   abbrev came : Option Outcome
-  came = coming (edition (c .edition)) (c .names) (c .text) (c .tokens) (c .limit) (space-of (c .rooms)) (length (c .rooms .symbols))
+  came = coming (c .profile) (edition (c .edition)) (c .names) (c .text) (c .tokens) (c .limit) (space-of (c .rooms)) (length (c .rooms .symbols))
 
-  came-right : (o : Outcome) → came ≡ some o → Comes (edition (c .edition)) (c .names) (c .text) (c .tokens) (c .limit) (space-of (c .rooms)) (length (c .rooms .symbols)) o
+  came-right : (o : Outcome) → came ≡ some o → Comes (c .profile) (edition (c .edition)) (c .names) (c .text) (c .tokens) (c .limit) (space-of (c .rooms)) (length (c .rooms .symbols)) o
   unfolding coming
-  came-right o e = right (edition (c .edition)) (c .names) (c .text) (c .tokens) (c .limit) (space-of (c .rooms)) (length (c .rooms .symbols)) (answer (edition (c .edition)) (c .names) (c .text) (c .tokens) (c .limit) (space-of (c .rooms)) (length (c .rooms .symbols))) e
+  came-right o e = right (c .profile) (edition (c .edition)) (c .names) (c .text) (c .tokens) (c .limit) (space-of (c .rooms)) (length (c .rooms .symbols)) (answer (c .profile) (edition (c .edition)) (c .names) (c .text) (c .tokens) (c .limit) (space-of (c .rooms)) (length (c .rooms .symbols))) e
 
   -- what is answered, of what the door says and what comes of the list
   unfoldable reply : Verdict c → Option Outcome → Option (Answer × Rooms)
@@ -49,7 +49,7 @@ module _ (c : Call) where
   said : {a b : Answer} {r s : Rooms} → Answers c a r → _≡_ {A = Option (Answer × Rooms)} (some (a, r)) (some (b, s)) → Answers c b s
   said {a} {b} {r} {s} x e = let z : _≡_ {A = Answer × Rooms} (a, r) (b, s) = cc in subst (λ (p : Answer × Rooms). Answers c (p .0) (p .1)) z x
 
-  replied : (v : Verdict c) (o : Option Outcome) → ((p : Outcome) → o ≡ some p → Comes (edition (c .edition)) (c .names) (c .text) (c .tokens) (c .limit) (space-of (c .rooms)) (length (c .rooms .symbols)) p) → {a : Answer} {r : Rooms} → reply v o ≡ some (a, r) → Answers c a r
+  replied : (v : Verdict c) (o : Option Outcome) → ((p : Outcome) → o ≡ some p → Comes (c .profile) (edition (c .edition)) (c .names) (c .text) (c .tokens) (c .limit) (space-of (c .rooms)) (length (c .rooms .symbols)) p) → {a : Answer} {r : Rooms} → reply v o ≡ some (a, r) → Answers c a r
   unfolding reply
   replied (turned code at from upto t) o f e = said (Answers.turned-away t) e
   replied (inside d) (some (accepted w ss)) f e = said (Answers.accepted d (f _ refl)) e
@@ -61,5 +61,5 @@ all-answered [] e = tt
 all-answered (r ∷ rs) e = (replied (r .call) (verdict (r .call)) (came (r .call)) (came-right (r .call)) (cc), all-answered rs (cc))
 
 pub replies-right : All-answered replies
-unfolding reply verdict look-through each ask find by-test also either implies denied carried text-is matched fitting parted sounds closes in-parts in-names in-identifiers right-names in-bytes in-tokens in-ends decLe literal spelling edition coming answer outcome-of reader fit fit-word fit-rows has-word kaori rules above matches after nullable ℕ-discrete decLt written parented-below parent named-by naming linked-nodes linked-entries layout unparented walk make put fill write numbers links-of symbol symbol-in symbol-rows interned look-up seek same rule block-list block-tail
+unfolding reply verdict look-through each ask find by-test also either implies denied carried text-is matched fitting parted sounds closes in-parts in-names in-identifiers right-names in-bytes in-tokens in-ends in-profile decLe literal spelling edition coming answer outcome-of reader fit fit-word fit-rows has-word kaori rules above matches after nullable ℕ-discrete decLt written parented-below parent named-by naming linked-nodes linked-entries layout unparented walk make put fill write numbers links-of symbol symbol-in symbol-rows interned look-up seek same rule block-list block-tail
 replies-right = all-answered replies refl

@@ -2,7 +2,7 @@
 use Prim.Native.Nat.{ℕ, zero, suc, _+_, _-_, _*_, _≤_}
 use mathlib.Core.Bool.{Bool, true, false, cond, _&&_}
 use mathlib.Core.List.{List, [], _∷_, tail}
-use mathlib.Core.Path.{_≡_}
+use mathlib.Core.Path.{_≡_, subst}
 use native.Mathlib.Omega.{arith}
 use lib.Dec.{leb, T, leb→le, le→leb}
 use lib.ListN.{length, getD, length-append}
@@ -12,6 +12,7 @@ use Rattle.grammar.specs.Kaori.{Table, Form, above, rules, kaori, Script
 use Rattle.grammar.specs.Label.{Node, Label}
 use Rattle.grammar.specs.Operator.{levels}
 use Rattle.grammar.specs.Phrase.{empty, token, part, nested, node, choice, chain, once, refusal, Tree, more, made, Aim, Reads}
+use Rattle.grammar.specs.Profile.{Profile, Reads-all}
 use Rattle.grammar.specs.Room.{node-width, link-width}
 use Rattle.grammar.specs.Rows.{Rows, blank, Walked, parts, put, make, walk, unparented}
 use Rattle.grammar.specs.Rule.{Row, writes, fields, rule}
@@ -193,10 +194,10 @@ module _ (ts : List ℕ) (symbol : ℕ → ℕ) where
     pub nodes : length (v .nodes) ≤ length (w .nodes) + node-width * (b - a)
     pub links : length (v .links) ≤ length (w .links) + link-width * (b - a)
 
-  -- the rows of a script whose Eof stands at n fit rooms of n + 1 rows
+  -- these rows fit rooms of n rows
   pub record Room (n : ℕ) (w : Rows) : Type 0 where
-    pub nodes : length (w .nodes) ≤ node-width * (n + 1)
-    pub links : length (w .links) ≤ 3 * (n + 1)
+    pub nodes : length (w .nodes) ≤ node-width * n
+    pub links : length (w .links) ≤ link-width * n
 
 module _ (e : Edition) (ts : List ℕ) (symbol : ℕ → ℕ) where
   -- a reading pays for what it writes
@@ -217,6 +218,12 @@ module _ (e : Edition) (ts : List ℕ) (symbol : ℕ → ℕ) where
   pub reading-rows : {kind : ℕ → ℕ} {m : Aim Table Label} {a b : ℕ} {t : Tree Label} → Reads (kaori e) kind m a b t → T (paid (asked m)) → (w : Rows) → Within ts symbol a b w (walk ts symbol t w .rows)
   reading-rows x h w = let (k, i, g) = pays x h .pay w in omega arith
 
-  pub script-room : {kind : ℕ → ℕ} {n : ℕ} {t : Tree Label} → Script e kind n t → Room ts symbol n (unparented ts symbol t)
+  pub script-room : {kind : ℕ → ℕ} {n : ℕ} {t : Tree Label} → Script e kind n t → Room ts symbol (n + 1) (unparented ts symbol t)
   unfolding unparented walk spare paid
   script-room (Reads.labelled {b = b} x) = let (k, i, g) = pays x tt .pay blank in let h = labelled ts symbol Label.Script 0 b g in omega arith
+
+  -- so do the rows of a list of n tokens
+  pub all-room : (p : Profile) (n : ℕ) {kind : ℕ → ℕ} {t : Tree Label} → Reads-all p e kind n t → 1 ≤ n → Room ts symbol n (unparented ts symbol t)
+  unfolding unparented spare paid above
+  all-room Profile.script n {t = t} x h = let same : n - 1 + 1 ≡ n = omega arith in subst (λ m. Room ts symbol m (unparented ts symbol t)) same (script-room x)
+  all-room Profile.guard n x h = let r = reading-rows x tt blank in omega (arith, r .nodes, r .links)

@@ -17,11 +17,12 @@ use Rattle.grammar.specs.Kaori.{Table, Form, above, rules, kaori, Script
 use Rattle.grammar.specs.Kind.{StringLiteral, Identifier, Eof}
 use Rattle.grammar.specs.Label.{Label}
 use Rattle.grammar.specs.Phrase.{empty, token, part, nested, node, choice, chain, once, refusal, Tree, none, Aim, whole, Reads}
+use Rattle.grammar.specs.Profile.{Profile, Reads-all}
 use Rattle.grammar.specs.Space.{has-word, Worded, Named}
 use Rattle.grammar.specs.Symbol.{is-name, symbol-rows, symbol-in}
 use Rattle.grammar.specs.Token.{kind, count}
 use Rattle.grammar.proofs.Machine.{asked}
-use Rattle.grammar.proofs.Outcomes.{ends-at-eof}
+use Rattle.grammar.proofs.Outcomes.{all-at-eof}
 use Rattle.grammar.proofs.Symbols.{built-length, has-row, rows-same}
 use Rattle.grammar.proofs.Tables.{each, in-tables}
 use Rattle.grammar.proofs.Tests.{both, as-true}
@@ -193,10 +194,14 @@ module _ (names : Builtins) (text ts : List ℕ) (room : ℕ) where
       pick true e k = h n (omega arith) e
       pick false e k = rw (rows-same names text ts n e) k
 
--- so a script whose nodes have their symbols has room for all rows of the list, if it has it for the built-in ones
-pub words-fit : (e : Edition) (names : Builtins) (text ts : List ℕ) (room : ℕ) → Right-symbols names room → {t : Tree Label} → Script e (kind ts) (count ts - 1) t → Named (symbol-in names text ts room) t → length (symbol-rows names text ts (count ts)) ≤ room
-unfolding spoken has-word
-words-fit e names text ts room r x w = rows-fit names text ts room r (count ts) (λ i h n. elim (decLt i (count ts - 1)) [
-  | yes k ↦ has-row names text ts room i (told e x tt w .there i (omega arith) k n) n
-  | no k ↦ absurd (let z : i ≡ count ts - 1 = omega arith in let y : a-name Eof ≡ true = rw (z, ends-at-eof e x) at n in let o : _≡_ {A = ℕ} 0 1 = cc in omega arith)
+-- so what is read, where its nodes have their symbols, has room for all rows of the list, if it has it for the built-in ones
+pub words-fit : (p : Profile) (e : Edition) (names : Builtins) (text ts : List ℕ) (room : ℕ) → Right-symbols names room → {t : Tree Label} → Reads-all p e (kind ts) (count ts) t → Named (symbol-in names text ts room) t → length (symbol-rows names text ts (count ts)) ≤ room
+unfolding spoken has-word above
+words-fit p e names text ts room r x w = rows-fit names text ts room r (count ts) (λ i h n. elim (decLt i (count ts - 1)) [
+  | yes k ↦ has-row names text ts room i (all-told p x w .there i (omega arith) k n) n
+  | no k ↦ absurd (let z : i ≡ count ts - 1 = omega arith in let y : a-name Eof ≡ true = rw (z, all-at-eof p e (count ts) x) at n in let o : _≡_ {A = ℕ} 0 1 = cc in omega arith)
 ])
+  where
+    all-told : (p : Profile) {t : Tree Label} → Reads-all p e (kind ts) (count ts) t → Named (symbol-in names text ts room) t → Told (kind ts) (symbol-in names text ts room) 0 (count ts - 1)
+    all-told Profile.script x w = told e x tt w
+    all-told Profile.guard x w = record { there = λ i l h. told e x tt w .there i l (omega arith) }

@@ -8,6 +8,7 @@ pub mod Pattern
 pub mod Lexeme
 pub mod Phrase
 pub mod Kaori
+pub mod Profile
 pub mod Room
 pub mod Handle
 pub mod Table

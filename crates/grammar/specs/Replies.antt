@@ -7,6 +7,7 @@ use Rattle.grammar.specs.Answer.{Answer, Answers}
 use Rattle.grammar.specs.Builtin.{Builtins, none}
 use Rattle.grammar.specs.Call.{Call}
 use Rattle.grammar.specs.Pattern.{bytes}
+use Rattle.grammar.specs.Profile.{Profile}
 use Rattle.grammar.specs.Room.{Rooms}
 use Rattle.grammar.specs.Samples.{row}
 
@@ -22,9 +23,12 @@ rooms ns ls ss xs = record { nodes = ns; links = ls; symbols = ss; scratch = xs 
 abbrev pub numbers : (code nodes links symbols at start end expected : ℕ) → Answer
 numbers code ns ls ss at s e expected = record { code = code; nodes = ns; links = ls; symbols = ss; at = at; start = s; end = e; expected = expected }
 
--- in an edition; in edition 1; and there beside no built-in names
+-- of a profile in an edition; of a script there; in edition 1; and there beside no built-in names
+abbrev pub asked : Profile → (edition : ℕ) (names : Builtins) (text : List ℕ) (limit : ℕ) (tokens : List ℕ) (before : Rooms) (answer : Answer) (after : Rooms) → Reply
+asked p n names text limit ts before a after = record { call = record { profile = p; names = names; text = text; tokens = ts; edition = n; limit = limit; rooms = before }; answer = a; after = after }
+
 abbrev pub in-edition : (edition : ℕ) (names : Builtins) (text : List ℕ) (limit : ℕ) (tokens : List ℕ) (before : Rooms) (answer : Answer) (after : Rooms) → Reply
-in-edition n names text limit ts before a after = record { call = record { names = names; text = text; tokens = ts; edition = n; limit = limit; rooms = before }; answer = a; after = after }
+in-edition = asked Profile.script
 
 abbrev pub beside : (names : Builtins) (text : List ℕ) (limit : ℕ) (tokens : List ℕ) (before : Rooms) (answer : Answer) (after : Rooms) → Reply
 beside = in-edition 1
