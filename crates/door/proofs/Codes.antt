@@ -11,12 +11,13 @@ use lib.ListN.{length, getD, replicate, length-replicate}
 use Rattle.grammar.specs.Answer.{Answer, refuse, Answers}
 use Rattle.grammar.specs.Builtin.{Builtins, Right-names}
 use Rattle.grammar.specs.Call.{Call}
-use Rattle.grammar.specs.Door.{Right-symbols, Ascii, Sound, Closed, Admitted, Wrong}
+use Rattle.grammar.specs.Door.{Right-symbols, Ascii, Sound, Closed, Inside, Admitted, Wrong}
+use Rattle.grammar.specs.Profile.{Profile}
 use Rattle.grammar.specs.Room.{Rooms}
 use Rattle.grammar.specs.Token.{count}
 use Rattle.grammar.proofs.Answers.{one-first as one-place, one-turn, lent-admitted, admitted-not-wrong}
 use Rattle.grammar.proofs.Demands.{turned-code}
-use Rattle.door.specs.Entry.{Searched, Highest, Asks-lengths, lengths-code, Lengths-checked, Admits-code, List-checked, entry-numbers, Enters, Told, Entered}
+use Rattle.door.specs.Entry.{Searched, Highest, Asks-lengths, lengths-code, Lengths-checked, Admits-code, at-token, Profile-checked, List-checked, entry-numbers, Enters, Told, Entered}
 use Rattle.door.specs.declared.Entry.{Entry}
 use Rattle.door.specs.declared.Refusal.{Refusal}
 use Rattle.door.proofs.Searching.{Passed, passed-more, first-of}
@@ -32,10 +33,11 @@ Asks c k =
     (cond (eqb k 8) (Ascii (c .text))
     (cond (eqb k 9) ((i : ℕ) → i < count (c .tokens) → Sound (c .text) (c .tokens) i)
     (cond (eqb k 10) ((i : ℕ) → i < count (c .tokens) → Closed (c .tokens) i)
-    (Asks-lengths (length (c .tokens)) (length (c .text)) (c .edition) (c .limit) (length (c .rooms .scratch)) k)))))
+    (cond (eqb k 11) ((i : ℕ) → i < count (c .tokens) → Inside (c .profile) (c .tokens) i)
+    (Asks-lengths (length (c .tokens)) (length (c .text)) (c .edition) (c .limit) (length (c .rooms .scratch)) k))))))
 
 -- where the checks before turn n found nothing, none whose turn is before it finds anything wrong
-pub from : {c : Call} {n : ℕ} → Passed (Asks c) 11 n → {t k a s e : ℕ} → Wrong c t k a s e → n ≤ t
+pub from : {c : Call} {n : ℕ} → Passed (Asks c) 12 n → {t k a s e : ℕ} → Wrong c t k a s e → n ≤ t
 from {n = n} r (Wrong.list x) = not-over n 1 (λ h. x (r .before 1 h))
 from {n = n} r (Wrong.text x) = not-over n 2 (λ h. let z = r .before 2 h in omega arith)
 from {n = n} r (Wrong.no-depth x) = not-over n 3 (λ h. let z = r .before 3 h in omega arith)
@@ -47,8 +49,9 @@ from {n = n} r (Wrong.names-room x) = not-over n 7 (λ h. let z = r .before 7 h 
 from {n = n} r (Wrong.byte {i = i} x) = not-over n 8 (λ h. x .lacks (r .before 8 h i (x .place)))
 from {n = n} r (Wrong.token {i = i} x) = not-over n 9 (λ h. x .lacks (r .before 9 h i (x .place)))
 from {n = n} r (Wrong.eof {i = i} x) = not-over n 10 (λ h. x .lacks (r .before 10 h i (x .place)))
+from {n = n} r (Wrong.outside {i = i} x) = not-over n 11 (λ h. x .lacks (r .before 11 h i (x .place)))
 
-pub turned : {c : Call} {n k a s e : ℕ} → Wrong c n k a s e → Passed (Asks c) 11 n → Enters c (refuse k a s e 255)
+pub turned : {c : Call} {n k a s e : ℕ} → Wrong c n k a s e → Passed (Asks c) 12 n → Enters c (refuse k a s e 255)
 turned {n = n} w r = Enters.turned (record { turn = n; wrong = w; first = from r })
 
 -- only where nothing is asked is the code 0
@@ -95,9 +98,9 @@ module _ {names : Builtins} {list text edition limit symbols scratch : ℕ} wher
   one-admit (Admits-code.right x r f) (Admits-code.right y q g) = refl
 
 -- a call with these names, lists and rooms
-module _ (names : Builtins) (text ts : List ℕ) (edition limit : ℕ) (rooms : Rooms) where
+module _ (p : Profile) (names : Builtins) (text ts : List ℕ) (edition limit : ℕ) (rooms : Rooms) where
   abbrev pub call : Call
-  call = record { names = names; text = text; tokens = ts; edition = edition; limit = limit; rooms = rooms }
+  call = record { profile = p; names = names; text = text; tokens = ts; edition = edition; limit = limit; rooms = rooms }
 
   abbrev asked : ℕ → Type 0
   asked = Asks-lengths (length ts) (length text) edition limit (length (rooms .scratch))
@@ -106,7 +109,7 @@ module _ (names : Builtins) (text ts : List ℕ) (edition limit : ℕ) (rooms : 
   Code = Admits-code names (length ts) (length text) edition limit (length (rooms .symbols)) (length (rooms .scratch))
 
   of-lengths : (k : ℕ) → k < 6 → asked k → Asks call k
-  of-lengths k h a = rw (ne-eqb k 6 (λ e. omega arith), ne-eqb k 7 (λ e. omega arith), ne-eqb k 8 (λ e. omega arith), ne-eqb k 9 (λ e. omega arith), ne-eqb k 10 (λ e. omega arith)) a
+  of-lengths k h a = rw (ne-eqb k 6 (λ e. omega arith), ne-eqb k 7 (λ e. omega arith), ne-eqb k 8 (λ e. omega arith), ne-eqb k 9 (λ e. omega arith), ne-eqb k 10 (λ e. omega arith), ne-eqb k 11 (λ e. omega arith)) a
 
   wrong-lengths : (k : ℕ) → k < 6 → (asked k → ⊥) → Wrong call k (lengths-code k) 0 0 0
   wrong-lengths zero h f = absurd (f tt)
@@ -122,7 +125,7 @@ module _ (names : Builtins) (text ts : List ℕ) (edition limit : ℕ) (rooms : 
   measured (Lengths-checked.wrong {turn = t} f e) n = rw e (turned (wrong-lengths t (f .place) (f .lacks)) (record { most = omega (arith, f .place); before = λ j h. of-lengths j (omega (arith, f .place)) (f .before j h) }))
   measured (Lengths-checked.right f) n = absurd (n refl)
 
-  measures : Lengths-checked (length ts) (length text) edition limit (length (rooms .scratch)) 0 → Passed (Asks call) 11 6
+  measures : Lengths-checked (length ts) (length text) edition limit (length (rooms .scratch)) 0 → Passed (Asks call) 12 6
   measures x = record { most = omega arith; before = λ j h. of-lengths j h (right-lengths x j h) }
 
   -- and those of the built-in names
@@ -132,19 +135,20 @@ module _ (names : Builtins) (text ts : List ℕ) (edition limit : ℕ) (rooms : 
   unadmitted (Admits-code.names-room x r f) m = turned (Wrong.names-room f) (passed-more (measures x) (omega arith) r)
   unadmitted (Admits-code.right x r f) m = absurd (m refl)
 
-  pub admits : {k : ℕ} → Code k → k ≡ 0 → Passed (Asks call) 11 8
+  pub admits : {k : ℕ} → Code k → k ≡ 0 → Passed (Asks call) 12 8
   admits (Admits-code.lengths x n) e = absurd (n e)
   admits (Admits-code.names x w) e = absurd (omega arith)
   admits (Admits-code.names-room x r f) e = absurd (omega arith)
   admits (Admits-code.right x r f) e = passed-more (passed-more (measures x) (omega arith) r) (omega arith) f
 
-  -- checks 6 and 7
-  pub listing : {r : Entry} → Passed (Asks call) 11 9 → List-checked text ts r → Enters call (entry-numbers r)
+  -- checks 6, 7 and 17
+  pub listing : {r : Entry} → Passed (Asks call) 12 9 → List-checked p text ts r → Enters call (entry-numbers r)
   listing m (List-checked.unsound f) = turned (Wrong.token f) m
   listing m (List-checked.unclosed s f) = turned (Wrong.eof f) (passed-more m (omega arith) s)
-  listing m (List-checked.let-in l) =
+  listing m (List-checked.lent l (Profile-checked.outside f)) = turned (Wrong.outside f) (passed-more (passed-more m (omega arith) (l .sound)) (omega arith) (l .closed))
+  listing m (List-checked.lent l (Profile-checked.inside g)) =
       let (d, e) = m .before 3 (omega arith) in
-      Enters.let-in (lent-admitted l (m .before 2 (omega arith)) d e (m .before 4 (omega arith)) (m .before 5 (omega arith)) (m .before 6 (omega arith)) (m .before 7 (omega arith)))
+      Enters.let-in (lent-admitted l (m .before 2 (omega arith)) d e (m .before 4 (omega arith)) (m .before 5 (omega arith)) (m .before 6 (omega arith)) (m .before 7 (omega arith)) g)
 
 -- what is asked of the list and the text where nothing is wrong so far
 pub right-so-far : {names : Builtins} {list text edition limit symbols scratch k : ℕ} → Admits-code names list text edition limit symbols scratch k → k ≡ 0 → (j : ℕ) → j < 6 → Asks-lengths list text edition limit scratch j
@@ -162,10 +166,11 @@ found-high {text} {r} {i} x h f =
     let (j, l, e) = x .there (omega arith) in
     elim (decLt i (length text)) [ yes z ↦ z | no z ↦ absurd (omega (arith, f .before j (omega arith))) ]
 
-listed-told : {text ts : List ℕ} {r : Entry} → List-checked text ts r → Told r
+listed-told : {p : Profile} {text ts : List ℕ} {r : Entry} → List-checked p text ts r → Told r
 listed-told (List-checked.unsound f) = omega arith
 listed-told (List-checked.unclosed s f) = omega arith
-listed-told (List-checked.let-in l) = tt
+listed-told (List-checked.lent l (Profile-checked.outside f)) = omega arith
+listed-told (List-checked.lent l (Profile-checked.inside g)) = tt
 
 -- what is turned away is not let in
 abbrev is-refused : Entry → ℕ
@@ -176,15 +181,15 @@ pub not-open : {q : Refusal} → Entry.Refused q ≡ Entry.Open → ⊥
 not-open e = omega (arith, ap is-refused e)
 
 -- the answers, for rooms of any content
-module _ {names : Builtins} {text ts : List ℕ} {edition limit symbols scratch k : ℕ} (m : Admits-code names (length ts) (length text) edition limit symbols scratch k) where
-  pub by-code : (k ≡ 0 → ⊥) → Entered names text ts edition limit symbols scratch (Entry.Refused (record { code = k; at = 0; start = 0; end = 0 }))
-  by-code n = record { told = omega arith; says = λ rooms e f. unadmitted names text ts edition limit rooms (rw (e, f) m) n }
+module _ {p : Profile} {names : Builtins} {text ts : List ℕ} {edition limit symbols scratch k : ℕ} (m : Admits-code names (length ts) (length text) edition limit symbols scratch k) where
+  pub by-code : (k ≡ 0 → ⊥) → Entered p names text ts edition limit symbols scratch (Entry.Refused (record { code = k; at = 0; start = 0; end = 0 }))
+  by-code n = record { told = omega arith; says = λ rooms e f. unadmitted p names text ts edition limit rooms (rw (e, f) m) n }
 
-  pub by-byte : {r i : ℕ} → k ≡ 0 → Highest text (length text) r → 127 < r → Searched (λ j. getD text j 0 ≤ 127) (length text) i → Entered names text ts edition limit symbols scratch (Entry.Refused (record { code = 5; at = 0; start = i; end = i + 1 }))
-  by-byte z x h g = record { told = omega arith; says = λ rooms e f. turned (Wrong.byte (first-of (found-high x h g) g)) (admits names text ts edition limit rooms (rw (e, f) m) z) }
+  pub by-byte : {r i : ℕ} → k ≡ 0 → Highest text (length text) r → 127 < r → Searched (λ j. getD text j 0 ≤ 127) (length text) i → Entered p names text ts edition limit symbols scratch (Entry.Refused (record { code = 5; at = 0; start = i; end = i + 1 }))
+  by-byte z x h g = record { told = omega arith; says = λ rooms e f. turned (Wrong.byte (first-of (found-high x h g) g)) (admits p names text ts edition limit rooms (rw (e, f) m) z) }
 
-  pub by-list : {q : Entry} → k ≡ 0 → Ascii text → List-checked text ts q → Entered names text ts edition limit symbols scratch q
-  by-list z h l = record { told = listed-told l; says = λ rooms e f. listing names text ts edition limit rooms (passed-more (admits names text ts edition limit rooms (rw (e, f) m) z) (omega arith) h) l }
+  pub by-list : {q : Entry} → k ≡ 0 → Ascii text → List-checked p text ts q → Entered p names text ts edition limit symbols scratch q
+  by-list z h l = record { told = listed-told l; says = λ rooms e f. listing p names text ts edition limit rooms (passed-more (admits p names text ts edition limit rooms (rw (e, f) m) z) (omega arith) h) l }
 
 -- what the numbers of an entry say
 module _ {c : Call} where
@@ -209,12 +214,19 @@ same-entry (Entry.Refused p) Entry.Open t u e = absurd (omega (arith, ap (λ a. 
 same-entry (Entry.Refused p) (Entry.Refused q) t u e = λ i. Entry.Refused (record { code = e i .code; at = e i .at; start = e i .start; end = e i .end })
 
 -- two outcomes of `check` are equal
-pub one-entry : {names : Builtins} {text ts : List ℕ} {edition limit symbols scratch : ℕ} {r s : Entry} → Entered names text ts edition limit symbols scratch r → Entered names text ts edition limit symbols scratch s → r ≡ s
+pub one-entry : {p : Profile} {names : Builtins} {text ts : List ℕ} {edition limit symbols scratch : ℕ} {r s : Entry} → Entered p names text ts edition limit symbols scratch r → Entered p names text ts edition limit symbols scratch s → r ≡ s
 one-entry {symbols = m} {scratch = n} {r = r} {s = s} x y =
     let rooms : Rooms = record { nodes = []; links = []; symbols = replicate m 0; scratch = replicate n 0 } in
     let e : length (rooms .symbols) ≡ m = length-replicate m 0 in
     let f : length (rooms .scratch) ≡ n = length-replicate n 0 in
     same-entry r s (x .told) (y .told) (one-numbers (x .says rooms e f) (y .says rooms e f))
+
+-- two outcomes of `within` are equal
+pub one-within : {p : Profile} {ts : List ℕ} {r s : Entry} → Profile-checked p ts r → Profile-checked p ts s → r ≡ s
+one-within {ts = ts} (Profile-checked.outside x) (Profile-checked.outside y) = ap (at-token 17 ts) (one-place _ _ x y)
+one-within (Profile-checked.outside x) (Profile-checked.inside g) = absurd (x .lacks (g _ (x .place)))
+one-within (Profile-checked.inside f) (Profile-checked.outside y) = absurd (y .lacks (f _ (y .place)))
+one-within (Profile-checked.inside f) (Profile-checked.inside g) = refl
 
 -- two outcomes of `highest` are equal
 module _ {text : List ℕ} {n : ℕ} where

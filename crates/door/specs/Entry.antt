@@ -1,4 +1,4 @@
--- What the door answers, in terms of the grammar's Door.antt. Document 01, Refusal numbers, in order of checking; document 02, L14: '21, after 3'.
+-- What the door answers, in terms of the grammar's Door.antt. Document 01, Refusal numbers, in order of checking; document 02, L14: '21, after 3'; L9: '17, after 7'.
 use Prim.Native.Nat.{ℕ, _*_, _/_, _≤_, _<_}
 use mathlib.Core.Bool.{cond}
 use mathlib.Core.List.{List}
@@ -9,7 +9,8 @@ use Rattle.builtins.specs.Known.{Known}
 use Rattle.grammar.specs.Answer.{Answer, refuse}
 use Rattle.grammar.specs.Builtin.{Builtins, built, Right-names}
 use Rattle.grammar.specs.Call.{Call}
-use Rattle.grammar.specs.Door.{Right-list, Right-scratch, Right-symbols, Right-edition, Sound, Closed, Lent, Admitted, First-without, Turned-away}
+use Rattle.grammar.specs.Door.{Right-list, Right-scratch, Right-symbols, Right-edition, Sound, Closed, Inside, Lent, Admitted, First-without, Turned-away}
+use Rattle.grammar.specs.Profile.{Profile}
 use Rattle.grammar.specs.Room.{Rooms, symbol-width}
 use Rattle.grammar.specs.Token.{count, start, end}
 use Rattle.door.specs.declared.Entry.{Entry}
@@ -56,11 +57,20 @@ pub record Admits (names : Builtins) (list text edition limit symbols scratch : 
   pub code : Admits-code names list text edition limit symbols scratch r
   pub known : r ≡ 0 → Known names index
 
--- checks 6 and 7: the first token that is not sound, or then the first that is not closed, or all that is asked of text and list
-pub data List-checked (text ts : List ℕ) : Entry → Type 0 where
-  unsound : {i : ℕ} → First-without (Sound text ts) (count ts) i → List-checked text ts (Entry.Refused (record { code = 6; at = i; start = start ts i; end = end ts i }))
-  unclosed : {i : ℕ} → ((j : ℕ) → j < count ts → Sound text ts j) → First-without (Closed ts) (count ts) i → List-checked text ts (Entry.Refused (record { code = 7; at = i; start = start ts i; end = end ts i }))
-  let-in : Lent text ts → List-checked text ts Entry.Open
+-- a refusal at token i
+abbrev pub at-token : (code : ℕ) (ts : List ℕ) → ℕ → Entry
+at-token code ts i = Entry.Refused (record { code = code; at = i; start = start ts i; end = end ts i })
+
+-- check 17: the first token outside the profile, or none is
+pub data Profile-checked (p : Profile) (ts : List ℕ) : Entry → Type 0 where
+  outside : {i : ℕ} → First-without (Inside p ts) (count ts) i → Profile-checked p ts (at-token 17 ts i)
+  inside : ((i : ℕ) → i < count ts → Inside p ts i) → Profile-checked p ts Entry.Open
+
+-- checks 6, 7 and 17: the first token that is not sound, or then the first that is not closed, or all that is asked of text and list, and then of the profile
+pub data List-checked (p : Profile) (text ts : List ℕ) : Entry → Type 0 where
+  unsound : {i : ℕ} → First-without (Sound text ts) (count ts) i → List-checked p text ts (at-token 6 ts i)
+  unclosed : {i : ℕ} → ((j : ℕ) → j < count ts → Sound text ts j) → First-without (Closed ts) (count ts) i → List-checked p text ts (at-token 7 ts i)
+  lent : {r : Entry} → Lent text ts → Profile-checked p ts r → List-checked p text ts r
 
 -- the eight numbers of each case
 abbrev pub entry-numbers : Entry → Answer
@@ -77,12 +87,12 @@ abbrev pub Told : Entry → Type 0
 Told Entry.Open = Unit {0}
 Told (Entry.Refused q) = 1 ≤ q .code
 
--- a call with these names, this text, list, edition and limit, and with symbol and scratch rooms of these lengths, enters so
-pub record Entered (names : Builtins) (text ts : List ℕ) (edition limit symbols scratch : ℕ) (r : Entry) : Type 0 where
+-- a call of this profile with these names, this text, list, edition and limit, and with symbol and scratch rooms of these lengths, enters so
+pub record Entered (p : Profile) (names : Builtins) (text ts : List ℕ) (edition limit symbols scratch : ℕ) (r : Entry) : Type 0 where
   pub told : Told r
-  pub says : (rooms : Rooms) → length (rooms .symbols) ≡ symbols → length (rooms .scratch) ≡ scratch → Enters (record { names = names; text = text; tokens = ts; edition = edition; limit = limit; rooms = rooms }) (entry-numbers r)
+  pub says : (rooms : Rooms) → length (rooms .symbols) ≡ symbols → length (rooms .scratch) ≡ scratch → Enters (record { profile = p; names = names; text = text; tokens = ts; edition = edition; limit = limit; rooms = rooms }) (entry-numbers r)
 
 -- and the names have their index, where it is let in
-pub record Checked (names : Builtins) (text ts : List ℕ) (edition limit symbols scratch : ℕ) (index : List ℕ) (r : Entry) : Type 0 where
-  pub entered : Entered names text ts edition limit symbols scratch r
+pub record Checked (p : Profile) (names : Builtins) (text ts : List ℕ) (edition limit symbols scratch : ℕ) (index : List ℕ) (r : Entry) : Type 0 where
+  pub entered : Entered p names text ts edition limit symbols scratch r
   pub known : r ≡ Entry.Open → Known names index

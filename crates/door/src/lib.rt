@@ -1,5 +1,5 @@
-// The door: checks 1 to 7 of document 01, in order, and those of the built-in names and of the edition (document 02, L10 and L14) among them. Of the rooms it asks for
-// scratch, and for the built-in rows in the symbol room: whether a script's rows fit is met in reading.
+// The door: checks 1 to 7 of document 01, in order, those of the built-in names and of the edition (document 02, L10 and L14) among them, and then that of the profile (L9).
+// Of the rooms it asks for scratch, and for the built-in rows in the symbol room: whether other rows fit is met in reading.
 pub mod wrong;
 
 use builtins::NAME_WIDTH;
@@ -11,16 +11,20 @@ use token::kinds;
 use token::list::end_at;
 use token::list::kind_at;
 use token::list::start_at;
+use token::profiles::Profile;
+ghost use mathlib.Core.Bool.{not};
 ghost use mathlib.Core.Path.{_≡_};
 ghost use Prim.Native.Nat.{_/_, _≤_, _<_};
 ghost use lib.ListN.{length, getD};
 ghost use Rattle.builtins.specs.Known.{blank-index};
 ghost use Rattle.grammar.specs.Builtin.{builtins as names-in};
-ghost use Rattle.grammar.specs.Door.{Whole, Ascii, Sound, Closed};
+ghost use Rattle.grammar.specs.Door.{Whole, Ascii, Sound, Closed, Inside};
+ghost use Rattle.grammar.specs.Profile.{allowed, guard as a-guard};
 ghost use Rattle.grammar.specs.Token.{count};
 ghost use Rattle.spelling.specs.Decides.{Decides};
 ghost use Rattle.spelling.specs.Words.{table};
-ghost use Rattle.door.specs.Entry.{Searched, Highest, Lengths-checked, Admits, List-checked, Checked};
+ghost use Rattle.token.specs.Profiled.{profiled};
+ghost use Rattle.door.specs.Entry.{Searched, Highest, Lengths-checked, Admits, Profile-checked, List-checked, Checked};
 
 // Numbers a token in the list, and in scratch.
 const TOKEN_WIDTH: usize = 3;
@@ -210,10 +214,61 @@ fn first_unclosed(tokens: &[u32]) -> usize
     count
 }
 
-// Checks 6 and 7, of what checks 1 and 5 let through.
-fn listed(text: &[u8], tokens: &[u32]) -> Entry
+// Whether no guard has a token of this kind.
+fn outside(kind: u32) -> bool
+    ensures { λ r. ⌜ allowed a-guard kind ≡ not r ⌝ }
+{
+    match kind {
+        kinds::LEFT_BRACE => true,
+        kinds::IF => true,
+        kinds::PIPE => true,
+        kinds::HASH => true,
+        _ => false,
+    }
+}
+
+// The first token that no guard has, or the count.
+fn first_outside(tokens: &[u32]) -> usize
+    ensures { λ r. ⌜ Searched (Inside a-guard (now (tokens .entry))) (count (now (tokens .entry))) r ⌝ }
+{
+    let count = tokens.len() / TOKEN_WIDTH;
+    let mut i = 0;
+    while i < count {
+        if outside(kind_at(tokens, i)) {
+            return i;
+        }
+        i += 1;
+    }
+    i
+}
+
+// Check 17, of a list that the checks before it let through: it asks for what check 1 does. It is public for crate syntax.
+// Ruled out: 17 at a later token; a script turned away for a `{`.
+pub fn within(tokens: &[u32], profile: Profile) -> Entry
+    requires { ⌜ Whole (now tokens) ⌝ }
+    ensures { λ r. ⌜ Profile-checked (profiled profile) (now (tokens .entry)) r ⌝ }
+{
+    match profile {
+        Profile::Script => Entry::Open,
+        Profile::Guard => {
+            let out = first_outside(tokens);
+            if tokens.len() / TOKEN_WIDTH <= out {
+                return Entry::Open;
+            }
+            Entry::Refused(Refusal {
+                code: wrong::OUTSIDE,
+                at: out as u32,
+                start: start_at(tokens, out),
+                end: end_at(tokens, out),
+            })
+        }
+    }
+}
+
+// Checks 6, 7 and 17, of what checks 1 and 5 let through.
+fn listed(text: &[u8], tokens: &[u32], profile: Profile) -> Entry
     requires { ⌜ Whole (now tokens) × Ascii (now text) ⌝ }
-    ensures { λ r. ⌜ List-checked (now (text .entry)) (now (tokens .entry)) r ⌝ }
+    ensures { λ r. ⌜ List-checked (profiled profile) (now (text .entry)) (now (tokens .entry)) r ⌝ }
 {
     let count = tokens.len() / TOKEN_WIDTH;
     let bad = first_unsound(text, tokens);
@@ -234,7 +289,7 @@ fn listed(text: &[u8], tokens: &[u32]) -> Entry
             end: end_at(tokens, open),
         });
     }
-    Entry::Open
+    within(tokens, profile)
 }
 
 // Lets a call in, or turns it away: of the rooms only the lengths of symbols and scratch matter. Where it is let in, `index` is the built-in names' own. It asks for an
@@ -246,13 +301,14 @@ pub fn check(
     index: &mut [u32],
     text: &[u8],
     tokens: &[u32],
+    profile: Profile,
     edition: u32,
     limit: u32,
     symbols: usize,
     scratch: usize,
 ) -> Entry
     requires { ⌜ now index ≡ blank-index ⌝ }
-    ensures { λ r. ⌜ Checked (names-in (now (names .entry)) (now (rows .entry))) (now (text .entry)) (now (tokens .entry)) edition limit symbols scratch (now (index .exit)) r ⌝ }
+    ensures { λ r. ⌜ Checked (profiled profile) (names-in (now (names .entry)) (now (rows .entry))) (now (text .entry)) (now (tokens .entry)) edition limit symbols scratch (now (index .exit)) r ⌝ }
 {
     let code = admit(
         names,
@@ -282,5 +338,5 @@ pub fn check(
             end: (high + 1) as u32,
         });
     }
-    listed(text, tokens)
+    listed(text, tokens, profile)
 }

@@ -18,3 +18,5 @@ pub const BYTE: u32 = 5;
 pub const TOKEN: u32 = 6;
 
 pub const EOF: u32 = 7;
+
+pub const OUTSIDE: u32 = 17;

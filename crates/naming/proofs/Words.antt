@@ -17,6 +17,7 @@ use Rattle.grammar.specs.Call.{Call}
 use Rattle.grammar.specs.Door.{Admitted, Sound}
 use Rattle.grammar.specs.Edition.{Edition, edition}
 use Rattle.grammar.specs.Outcome.{accepted, Comes}
+use Rattle.grammar.specs.Profile.{Profile}
 use Rattle.grammar.specs.Rows.{Rows}
 use Rattle.grammar.specs.Space.{Space, space-of}
 use Rattle.grammar.specs.Symbol.{look-up, interned, is-name, word-start, word-end, symbol-rows, symbol}
@@ -76,10 +77,10 @@ now-chosen built symbol names text = either (ltb symbol built)
     either false = refl
 
 -- the rows that are answered
-rows-are : {e : Edition} {names : Builtins} {text ts : List ℕ} {limit room : ℕ} {space : Space} {w : Rows} {ss : List ℕ} → Comes e names text ts limit space room (accepted w ss) → ss ≡ symbol-rows names text ts (count ts)
+rows-are : {p : Profile} {e : Edition} {names : Builtins} {text ts : List ℕ} {limit room : ℕ} {space : Space} {w : Rows} {ss : List ℕ} → Comes p e names text ts limit space room (accepted w ss) → ss ≡ symbol-rows names text ts (count ts)
 rows-are (Comes.read x h i j) = refl
 
-module _ {c : Call} {w : Rows} {ss : List ℕ} (d : Admitted c) (o : Comes (edition (c .edition)) (c .names) (c .text) (c .tokens) (c .limit) (space-of (c .rooms)) (length (c .rooms .symbols)) (accepted w ss)) where
+module _ {c : Call} {w : Rows} {ss : List ℕ} (d : Admitted c) (o : Comes (c .profile) (edition (c .edition)) (c .names) (c .text) (c .tokens) (c .limit) (space-of (c .rooms)) (length (c .rooms .symbols)) (accepted w ss)) where
   -- what the call leaves in the symbol room, and how many symbols it answers
   abbrev symbols : List ℕ
   symbols = rooms-filled w ss (c .rooms) .symbols

@@ -475,8 +475,9 @@ fn bind(
     made(node, end)
 }
 
-// An expression is one opening deeper.
-fn expression(
+// An expression is one opening deeper. It asks for what a statement does, and is public for crate syntax: a guard is an expression.
+// Ruled out: an expression that ends before an operator; one that the depth does not count.
+pub fn expression(
     tokens: &[u32],
     nodes: &mut [u32],
     links: &mut [u32],

@@ -1,2 +1,5 @@
+pub mod Finishing
 pub mod Scripts
+pub mod Guards
+pub mod Calls
 pub mod Promises

@@ -7,6 +7,7 @@ use Rattle.grammar.specs.Answer.{Answer, Answers}
 use Rattle.grammar.specs.Builtin.{none}
 use Rattle.grammar.specs.Call.{Call}
 use Rattle.grammar.specs.Pattern.{bytes}
+use Rattle.grammar.specs.Profile.{Profile}
 use Rattle.grammar.specs.Room.{Rooms, node-width, link-width, symbol-width, scratch-width}
 use Rattle.spelling.specs.Display.{Put}
 use Rattle.wire.specs.Input.{Input-holds, Broken}
@@ -22,7 +23,7 @@ blank-rooms = record {
 }
 
 abbrev pub call : (text ts : List ℕ) → Call
-call text ts = record { names = none; text = text; tokens = ts; edition = 1; limit = 64; rooms = blank-rooms }
+call text ts = record { profile = Profile.script; names = none; text = text; tokens = ts; edition = 1; limit = 64; rooms = blank-rooms }
 
 -- for an input this may be printed: one output and no other (`one-output`)
 pub data Outputs (input : List ℕ) : List ℕ → Type 0 where

@@ -18,11 +18,11 @@ returns c = record { entered = by-code (c .before .before .before .admit .ensure
 short : (c : tie.Else1) → length (admitted c .before .before .before .before .before .before .before .args .text .now) ≤ 65536
 short c = right-so-far (admitted c .admit .ensures .code) (c .if1 .left) 2 (omega arith)
 
-cast-t19 : tie.Need-cast-t19
-cast-t19 c = omega (arith, short (c .before .before .before), c .first-high .ensures .most)
+cast-t20 : tie.Need-cast-t20
+cast-t20 c = omega (arith, short (c .before .before .before), c .first-high .ensures .most)
 
-cast-t21 : tie.Need-cast-t21
-cast-t21 c = omega (arith, short (c .before .before .before), c .first-high .ensures .most)
+cast-t22 : tie.Need-cast-t22
+cast-t22 c = omega (arith, short (c .before .before .before), c .first-high .ensures .most)
 
 returns-2 : tie.Need-returns-2
 returns-2 c =
@@ -46,9 +46,9 @@ check-spec =
     returns
     (λ c κs. search needs)
     (λ c κs. search needs)
-    cast-t19
+    cast-t20
     (λ c. search needs)
-    cast-t21
+    cast-t22
     (λ c. search needs)
     returns-2
     listed-requires

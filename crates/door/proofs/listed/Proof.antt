@@ -1,4 +1,4 @@
--- `listed` meets its contract: what the two searches found, with the numbers of the token.
+-- `listed` meets its contract: what the two searches found, with the numbers of the token, and else what the profile says.
 use Rattle.door.specs.Entry.{List-checked}
 use Rattle.door.proofs.Searching.{first-of, all-have}
 use borrow.Author.Needs.{needs}
@@ -13,8 +13,8 @@ returns-2 c = rw (c .before .start-at2 .ensures, c .end-at2 .ensures) (List-chec
 
 returns-3 : tie.Need-returns-3
 returns-3 c =
-    let (w, a) = c .before .before .before .before .before .before .pre in
-    List-checked.let-in (record { whole = w; ascii = a; sound = all-have (c .before .before .before .first-unsound .ensures) (c .before .before .if1 .left); closed = all-have (c .before .first-unclosed .ensures) (c .if2 .left) })
+    let (w, a) = c .before .before .before .before .before .before .before .pre in
+    List-checked.lent (record { whole = w; ascii = a; sound = all-have (c .before .before .before .before .first-unsound .ensures) (c .before .before .before .if1 .left); closed = all-have (c .before .before .first-unclosed .ensures) (c .before .if2 .left) }) (c .within .ensures)
 
 pub listed-spec : {M : Type 1} → statement M
 listed-spec =
@@ -30,4 +30,5 @@ listed-spec =
     (λ c κs. search needs)
     (λ c κs. search needs)
     returns-2
+    (λ c κs. search needs)
     returns-3)

@@ -1,7 +1,7 @@
 -- `cut` meets its contract: each room is cleared, and the numbers are those of the refusal.
 use borrow.Author.Needs.{needs}
 use mathlib.Core.Path.{_∙_}
-use Rattle.syntax.proofs.Scripts.{cut}
+use Rattle.syntax.proofs.Finishing.{cut}
 use Rattle.syntax.proofs.cut.Statement.{statement}
 use Rattle.syntax.proofs.cut.Tie as tie
 
