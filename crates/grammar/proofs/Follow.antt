@@ -255,16 +255,16 @@ module _ {G : Grammar Table Label} {kind : ℕ → ℕ} where
   operand-first zero x = (_, _, x)
   operand-first (suc n) (Reads.ended l e) = let (c, u, x) = starts l in operand-first n x
 
-module _ {kind : ℕ → ℕ} where
-  no-operand : {a b : ℕ} {t : Tree Label} → kaori Edition.first Table.operand (kind a) ≡ refusal 9 → Reads (kaori Edition.first) kind (whole (choice Table.operand)) a b t → ⊥
-  no-operand e (Reads.chosen {p = p} f x) = never (sym f ∙ e) x
+  no-operand : {a b : ℕ} {t : Tree Label} → G Table.operand (kind a) ≡ refusal 9 → Reads G kind (whole (choice Table.operand)) a b t → ⊥
+  no-operand r (Reads.chosen f x) = never (sym f ∙ r) x
     where
-      never : {q : Form} {a b : ℕ} {t : Tree Label} → q ≡ refusal 9 → Reads (kaori Edition.first) kind (whole q) a b t → ⊥
-      never e x = elim (rw e at x) [ ]
+      never : {q : Form} {a b : ℕ} {t : Tree Label} → q ≡ refusal 9 → Reads G kind (whole q) a b t → ⊥
+      never r x = elim (rw r at x) [ ]
 
-  no-expression : {a b : ℕ} {t : Tree Label} → kaori Edition.first Table.operand (kind a) ≡ refusal 9 → Reads (kaori Edition.first) kind (whole expression) a b t → ⊥
-  no-expression e (Reads.opened x) = let (c, u, y) = operand-first 6 x in no-operand e y
+  pub no-expression : {a b : ℕ} {t : Tree Label} → G Table.operand (kind a) ≡ refusal 9 → Reads G kind (whole expression) a b t → ⊥
+  no-expression r (Reads.opened x) = let (c, u, y) = operand-first 6 x in no-operand r y
 
+module _ {kind : ℕ → ℕ} where
   -- what begins with a calm token, if it is not empty, stands at one
   leading : {q : Form} {a b : ℕ} {t : Tree Label} → Reads (kaori Edition.first) kind (whole q) a b t → T (leads q) → (T (thin q) → T (calm (kind b))) → T (calm (kind a))
   unfolding leads thin

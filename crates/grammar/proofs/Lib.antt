@@ -54,6 +54,10 @@ pub mod Fares
 pub mod Refusing
 pub mod Openings
 pub mod Overflow
+-- a guard and the script of it
+pub mod Steady
+pub mod Rooting
+pub mod Guards
 -- samples
 pub mod Reader
 pub mod Doors
