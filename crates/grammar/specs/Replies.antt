@@ -36,6 +36,10 @@ beside = in-edition 1
 abbrev pub reply : (text : List ℕ) (limit : ℕ) (tokens : List ℕ) (before : Rooms) (answer : Answer) (after : Rooms) → Reply
 reply = beside none
 
+-- of a guard, in edition 1 beside no built-in names
+abbrev pub guard : (text : List ℕ) (limit : ℕ) (tokens : List ℕ) (before : Rooms) (answer : Answer) (after : Rooms) → Reply
+guard = asked Profile.guard 1 none
+
 abbrev pub All-answered : List Reply → Type 0
 All-answered [] = Unit {0}
 All-answered (r ∷ rs) = Answers (r .call) (r .answer) (r .after) × All-answered rs
@@ -184,4 +188,52 @@ replies =
     (numbers 0 3 1 0 0 0 0 255) (rooms (row 23 1 7 4294967295 0 0 0 0 0 1 ++ row 20 0 8 0 0 0 0 0 0 2 ++ row 20 0 0 0 1 4294967295 0 0 0 4294967295 ++ replicate 15 0) (1 ∷ 0 ∷ 0 ∷ replicate 11 0) (replicate 9 0) (replicate 13 0)) ∷
     in-edition 1 none (bytes "{return}") 1 (20 ∷ 0 ∷ 1 ∷ 35 ∷ 1 ∷ 7 ∷ 21 ∷ 7 ∷ 8 ∷ 44 ∷ 8 ∷ 8 ∷ []) (rooms (replicate 45 7) (replicate 14 8) (replicate 9 9) (replicate 13 6))
     (numbers 11 0 0 0 2 7 8 255) (rooms (replicate 45 0) (replicate 14 0) (replicate 9 0) (replicate 13 0)) ∷
+    -- 17 in a guard, at the first token outside the profile: each of the four kinds, as the first token and after others; the rooms are unchanged
+    guard (bytes "{") 64 (20 ∷ 0 ∷ 1 ∷ 44 ∷ 1 ∷ 1 ∷ []) (rooms (replicate 25 7) (replicate 8 8) (replicate 5 9) (replicate 7 6))
+    (numbers 17 0 0 0 0 0 1 255) (rooms (replicate 25 7) (replicate 8 8) (replicate 5 9) (replicate 7 6)) ∷
+    guard (bytes "if") 64 (33 ∷ 0 ∷ 2 ∷ 44 ∷ 2 ∷ 2 ∷ []) (rooms (replicate 25 7) (replicate 8 8) (replicate 5 9) (replicate 7 6))
+    (numbers 17 0 0 0 0 0 2 255) (rooms (replicate 25 7) (replicate 8 8) (replicate 5 9) (replicate 7 6)) ∷
+    guard (bytes "|") 64 (16 ∷ 0 ∷ 1 ∷ 44 ∷ 1 ∷ 1 ∷ []) (rooms (replicate 25 7) (replicate 8 8) (replicate 5 9) (replicate 7 6))
+    (numbers 17 0 0 0 0 0 1 255) (rooms (replicate 25 7) (replicate 8 8) (replicate 5 9) (replicate 7 6)) ∷
+    guard (bytes "#") 64 (19 ∷ 0 ∷ 1 ∷ 44 ∷ 1 ∷ 1 ∷ []) (rooms (replicate 25 7) (replicate 8 8) (replicate 5 9) (replicate 7 6))
+    (numbers 17 0 0 0 0 0 1 255) (rooms (replicate 25 7) (replicate 8 8) (replicate 5 9) (replicate 7 6)) ∷
+    guard (bytes "a {") 64 (43 ∷ 0 ∷ 1 ∷ 20 ∷ 2 ∷ 3 ∷ 44 ∷ 3 ∷ 3 ∷ []) (rooms (replicate 35 7) (replicate 11 8) (replicate 7 9) (replicate 10 6))
+    (numbers 17 0 0 0 1 2 3 255) (rooms (replicate 35 7) (replicate 11 8) (replicate 7 9) (replicate 10 6)) ∷
+    guard (bytes "a if") 64 (43 ∷ 0 ∷ 1 ∷ 33 ∷ 2 ∷ 4 ∷ 44 ∷ 4 ∷ 4 ∷ []) (rooms (replicate 35 7) (replicate 11 8) (replicate 7 9) (replicate 10 6))
+    (numbers 17 0 0 0 1 2 4 255) (rooms (replicate 35 7) (replicate 11 8) (replicate 7 9) (replicate 10 6)) ∷
+    guard (bytes "f(|") 64 (43 ∷ 0 ∷ 1 ∷ 17 ∷ 1 ∷ 2 ∷ 16 ∷ 2 ∷ 3 ∷ 44 ∷ 3 ∷ 3 ∷ []) (rooms (replicate 45 7) (replicate 14 8) (replicate 9 9) (replicate 13 6))
+    (numbers 17 0 0 0 2 2 3 255) (rooms (replicate 45 7) (replicate 14 8) (replicate 9 9) (replicate 13 6)) ∷
+    guard (bytes "a + #") 64 (43 ∷ 0 ∷ 1 ∷ 1 ∷ 2 ∷ 3 ∷ 19 ∷ 4 ∷ 5 ∷ 44 ∷ 5 ∷ 5 ∷ []) (rooms (replicate 45 7) (replicate 14 8) (replicate 9 9) (replicate 13 6))
+    (numbers 17 0 0 0 2 4 5 255) (rooms (replicate 45 7) (replicate 14 8) (replicate 9 9) (replicate 13 6)) ∷
+    -- 17: the first of two, either way round; before a reading that 9 refuses at a token before it; with no other room than scratch; in edition 2
+    guard (bytes "a | {") 64 (43 ∷ 0 ∷ 1 ∷ 16 ∷ 2 ∷ 3 ∷ 20 ∷ 4 ∷ 5 ∷ 44 ∷ 5 ∷ 5 ∷ []) (rooms (replicate 45 7) (replicate 14 8) (replicate 9 9) (replicate 13 6))
+    (numbers 17 0 0 0 1 2 3 255) (rooms (replicate 45 7) (replicate 14 8) (replicate 9 9) (replicate 13 6)) ∷
+    guard (bytes "a { |") 64 (43 ∷ 0 ∷ 1 ∷ 20 ∷ 2 ∷ 3 ∷ 16 ∷ 4 ∷ 5 ∷ 44 ∷ 5 ∷ 5 ∷ []) (rooms (replicate 45 7) (replicate 14 8) (replicate 9 9) (replicate 13 6))
+    (numbers 17 0 0 0 1 2 3 255) (rooms (replicate 45 7) (replicate 14 8) (replicate 9 9) (replicate 13 6)) ∷
+    guard (bytes "; {") 64 (41 ∷ 0 ∷ 1 ∷ 20 ∷ 2 ∷ 3 ∷ 44 ∷ 3 ∷ 3 ∷ []) (rooms (replicate 35 7) (replicate 11 8) (replicate 7 9) (replicate 10 6))
+    (numbers 17 0 0 0 1 2 3 255) (rooms (replicate 35 7) (replicate 11 8) (replicate 7 9) (replicate 10 6)) ∷
+    guard (bytes "a {") 64 (43 ∷ 0 ∷ 1 ∷ 20 ∷ 2 ∷ 3 ∷ 44 ∷ 3 ∷ 3 ∷ []) (rooms [] [] [] (replicate 9 6))
+    (numbers 17 0 0 0 1 2 3 255) (rooms [] [] [] (replicate 9 6)) ∷
+    asked Profile.guard 2 none (bytes "a {") 64 (43 ∷ 0 ∷ 1 ∷ 20 ∷ 2 ∷ 3 ∷ 44 ∷ 3 ∷ 3 ∷ []) (rooms (replicate 35 7) (replicate 11 8) (replicate 7 9) (replicate 10 6))
+    (numbers 17 0 0 0 1 2 3 255) (rooms (replicate 35 7) (replicate 11 8) (replicate 7 9) (replicate 10 6)) ∷
+    -- 21, 4 for scratch, 6 and 7 come before 17, also where their token stands behind its own
+    asked Profile.guard 3 none (bytes "{") 64 (20 ∷ 0 ∷ 1 ∷ 44 ∷ 1 ∷ 1 ∷ []) (rooms (replicate 25 7) (replicate 8 8) (replicate 5 9) (replicate 7 6))
+    (numbers 21 0 0 0 0 0 0 255) (rooms (replicate 25 7) (replicate 8 8) (replicate 5 9) (replicate 7 6)) ∷
+    guard (bytes "{") 64 (20 ∷ 0 ∷ 1 ∷ 44 ∷ 1 ∷ 1 ∷ []) (rooms (replicate 25 7) (replicate 8 8) (replicate 5 9) (replicate 5 6))
+    (numbers 4 0 0 0 0 0 0 255) (rooms (replicate 25 7) (replicate 8 8) (replicate 5 9) (replicate 5 6)) ∷
+    guard (bytes "{ +") 64 (20 ∷ 0 ∷ 1 ∷ 2 ∷ 2 ∷ 3 ∷ 44 ∷ 3 ∷ 3 ∷ []) (rooms (replicate 35 7) (replicate 11 8) (replicate 7 9) (replicate 10 6))
+    (numbers 6 0 0 0 1 2 3 255) (rooms (replicate 35 7) (replicate 11 8) (replicate 7 9) (replicate 10 6)) ∷
+    guard (bytes "{a") 64 (20 ∷ 0 ∷ 1 ∷ 43 ∷ 1 ∷ 2 ∷ []) (rooms (replicate 25 7) (replicate 8 8) (replicate 5 9) (replicate 7 6))
+    (numbers 7 0 0 0 1 1 2 255) (rooms (replicate 25 7) (replicate 8 8) (replicate 5 9) (replicate 7 6)) ∷
+    -- no 17 in a script
+    reply (bytes "a {") 64 (43 ∷ 0 ∷ 1 ∷ 20 ∷ 2 ∷ 3 ∷ 44 ∷ 3 ∷ 3 ∷ []) (rooms (replicate 35 7) (replicate 11 8) (replicate 7 9) (replicate 10 6))
+    (numbers 8 0 0 0 1 2 3 41) (rooms (replicate 35 0) (replicate 11 0) (replicate 7 0) (replicate 10 0)) ∷
+    -- 8 for Eof in a guard: the rooms are zero throughout
+    guard (bytes "a;") 64 (43 ∷ 0 ∷ 1 ∷ 41 ∷ 1 ∷ 2 ∷ 44 ∷ 2 ∷ 2 ∷ []) (rooms (replicate 35 7) (replicate 11 8) (replicate 7 9) (replicate 10 6))
+    (numbers 8 0 0 0 1 1 2 44) (rooms (replicate 35 0) (replicate 11 0) (replicate 7 0) (replicate 10 0)) ∷
+    -- 0 of a guard: rows and then zeros to the end of each room; in edition 2 beside a built-in name, in rooms for just the rows
+    guard (bytes "f(a) + 1") 64 (43 ∷ 0 ∷ 1 ∷ 17 ∷ 1 ∷ 2 ∷ 43 ∷ 2 ∷ 3 ∷ 18 ∷ 3 ∷ 4 ∷ 1 ∷ 5 ∷ 6 ∷ 40 ∷ 7 ∷ 8 ∷ 44 ∷ 8 ∷ 8 ∷ []) (rooms (replicate 75 7) (replicate 23 8) (replicate 15 9) (replicate 22 6))
+    (numbers 0 5 1 2 0 0 0 255) (rooms (row 10 0 1 0 0 1 0 0 0 2 ++ row 10 2 3 1 2 3 0 0 0 2 ++ row 15 1 4 0 0 1 0 0 0 4 ++ row 12 7 8 0 0 0 0 0 0 4 ++ row 1 1 8 0 2 3 0 0 0 4294967295 ++ replicate 25 0) (1 ∷ 0 ∷ 0 ∷ replicate 20 0) (0 ∷ 1 ∷ 2 ∷ 3 ∷ replicate 11 0) (replicate 22 0)) ∷
+    asked Profile.guard 2 (record { text = bytes "ab c"; rows = (3 ∷ 4 ∷ []) }) (bytes "not c and a") 2 (24 ∷ 0 ∷ 3 ∷ 43 ∷ 4 ∷ 5 ∷ 22 ∷ 6 ∷ 9 ∷ 43 ∷ 10 ∷ 11 ∷ 44 ∷ 11 ∷ 11 ∷ []) (rooms (replicate 40 7) [] (replicate 4 9) (replicate 15 6))
+    (numbers 0 4 0 2 0 0 0 255) (rooms (row 10 4 5 0 4 5 0 0 0 1 ++ row 4 0 5 0 0 0 0 0 0 3 ++ row 10 10 11 1 10 11 0 0 0 3 ++ row 2 0 11 1 2 0 0 0 0 4294967295) [] (3 ∷ 4 ∷ 10 ∷ 11 ∷ []) (replicate 15 0)) ∷
     []
