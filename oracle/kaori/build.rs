@@ -1,6 +1,6 @@
 //! Names the source documents where they stand, and derives two more parsers from parser.rs: one counts openings, the
 //! other also records the rows that it asks for, over a tree derived from ast.rs. The same of edition 2, whose parser and
-//! tree are parser.rs and ast.rs with the changes of second.rs.
+//! tree are parser.rs and ast.rs with the changes of second.rs. Each parser, the original too, gets what reads a guard beside it.
 use std::{env, fs, path::Path, path::PathBuf};
 
 mod second;
@@ -11,6 +11,8 @@ const COUNTED: [&str; 5] =
 const RECORDED: [&str; 2] = ["advance_token", "parse_name"];
 /// The function of ast.rs that inserting.rs wraps: every node is made by it.
 const INSERTED: [&str; 1] = ["insert"];
+/// What each parser has beside parser.rs.
+const GUARDING: &str = "guarding.rs";
 
 fn main() {
     let manifest = PathBuf::from(env::var("CARGO_MANIFEST_DIR").unwrap());
@@ -40,6 +42,7 @@ fn main() {
     let (parser, ast) = (source("syntax/parser.rs"), source("syntax/ast.rs"));
     let [parser_text, ast_text] = [&parser, &ast].map(|path| fs::read_to_string(path).unwrap());
     let [counting, recording, inserting] = ["counting.rs", "recording.rs", "inserting.rs"].map(wrappers);
+    let parser_text = parser_text + &wrappers(GUARDING);
     let counted = |parser: &str, counting: &str| renamed(parser, &COUNTED) + counting;
     let recorded = |counted: &str| renamed(counted, &RECORDED) + &recording;
     let inserted = |ast: &str| renamed(ast, &INSERTED) + &inserting;
@@ -54,7 +57,7 @@ fn main() {
         module("ast", &ast),
         module("ops", &source("syntax/ops.rs")),
         module("token", &token),
-        module("parser", &parser),
+        included("parser", &[parser, manifest.join(GUARDING)]),
     ];
     let derived = [
         ("recorded_ast", inserted(&ast_text)),
@@ -80,6 +83,12 @@ fn main() {
 
 fn module(name: &str, path: &Path) -> String {
     format!("    #[path = {path:?}]\n    pub mod {name};\n")
+}
+
+/// A module of several files, each as it stands.
+fn included(name: &str, paths: &[PathBuf]) -> String {
+    let files: String = paths.iter().map(|path| format!("        include!({path:?});\n")).collect();
+    format!("    pub mod {name} {{\n{files}    }}\n")
 }
 
 /// A source with the definitions of these functions renamed to `.._inner`; their uses stay.

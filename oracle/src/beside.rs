@@ -126,8 +126,13 @@ const SHORT_SYMBOLS: usize = 3;
 
 /// A call with these names, and those faults whose bits are set.
 pub fn faulty(names: &Builtins, faults: usize) -> Lent {
+    faulty_script(if faults & 1 << 7 != 0 { "a" } else { "a;" }, names, faults)
+}
+
+/// One of this script, and those faults whose bits are set, but for the last.
+pub fn faulty_script(text: &str, names: &Builtins, faults: usize) -> Lent {
     let has = |fault: usize| faults & 1 << fault != 0;
-    let mut case = script(if has(7) { "a" } else { "a;" });
+    let mut case = script(text);
     if has(6) {
         let last = case.tokens.last_mut().expect("an Eof");
         *last = Token { kind: IDENTIFIER, end: last.end + 1, ..*last };
@@ -236,10 +241,11 @@ pub fn frames(seed: u64) -> impl Iterator<Item = Vec<u8>> + Send {
         let Some(case) = case else {
             let rooms = LARGEST.map(|largest| random.below(largest as usize) as u32);
             let names = Some(for_case(&Case::default(), MAX_NAMES, random));
-            return vec![Lent { edition: None, names, limit: LIMIT, rooms, input: cases.get(index) }];
+            let input = cases.get(index);
+            return vec![Lent { is_guard: false, edition: None, names, limit: LIMIT, rooms, input }];
         };
         let mut names = for_case(&case, MAX_NAMES, random);
-        let limit = limit(&case, FIRST, random);
+        let limit = limit(&case, LIMIT.into(), random);
         if !random.once_in(4) {
             return in_rooms(names, case, limit, random);
         }

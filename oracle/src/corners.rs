@@ -1,7 +1,7 @@
 //! Cases written down: document 01's samples, the decided points, every production and span rule, the door.
 use crate::{
     case::{Case, MAX_TEXT, MAX_TOKENS, Token},
-    kinds::{EOF, IDENTIFIER, NUMBER, STRING},
+    kinds::{EOF, IDENTIFIER, NUMBER, OUTSIDE, STRING, spelling},
     list::script,
 };
 
@@ -117,6 +117,61 @@ pub fn editions() -> Vec<Case> {
     EDITIONS.iter().map(|text| script(text)).collect()
 }
 
+/// Guards (request L9), and what only just is none.
+#[rustfmt::skip]
+pub const GUARDS: &[&str] = &[
+    // request L9's own, and the least; what is no guard, though it is a script, or the other way round
+    "typed == 0 and refreshed", "a", "", "a;", "for", ";", "a b", "a; b;", "a = b", "let a = b", "return a", "return", "import a", "break", "while a", "fun f", "}", "a }", ")", "a )",
+    "a,", "a:", "a : b", "else", "a else", "a for", "for a", "not for", "(for", "f(for)", "a not b", "a; for",
+    // operators, and their operands where they are missing
+    "a or b", "a and b", "a == b", "a != b", "a > b", "a >= b", "a < b", "a <= b", "a + b", "a - b", "a * b", "a / b", "a % b", "a or b and c == d < e + f * g", "a * b + c < d == e and f or g",
+    "a - b - c", "a or", "or a", "a and and b", "a +", "a + * b", "* a", "a == ;", "a + b c", "a + b;",
+    // signs and `not`
+    "-a", "^a", "+a", "- ^ + a", "+ + a + b", "not a", "not not a", "not a and b", "a and not b or c", "- not a + b", "not (a)", "not (a and b) or c", "-(a)", "-", "not", "+", "- )", "not ;", "a ^ b",
+    // parentheses
+    "(a)", "((a))", "(a + b) * c", "a * (b + c)", "a + (b)", "()", "(", "(a", "(a;", "(a b)", "(a,)", "((a)", "(a))", "(a) b", "(a);",
+    // chains, in edition 2 after a `)` too
+    "f()", "f(a)", "f(a,)", "f(a, b)", "f(a, b,)", "f()()", "f().a", "a.b", "a.b.c", "a.b(c).d(e, f).g", "f(g(h(a)))", "f(not a, b)", "f(x) + 1", "-f(x)", "f(", "f(a", "f(a,", "f(,)", "f(a,,)", "f(a b)", "f(a;",
+    "f(a) b", "f(a);", "a.", "a.1", "a..b", "a.if", "a.\"b\"", "a.b;", "f(a = b)", "(a)(b)", "(a).b", "(a)(b)(c).d", "((a)(b))(c)", "not (a)(b)", "(a + b).c", "(a)(", "(a).", "(a)(b", "1(a)", "\"s\".b", "nil.a",
+    // literals, names and strings
+    "1", "1.5e-3", "\"\"", "\"a b\"", "true", "false", "nil", "true and false or nil", "\"a\" == a", "a == \"a\"", "a + b + a", "a.a(a)", "\"{\"", "\"if\" == \"|\" + \"#\"", "iffy", "1 2", "\"a\" \"b\"",
+    // tokens outside the profile
+    "{", "if", "|", "#", "{}", "#{}", "|x| x", "|| a", "if a {}", "if a {} else {}", "{a}", "{ a; }", "f({})", "a + #{}", "a and {", "a |", "a | b", "a #", "if if", "# { | if", "a; {", ") {", "a b {", "+ * {", "f(a {", "(a |",
+    "a = {}", "for {", "{ for", "{ for }", "return {}", "} {",
+];
+
+pub fn guards() -> Vec<Case> {
+    GUARDS.iter().map(|text| script(text)).collect()
+}
+
+/// Each kind outside the profile at each place of a guard, of one that is refused in reading, and of one that the door refuses:
+/// for a kind over 44, for an Eof too early, and for a byte over 127.
+pub fn outside() -> Vec<Case> {
+    let mut cases = Vec::new();
+    for text in ["a", "", "f(a, b)", "a + * b", "(a b", "a; b"] {
+        let texts = (0..=text.len()).flat_map(|place| {
+            let (before, after) = text.split_at(place);
+            OUTSIDE.map(|kind| format!("{before} {} {after}", spelling(kind).expect("a fixed spelling")))
+        });
+        cases.extend(texts.map(|text| script(&text)));
+    }
+    for text in ["{ a b", "a b |", "a if b #"] {
+        let case = script(text);
+        for (place, token) in case.tokens.iter().enumerate() {
+            let with = |kind: u8| {
+                let mut case = case.clone();
+                case.tokens[place].kind = kind;
+                case
+            };
+            cases.extend([with(EOF + 1), with(EOF)]);
+            let mut case = case.clone();
+            case.text.insert(token.start as usize, 200);
+            cases.push(case);
+        }
+    }
+    cases
+}
+
 /// What stands where one opening is left.
 #[rustfmt::skip]
 const ONE_LEFT: &[&str] = &[
@@ -180,6 +235,21 @@ pub fn nested() -> Vec<Case> {
     for core in ONE_LEFT {
         cases.push(script(&format!("{}{core}{}", "{".repeat(63), "}".repeat(63))));
     }
+    cases
+}
+
+/// Guards whose depth lies around 64, whole and not closed, and the largest ones.
+pub fn nested_guards() -> Vec<Case> {
+    let is_outside = |token: &Token| OUTSIDE.contains(&token.kind);
+    let mut cases = Vec::new();
+    for form in NESTINGS.iter().filter(|form| !script(&form.script(1)).tokens.iter().any(is_outside)) {
+        for times in (19..=22).chain(30..=33).chain(61..=66) {
+            let whole = Nesting { end: "", ..*form }.script(times);
+            let open = form.open.repeat(times) + form.core;
+            cases.extend([script(&whole), script(&open), script(&form.open.repeat(times))]);
+        }
+    }
+    cases.extend([254, 255].map(|times| script(&format!("a{}", "+a".repeat(times)))));
     cases
 }
 

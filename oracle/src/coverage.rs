@@ -11,7 +11,8 @@ use crate::{
     builtins::{Builtins, MAX_NAMES},
     case::{self, Case},
     could::Could,
-    kinds,
+    editions::Sort,
+    judge, kinds,
     rooms::{Judge, Known, Lent, Rooms, SCRATCH},
     rows::{ABSENT, NO_KIND, Outcome, Rows},
     told::{Question, TOLD, Told},
@@ -71,6 +72,9 @@ impl Coverage {
             for name in in_rooms(known, lent.rooms) {
                 coverage.show(&name);
             }
+            if lent.is_guard {
+                of_guard(&lent, known).into_iter().for_each(|name| coverage.show(&name));
+            }
             if lent.input != last {
                 coverage.show(match known.outcome() {
                     Outcome::Accepted(_) => "scripts: accepted, rows counted",
@@ -108,10 +112,19 @@ impl Coverage {
         *self.shown.entry(name.into()).or_default() += 1;
     }
 
-    /// Prints all that is shown, and what is missing; true if nothing is.
+    /// Prints all that is shown, and what is missing of a list that is to cover the language; true if nothing is.
     pub fn print(&self) -> bool {
+        self.print_missing(required())
+    }
+
+    /// The same of guards, in the rooms, beside the names and with the edition of a run.
+    pub fn print_guards(&self, edition: Option<u32>, sort: Sort) -> bool {
+        self.print_missing(required_of_guards(edition, sort))
+    }
+
+    fn print_missing(&self, mut missing: Vec<String>) -> bool {
         self.print_shown();
-        let missing = self.missing();
+        missing.retain(|name| !self.shown.contains_key(name));
         missing.iter().for_each(|name| println!("missing: {name}"));
         println!("{} cases, {} things shown, {} missing", self.cases, self.shown.len(), missing.len());
         missing.is_empty()
@@ -121,11 +134,6 @@ impl Coverage {
         for (name, count) in &self.shown {
             println!("{count:7}  {name}");
         }
-    }
-
-    /// What must be shown and is not.
-    fn missing(&self) -> Vec<String> {
-        required().into_iter().filter(|name| !self.shown.contains_key(name)).collect()
     }
 }
 
@@ -153,6 +161,41 @@ fn required() -> Vec<String> {
     names.extend(OTHERS.map(String::from));
     names
 }
+
+/// What frames of guards have to show. No frame has a text that is too long (2), and no guard comes to a `for` statement (10).
+fn required_of_guards(edition: Option<u32>, sort: Sort) -> Vec<String> {
+    let mut names: Vec<String> = GUARDED.map(String::from).into();
+    names.extend([1, 3, 4, 5, 6, 7, 17].map(|code| format!("code {code} at the door")));
+    names.extend([5, 6, 7].map(|code| format!("code {code} at the door, before 17")));
+    names.extend([0, 8, 9, 11].map(|code| format!("code 17, and without it {code}")));
+    names.extend([0, 8, 9, 11].map(|code| format!("code {code}")));
+    names.extend([Eof, RightParen, Comma, Identifier].map(|kind| format!("expected {kind:?}")));
+    let nodes = (0..5).chain(9..16).map(|node| NODES[node]); // those of expressions in the profile, without Assign
+    names.extend(nodes.map(|node| format!("node {node}")));
+    names.extend((0..11).map(|operator| format!("Binary operator {operator}")));
+    names.extend((0..2).map(|operator| format!("Unary operator {operator}")));
+    names.extend((0..2).map(|value| format!("Boolean {value}")));
+    names.extend((0..3).map(|count| format!("call arguments: {count}")));
+    if edition.is_some() {
+        names.extend(["code 21 at the door", "code 0 in edition 2", "call of Binary"].map(String::from));
+    }
+    if sort >= Sort::Tight {
+        names.extend(["Node", "Link", "Symbol"].map(|row| format!("code 4 by a {row} row")));
+        names.push("code 4 by a Node row, before 8 at its token".into());
+    }
+    if sort == Sort::Named {
+        let words = ["code 18 at the door", "code 4 at the door, for the built-in rows"];
+        let spelled = ["names: one that the script has", "names: one that a string's inside spells"];
+        names.extend([words, spelled].as_flattened().iter().map(|name| name.to_string()));
+    }
+    names
+}
+
+#[rustfmt::skip]
+const GUARDED: [&str; 12] = [
+    "no head", "bad input", "code 0 in edition 1", "call of Identifier", "call of FunctionCall", "call of PropertyAccess",
+    "property of Identifier", "property of FunctionCall", "property of PropertyAccess", "`, )`", "prefix `+`", "`( (`",
+];
 
 #[rustfmt::skip]
 const OTHERS: [&str; 33] = [
@@ -195,6 +238,34 @@ fn in_rooms(known: &Known, rooms: Rooms) -> Vec<String> {
         names.push(format!("{row}, before a symbol row at its token"));
     }
     names
+}
+
+/// What is shown by a guard: what it is made of, or which kind is required, and what a 17 comes before and after.
+fn of_guard(lent: &Lent, known: &Known) -> Vec<String> {
+    let Some(case) = Case::decode(&lent.input) else { return Vec::new() };
+    let has_outside = case.tokens.iter().any(|token| kinds::OUTSIDE.contains(&token.kind));
+    match known.turned_away(lent.rooms) {
+        Some(refusal) if refusal.code == 17 => {
+            let names = lent.names.clone().unwrap_or_default();
+            let code = match judge::read(&names, &case, lent.call()).outcome {
+                Outcome::Accepted(_) => 0,
+                Outcome::Refused(refusal) => refusal.code,
+            };
+            vec![format!("code 17, and without it {code}")]
+        }
+        Some(refusal) if has_outside => vec![format!("code {} at the door, before 17", refusal.code)],
+        Some(_) => Vec::new(),
+        None => match known.comes(lent.rooms) {
+            Outcome::Accepted(rows) => {
+                let edition = format!("code 0 in edition {}", lent.call().terms.edition);
+                [vec![edition], productions(&case, &rows)].concat()
+            }
+            Outcome::Refused(refusal) if refusal.expected != NO_KIND => {
+                vec![format!("expected {}", kinds::name(refusal.expected as u8))]
+            }
+            Outcome::Refused(_) => Vec::new(),
+        },
+    }
 }
 
 /// What is shown by a question about a token: of which code and edition something is told, how many kinds could have stood there

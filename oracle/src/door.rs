@@ -1,23 +1,24 @@
 //! Checks 1 to 7 of document 01. Check 4 is of the scratch room alone: document 02, L6. After it come those of built-in
-//! names, 18 and another 4: L10. Before it comes that of the edition, 21: L14, '21, after 3, for any other number'.
+//! names, 18 and another 4: L10. Before it comes that of the edition, 21: L14, '21, after 3, for any other number'. The last is
+//! that of guards, 17: L9, '17, after 7 and before reading, at the first token outside the profile'.
 use crate::{
     builtins::Builtins,
     case::{Case, Token},
-    kinds::{EOF, fits},
+    kinds::{EOF, OUTSIDE, fits},
     rooms::{Rooms, SCRATCH, SYMBOLS, WIDTHS},
     rows::{NO_KIND, Refusal},
-    terms::{FIRST, SECOND, Terms},
+    terms::{Call, FIRST, SECOND, Terms},
 };
 
 /// With scratch enough, as `rows` lends it, and no built-in names.
-pub fn refusal(case: &Case, terms: impl Into<Terms>) -> Option<Refusal> {
+pub fn refusal(case: &Case, call: impl Into<Call>) -> Option<Refusal> {
     let scratch = WIDTHS[SCRATCH] * case.tokens.len() as u32;
-    refusal_with(&Builtins::default(), case, terms, [0, 0, 0, scratch])
+    refusal_with(&Builtins::default(), case, call, [0, 0, 0, scratch])
 }
 
 /// With these built-in names and in these rooms.
-pub fn refusal_with(names: &Builtins, case: &Case, terms: impl Into<Terms>, rooms: Rooms) -> Option<Refusal> {
-    let Terms { edition, limit } = terms.into();
+pub fn refusal_with(names: &Builtins, case: &Case, call: impl Into<Call>, rooms: Rooms) -> Option<Refusal> {
+    let Call { is_guard, terms: Terms { edition, limit } } = call.into();
     let rows = |room: usize| (rooms[room] / WIDTHS[room]) as usize;
     if !(1..=4_096).contains(&case.tokens.len()) {
         return Some(placeless(1));
@@ -49,8 +50,12 @@ pub fn refusal_with(names: &Builtins, case: &Case, terms: impl Into<Terms>, room
     }
     let last = case.tokens.len() - 1;
     let misplaced = |(at, token): (usize, &Token)| (token.kind == EOF) != (at == last);
-    let at = case.tokens.iter().enumerate().position(misplaced)?;
-    Some(at_token(case, 7, at))
+    if let Some(at) = case.tokens.iter().enumerate().position(misplaced) {
+        return Some(at_token(case, 7, at));
+    }
+    let is_outside = |token: &Token| is_guard && OUTSIDE.contains(&token.kind);
+    let at = case.tokens.iter().position(is_outside)?;
+    Some(at_token(case, 17, at))
 }
 
 fn is_bad(case: &Case, at: usize) -> bool {

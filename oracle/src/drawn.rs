@@ -1,16 +1,18 @@
-//! The cases of a run: case `index` of `seed` is always the same. Those of edition 2 are other ones than those of edition 1.
+//! The cases of a run: case `index` of `seed` is always the same. Those of edition 2 are other ones than those of edition 1, and
+//! those of guards (request L9) than those of scripts.
 use crate::{
     case::{Case, MAX_TEXT, MAX_TOKENS, Token},
     corners::{self, EDITIONS, RULES, SAMPLES},
-    kinds::EOF,
+    kinds::{EOF, OUTSIDE},
     list::{self, Gaps, Word, printed, words},
     random::Random,
-    scripts::{any_word, any_words, script, script_of},
+    scripts::{any_word, any_words, expression, script, script_of},
     terms::{FIRST, SECOND},
 };
 
 pub struct Cases {
     edition: u32,
+    is_guard: bool,
     seed: u64,
     corners: Vec<Vec<u8>>,
 }
@@ -30,7 +32,15 @@ impl Cases {
         let mut corners: Vec<_> = cases.iter().map(Case::encode).collect();
         corners.extend(corners::broken());
         corners.extend(corners::at_sizes());
-        Cases { edition, seed, corners }
+        Cases { edition, is_guard: false, seed, corners }
+    }
+
+    /// Those of guards: among the corners are whole scripts, too.
+    pub fn guards(edition: u32, seed: u64) -> Cases {
+        let cases = [corners::guards(), corners::outside(), corners::nested_guards()].concat();
+        let mut corners: Vec<_> = cases.iter().map(Case::encode).collect();
+        corners.extend(Cases::of(edition, seed).corners);
+        Cases { edition, is_guard: true, seed, corners }
     }
 
     /// First the corners; then every third case is a short list, until there are no more of them.
@@ -42,7 +52,8 @@ impl Cases {
         if index % 3 == 0 && index / 3 < SHORT_LISTS {
             return short_list(index / 3 * 31_337 % SHORT_LISTS).encode();
         }
-        random_input(self.edition, &mut Random::of(self.seed, index))
+        let input = if self.is_guard { random_guard } else { random_input };
+        input(self.edition, &mut Random::of(self.seed, index))
     }
 }
 
@@ -66,11 +77,71 @@ fn random_input(edition: u32, random: &mut Random) -> Vec<u8> {
             let count = random.between(1, 16);
             any_words(random, count)
         }
-        17 => nested(edition, random),
+        17 => nested(edition, false, random),
         18 => return mangled(edition, random).encode(),
         _ => return broken(edition, random),
     };
     dressed(&list, random).encode()
+}
+
+/// Mostly a guard, or one that something is wrong with; now and then a script.
+fn random_guard(edition: u32, random: &mut Random) -> Vec<u8> {
+    let list = match random.below(40) {
+        0..14 => guard(edition, random),
+        14..18 => followed(edition, random),
+        18..25 => faulted(guard(edition, random), random),
+        25..31 => with_outside(edition, random),
+        31..33 => {
+            let size = random.between(1, 40);
+            expression(edition, false, random, size)
+        }
+        33..36 => nested(edition, true, random),
+        36 => return mangled_guard(edition, random).encode(),
+        _ => return random_input(edition, random),
+    };
+    dressed(&list, random).encode()
+}
+
+/// One expression, without a token outside the profile.
+fn guard(edition: u32, random: &mut Random) -> Vec<Word> {
+    let size = size(random);
+    let mut list = expression(edition, true, random, size);
+    list.truncate(MAX_TOKENS - 1);
+    list
+}
+
+/// A guard with something behind it: a `;`, another expression, or any word.
+fn followed(edition: u32, random: &mut Random) -> Vec<Word> {
+    let mut list = guard(edition, random);
+    match random.below(4) {
+        0 => list.extend(words(";")),
+        1 => list.extend(words(random.pick(&[")", ",", "=", "= a", "; a", ";;", ": a", "}"]))),
+        2 => {
+            let size = random.between(1, 8);
+            list.extend(expression(edition, true, random, size));
+        }
+        _ => list.push(any_word(random)),
+    }
+    list.truncate(MAX_TOKENS - 1);
+    list
+}
+
+/// One to three tokens outside the profile in a guard, first, last or anywhere; every other time it has faults as well.
+fn with_outside(edition: u32, random: &mut Random) -> Vec<Word> {
+    let mut list = guard(edition, random);
+    if random.once_in(2) {
+        list = faulted(list, random);
+    }
+    list.truncate(MAX_TOKENS - 4);
+    for _ in 0..random.between(1, 3) {
+        let place = match random.below(4) {
+            0 => 0,
+            1 => list.len(),
+            _ => random.below(list.len() + 1),
+        };
+        list.insert(place, Word::plain(random.pick(&OUTSIDE)));
+    }
+    list
 }
 
 fn size(random: &mut Random) -> usize {
@@ -101,7 +172,10 @@ pub fn exact(index: u64) -> Case {
 
 /// A script with one to three faults.
 pub fn damaged(edition: u32, random: &mut Random) -> Vec<Word> {
-    let mut list = grown(edition, random);
+    faulted(grown(edition, random), random)
+}
+
+fn faulted(mut list: Vec<Word>, random: &mut Random) -> Vec<Word> {
     for _ in 0..random.between(1, 3) {
         damage(&mut list, random);
     }
@@ -143,7 +217,9 @@ pub fn small(edition: u32, seed: u64, index: u64) -> (Case, Random) {
 }
 
 /// Constructs inside each other: before, where the inner one stands, after.
-const IN_STATEMENT: &[(&str, Place, &str)] = &[
+type Form = (&'static str, Place, &'static str);
+
+const IN_STATEMENT: &[Form] = &[
     ("{", Place::Statement, "}"),
     ("if", Place::Expression, "{}"),
     ("if a {", Place::Statement, "}"),
@@ -156,7 +232,7 @@ const IN_STATEMENT: &[(&str, Place, &str)] = &[
     ("a = ", Place::Expression, ""),
     ("", Place::Expression, ";"),
 ];
-const IN_EXPRESSION: &[(&str, Place, &str)] = &[
+const IN_EXPRESSION: &[Form] = &[
     ("(", Place::Expression, ")"),
     ("-", Place::Expression, ""),
     ("+", Place::Expression, ""),
@@ -175,13 +251,13 @@ const IN_EXPRESSION: &[(&str, Place, &str)] = &[
 ];
 
 /// More of them in edition 2.
-const IN_SECOND_STATEMENT: &[(&str, Place, &str)] = &[
+const IN_SECOND_STATEMENT: &[Form] = &[
     ("{ return;", Place::Statement, "}"),
     ("if not a { return } else {", Place::Statement, "}"),
     ("not", Place::Expression, "= (a).b;"),
     ("(", Place::Expression, ")(a);"),
 ];
-const IN_SECOND_EXPRESSION: &[(&str, Place, &str)] = &[
+const IN_SECOND_EXPRESSION: &[Form] = &[
     ("not", Place::Expression, ""),
     ("not -", Place::Expression, "and not a"),
     ("(", Place::Expression, ")(a)"),
@@ -197,9 +273,9 @@ enum Place {
     Expression,
 }
 
-fn nested(edition: u32, random: &mut Random) -> Vec<Word> {
+fn nested(edition: u32, is_guard: bool, random: &mut Random) -> Vec<Word> {
     let (mut front, mut back) = (Vec::new(), Vec::new());
-    let mut place = Place::Statement;
+    let mut place = if is_guard { Place::Expression } else { Place::Statement };
     for _ in 0..random.between(40, 66) {
         let own = edition == SECOND && random.once_in(2);
         let forms = match place {
@@ -208,7 +284,7 @@ fn nested(edition: u32, random: &mut Random) -> Vec<Word> {
             Place::Statement => IN_STATEMENT,
             Place::Expression => IN_EXPRESSION,
         };
-        let (before, inner, after) = random.pick(forms);
+        let (before, inner, after) = picked(forms, is_guard, random);
         front.extend(words(before));
         back.push(after);
         place = inner;
@@ -222,6 +298,17 @@ fn nested(edition: u32, random: &mut Random) -> Vec<Word> {
     }
     front.truncate(MAX_TOKENS - 1);
     front
+}
+
+/// One of these, for a guard one that has no token outside the profile.
+fn picked(forms: &[Form], is_guard: bool, random: &mut Random) -> Form {
+    loop {
+        let form = random.pick(forms);
+        let is_outside = |word: &Word| OUTSIDE.contains(&word.kind);
+        if !is_guard || ![form.0, form.2].iter().any(|text| words(text).iter().any(is_outside)) {
+            return form;
+        }
+    }
 }
 
 /// The list as a case, with gaps and an Eof of some sort.
@@ -242,7 +329,19 @@ fn dressed(list: &[Word], random: &mut Random) -> Case {
 pub fn mangled(edition: u32, random: &mut Random) -> Case {
     let size = random.between(1, 20);
     let list = script(edition, random, size);
-    let mut case = dressed(&list, random);
+    mangled_list(&list, random)
+}
+
+/// A guard with such a fault, every other time any expression.
+pub fn mangled_guard(edition: u32, random: &mut Random) -> Case {
+    let size = random.between(1, 20);
+    let is_guard = random.once_in(2);
+    let list = expression(edition, is_guard, random, size);
+    mangled_list(&list, random)
+}
+
+fn mangled_list(list: &[Word], random: &mut Random) -> Case {
+    let mut case = dressed(list, random);
     let place = random.below(case.tokens.len());
     let near = |number: u32, random: &mut Random| match random.below(4) {
         0 => number.wrapping_add(1),

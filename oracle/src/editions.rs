@@ -10,12 +10,12 @@ use crate::{
     list::script,
     random::Random,
     rooms::{EDITION_HEAD, Known, LARGEST, Lent},
-    terms::{FIRST, SECOND, Terms},
+    terms::{Call, FIRST, SECOND, Terms},
     tight::{limit, settings},
 };
 
 /// What stands beside the cases of a run: rooms with a row for each token and no names, rooms that tell, or names, too.
-#[derive(Clone, Copy, PartialEq)]
+#[derive(Clone, Copy, PartialEq, Eq, PartialOrd, Ord)]
 pub enum Sort {
     Plain,
     Tight,
@@ -30,27 +30,34 @@ pub fn frames(edition: u32, seed: u64, sort: Sort) -> impl Iterator<Item = Vec<u
     let cases = [FIRST, SECOND].map(|edition| Cases::of(edition, seed));
     let drawn = (0..).flat_map(move |index| {
         let random = &mut Random::of(seed.rotate_left(16), index);
-        let named = match random.below(20) {
-            0 => random.pick(&WRONG),
-            1..5 => FIRST + SECOND - edition,
-            _ => edition,
-        };
+        let named = named(edition, random);
         // scripts of edition 2 are read in edition 1, too
         let written = if random.once_in(4) { FIRST } else { SECOND };
         let input = match random.once_in(12) {
             true => mangled(written, random).encode(),
             false => cases[(written - 1) as usize].get(index),
         };
-        of_input(named, input, sort, random)
+        of_input(false, named, input, sort, random)
     });
     let corners = corners(sort).into_iter();
     corners.map(|lent| lent.encode()).chain(broken()).chain(drawn.map(|lent| lent.encode()))
 }
 
-fn of_input(edition: u32, input: Vec<u8>, sort: Sort, random: &mut Random) -> Vec<Lent> {
+/// Mostly this edition, now and then the other or a number that names none.
+pub fn named(edition: u32, random: &mut Random) -> u32 {
+    match random.below(20) {
+        0 => random.pick(&WRONG),
+        1..5 => FIRST + SECOND - edition,
+        _ => edition,
+    }
+}
+
+/// An input, as a script or as a guard, beside names and in rooms of this sort.
+pub fn of_input(is_guard: bool, edition: u32, input: Vec<u8>, sort: Sort, random: &mut Random) -> Vec<Lent> {
     let Some(case) = Case::decode(&input) else {
         let rooms = LARGEST.map(|largest| random.below(largest as usize) as u32);
         return vec![Lent {
+            is_guard,
             edition: Some(edition),
             names: Some(Builtins::default()),
             limit: LIMIT,
@@ -66,8 +73,9 @@ fn of_input(edition: u32, input: Vec<u8>, sort: Sort, random: &mut Random) -> Ve
         }
     }
     let read_in = if edition == FIRST { FIRST } else { SECOND };
-    let limit = limit(&case, read_in, random);
-    let mut calls = in_rooms(names, case, Terms { edition, limit }, sort, random);
+    let call = |edition, limit| Call { is_guard, terms: Terms { edition, limit } };
+    let limit = limit(&case, call(read_in, LIMIT), random);
+    let mut calls = in_rooms(names, case, call(edition, limit), sort, random);
     if edition != read_in {
         calls.retain(|_| random.once_in(4)); // all are refused alike
     }
@@ -75,8 +83,14 @@ fn of_input(edition: u32, input: Vec<u8>, sort: Sort, random: &mut Random) -> Ve
 }
 
 /// A case beside names in the rooms of this sort.
-fn in_rooms(names: Builtins, case: Case, terms: Terms, sort: Sort, random: &mut Random) -> Vec<Lent> {
-    let known = Known::beside(names, case, terms);
+pub fn in_rooms(
+    names: Builtins,
+    case: Case,
+    call: impl Into<Call>,
+    sort: Sort,
+    random: &mut Random,
+) -> Vec<Lent> {
+    let known = Known::beside(names, case, call);
     let rooms = if sort == Sort::Plain { vec![known.ample()] } else { settings(&known, random) };
     rooms.into_iter().map(|rooms| known.lent_all(rooms)).collect()
 }
@@ -106,7 +120,12 @@ fn corners(sort: Sort) -> Vec<Lent> {
 /// Frames that end too early.
 fn broken() -> impl Iterator<Item = Vec<u8>> {
     let [names, ..] = right_and_wrong();
-    let whole = Lent { edition: Some(SECOND), ..faulty(&names, 0) }.encode();
+    cut_short(&Lent { edition: Some(SECOND), ..faulty(&names, 0) })
+}
+
+/// Parts of a frame with an edition.
+pub fn cut_short(lent: &Lent) -> impl Iterator<Item = Vec<u8>> + use<> {
+    let (whole, names) = (lent.encode(), lent.names.clone().unwrap_or_default());
     let to_input = EDITION_HEAD + names.text.len() + 4 * names.rows.len();
     let head = [2, 5, 6, 21, 22, 25, 26, EDITION_HEAD - 1, EDITION_HEAD, EDITION_HEAD + 1];
     let lengths = head.into_iter().chain([to_input - 1, to_input, whole.len() - 1]);

@@ -1,5 +1,5 @@
 //! Runs the original parser, and the derived ones that count openings and record rows, and holds one against the other. In
-//! edition 2 the changed parser stands for the original.
+//! edition 2 the changed parser stands for the original. A guard (request L9) is read by the same parsers.
 use std::{
     cell::Cell,
     panic::{self, AssertUnwindSafe},
@@ -19,7 +19,7 @@ use crate::{
     kinds::TOKENS,
     rows::{NO_KIND, Outcome, Refusal, Rows, Tree},
     show,
-    terms::{SECOND, Terms},
+    terms::{Call, SECOND, Terms},
 };
 
 pub struct Reading {
@@ -33,15 +33,17 @@ pub struct Reading {
 static TURN: Mutex<()> = Mutex::new(()); // there is one interner
 
 /// Reads a case that has passed the door, with an interner that is given the built-in names first.
-pub fn read(names: &Builtins, case: &Case, terms: impl Into<Terms>) -> Reading {
+pub fn read(names: &Builtins, case: &Case, call: impl Into<Call>) -> Reading {
     let _turn = TURN.lock().unwrap_or_else(PoisonError::into_inner);
 
-    let Terms { edition, limit } = terms.into();
+    let Call { is_guard, terms: Terms { edition, limit } } = call.into();
     let (text, tokens) = (text(case), || tokens(case));
     let compiler = Compiler::with_limit(limit);
     let counted = match edition {
-        SECOND => result(names, case, || second_counted::Parser::new(text, tokens(), &compiler).parse()),
-        _ => result(names, case, || counted::Parser::new(text, tokens(), &compiler).parse()),
+        SECOND => {
+            result(names, case, || second_counted::Parser::new(text, tokens(), &compiler).read(is_guard))
+        }
+        _ => result(names, case, || counted::Parser::new(text, tokens(), &compiler).read(is_guard)),
     };
     let (deepest, chain) = (compiler.deepest(), compiler.chain());
 
@@ -50,10 +52,10 @@ pub fn read(names: &Builtins, case: &Case, terms: impl Into<Terms>) -> Reading {
         counted => {
             let compiler = Compiler::default();
             let original = match edition {
-                SECOND => {
-                    result(names, case, || second_parser::Parser::new(text, tokens(), &compiler).parse())
-                }
-                _ => result(names, case, || parser::Parser::new(text, tokens(), &compiler).parse()),
+                SECOND => result(names, case, || {
+                    second_parser::Parser::new(text, tokens(), &compiler).read(is_guard)
+                }),
+                _ => result(names, case, || parser::Parser::new(text, tokens(), &compiler).read(is_guard)),
             };
             agreed(case, original, counted)
         }
@@ -87,17 +89,17 @@ pub fn ask(edition: u32, text: &str, tokens: Vec<(token::Token, token::Span)>) -
 
 /// The rows that the reading of a case asks for, in order, up to its end or its refusal: what `read` gives. Those of the
 /// built-in names stand already. The case has passed the door.
-pub fn record(names: &Builtins, case: &Case, terms: impl Into<Terms>, outcome: &Outcome) -> Vec<Asked> {
+pub fn record(names: &Builtins, case: &Case, call: impl Into<Call>, outcome: &Outcome) -> Vec<Asked> {
     let _turn = TURN.lock().unwrap_or_else(PoisonError::into_inner);
     let given = words(names);
     fresh_interner(&given);
     recorder::start(given.len() as u32);
-    let Terms { edition, limit } = terms.into();
+    let Call { is_guard, terms: Terms { edition, limit } } = call.into();
     let compiler = Compiler::with_limit(limit);
     let (text, tokens) = (text(case), tokens(case));
     let parsed = silently(|| match edition {
-        SECOND => second_recorded::Parser::new(text, tokens, &compiler).parse().map(drop),
-        _ => recorded::Parser::new(text, tokens, &compiler).parse().map(drop),
+        SECOND => second_recorded::Parser::new(text, tokens, &compiler).read(is_guard).map(drop),
+        _ => recorded::Parser::new(text, tokens, &compiler).read(is_guard).map(drop),
     });
     let asked = recorder::asked();
     match (parsed, outcome) {

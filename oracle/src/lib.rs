@@ -12,6 +12,7 @@ pub mod editions;
 pub mod fixed;
 pub mod frame;
 pub mod grouping;
+pub mod guards;
 pub mod judge;
 pub mod kinds;
 pub mod lexer;

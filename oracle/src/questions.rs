@@ -97,7 +97,7 @@ fn of_input(edition: u32, input: Vec<u8>, random: &mut Random) -> Question {
         let terms = Terms { edition, limit: LIMIT };
         return Question { terms, code: random.between(8, 11) as u32, at: random.below(4) as u32, input };
     };
-    let limit = limit(&case, edition, random);
+    let limit = limit(&case, Terms { edition, limit: LIMIT }.into(), random);
     let terms = Terms { edition, limit };
     if own(&case, terms).is_none() && !random.once_in(8) {
         case = refused(case, terms, random);

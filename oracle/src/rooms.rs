@@ -1,5 +1,5 @@
 //! Request L6: rooms of any size. How they stand in a frame of the program `batch`, with built-in names (request L10) or
-//! without, with an edition (request L14) or without, and what its answer is. The answer comes from the rows that the derived
+//! without, with an edition (request L14) or without, as a script or as a guard (request L9), and what its answer is. The answer comes from the rows that the derived
 //! parser records: the first that does not fit is refusal 4, at its token.
 use std::fmt::Write;
 
@@ -12,7 +12,7 @@ use crate::{
     could::Could,
     door, judge,
     rows::{NO_KIND, NODE_WIDTH, Outcome, Refusal},
-    terms::{FIRST, Terms},
+    terms::{Call, FIRST, Terms},
     told::Question,
 };
 
@@ -32,6 +32,7 @@ const BEFORE: u32 = 7;
 const MARK: [u8; 2] = *b"RM";
 const NAMES_MARK: [u8; 2] = *b"RN";
 const EDITION_MARK: [u8; 2] = *b"RO";
+const GUARD_MARK: [u8; 2] = *b"RQ";
 /// The largest built-in text that a frame may have, and the most numbers of rows: 66 rows and a number left over.
 pub const MAX_NAMES_TEXT: usize = 8_192;
 pub const MAX_NAMES_NUMBERS: usize = 133;
@@ -40,9 +41,11 @@ pub const NAMES_HEAD: usize = 30;
 pub const EDITION_HEAD: usize = 34;
 const BAD: &[u8] = b"bad input\n";
 
-/// An input of `rows`, with a limit and rooms of its own, and perhaps with built-in names. One with an edition has names.
+/// An input of `rows`, with a limit and rooms of its own, and perhaps with built-in names. One with an edition has names, and a
+/// guard has an edition.
 #[derive(Clone, PartialEq, Eq, Debug)]
 pub struct Lent {
+    pub is_guard: bool,
     pub edition: Option<u32>,
     pub names: Option<Builtins>,
     pub limit: u32,
@@ -59,29 +62,34 @@ impl Lent {
         };
         let sizes = bytes(&[text.len() as u32, rows.len() as u32]);
         let mark = match self.edition {
-            Some(edition) => [&EDITION_MARK[..], &bytes(&[edition])].concat(),
+            Some(edition) => {
+                let mark = if self.is_guard { GUARD_MARK } else { EDITION_MARK };
+                [&mark[..], &bytes(&[edition])].concat()
+            }
             None => NAMES_MARK.into(),
         };
         [&mark, &head[..], &sizes, text, &bytes(rows), &self.input].concat()
     }
 
-    pub fn terms(&self) -> Terms {
-        Terms { edition: self.edition.unwrap_or(FIRST), limit: self.limit }
+    pub fn call(&self) -> Call {
+        let terms = Terms { edition: self.edition.unwrap_or(FIRST), limit: self.limit };
+        Call { is_guard: self.is_guard, terms }
     }
 
     /// None: the frame is an input of `rows` and nothing else, or its built-in names are broken, which is a bad input too.
     pub fn decode(frame: &[u8]) -> Option<Lent> {
-        let marks = [MARK, NAMES_MARK, EDITION_MARK];
+        let marks = [MARK, NAMES_MARK, EDITION_MARK, GUARD_MARK];
         let mark = marks.into_iter().find(|mark| frame.starts_with(mark))?;
         let mut rest = &frame[mark.len()..];
-        let edition = if mark == EDITION_MARK { Some(number(&mut rest)?) } else { None };
+        let is_guard = mark == GUARD_MARK;
+        let edition = if is_guard || mark == EDITION_MARK { Some(number(&mut rest)?) } else { None };
         let limit = number(&mut rest)?;
         let mut rooms = LARGEST;
         for room in &mut rooms {
             *room = number(&mut rest)?.min(*room);
         }
         let names = if mark == MARK { None } else { Some(names(&mut rest)?) };
-        Some(Lent { edition, names, limit, rooms, input: rest.to_vec() })
+        Some(Lent { is_guard, edition, names, limit, rooms, input: rest.to_vec() })
     }
 }
 
@@ -95,11 +103,11 @@ fn names(rest: &mut &[u8]) -> Option<Builtins> {
     Some(Builtins { text, rows })
 }
 
-/// What is known of a case, its built-in names, an edition and a limit, whatever is lent.
+/// What is known of a case, its built-in names, which entry is called, an edition and a limit, whatever is lent.
 pub struct Known {
     names: Builtins,
     case: Case,
-    terms: Terms,
+    call: Call,
     /// What comes of it in rooms that are large enough.
     outcome: Outcome,
     /// The rows that its reading asks for, in order; none if the door refuses it.
@@ -107,28 +115,31 @@ pub struct Known {
 }
 
 impl Known {
-    pub fn of(case: Case, terms: impl Into<Terms>) -> Known {
-        Known::beside(Builtins::default(), case, terms)
+    pub fn of(case: Case, call: impl Into<Call>) -> Known {
+        Known::beside(Builtins::default(), case, call)
     }
 
-    pub fn beside(names: Builtins, case: Case, terms: impl Into<Terms>) -> Known {
-        let terms = terms.into();
-        if let Some(refusal) = door::refusal_with(&names, &case, terms, ample(&names, &case)) {
-            return Known { names, case, terms, outcome: Outcome::Refused(refusal), asked: Vec::new() };
+    pub fn beside(names: Builtins, case: Case, call: impl Into<Call>) -> Known {
+        let call = call.into();
+        if let Some(refusal) = door::refusal_with(&names, &case, call, ample(&names, &case)) {
+            return Known { names, case, call, outcome: Outcome::Refused(refusal), asked: Vec::new() };
         }
-        let outcome = judge::read(&names, &case, terms).outcome;
-        let asked = judge::record(&names, &case, terms, &outcome);
-        Known { names, case, terms, outcome, asked }
+        let outcome = judge::read(&names, &case, call).outcome;
+        let asked = judge::record(&names, &case, call, &outcome);
+        Known { names, case, call, outcome, asked }
     }
 
     /// The case in these rooms, as `batch` gets it without built-in names and without an edition.
     pub fn lent(&self, rooms: Rooms) -> Lent {
-        Lent { edition: None, names: None, limit: self.terms.limit, rooms, input: self.case.encode() }
+        let limit = self.call.terms.limit;
+        Lent { is_guard: false, edition: None, names: None, limit, rooms, input: self.case.encode() }
     }
 
-    /// The case in these rooms, with its built-in names and its edition.
+    /// The case in these rooms, with its built-in names and its edition, as a guard if it is one.
     pub fn lent_all(&self, rooms: Rooms) -> Lent {
-        Lent { edition: Some(self.terms.edition), names: Some(self.names.clone()), ..self.lent(rooms) }
+        let Call { is_guard, terms } = self.call;
+        let (edition, names) = (Some(terms.edition), Some(self.names.clone()));
+        Lent { is_guard, edition, names, ..self.lent(rooms) }
     }
 
     pub fn outcome(&self) -> &Outcome {
@@ -173,7 +184,7 @@ impl Known {
 
     /// The door's refusal in these rooms.
     pub fn turned_away(&self, rooms: Rooms) -> Option<Refusal> {
-        door::refusal_with(&self.names, &self.case, self.terms, rooms)
+        door::refusal_with(&self.names, &self.case, self.call, rooms)
     }
 
     /// What comes of it in these rooms, if the door lets it in.
@@ -249,12 +260,12 @@ impl Judge {
 
     /// None: a broken input.
     pub fn known(&mut self, lent: &Lent) -> Option<&Known> {
-        let (input, terms) = (&lent.input, lent.terms());
+        let (input, call) = (&lent.input, lent.call());
         let names = lent.names.clone().unwrap_or_default();
         let is_last =
-            |(last, known): &(Vec<u8>, Known)| last == input && known.terms == terms && known.names == names;
+            |(last, known): &(Vec<u8>, Known)| last == input && known.call == call && known.names == names;
         if !self.last.as_ref().is_some_and(is_last) {
-            let known = |case| (input.clone(), Known::beside(names, case, terms));
+            let known = |case| (input.clone(), Known::beside(names, case, call));
             self.last = Case::decode(input).map(known);
         }
         self.last.as_ref().map(|(_, known)| known)

@@ -18,6 +18,7 @@ enum Names {
 
 struct Writer<'r> {
     edition: u32,
+    is_guard: bool,
     random: &'r mut Random,
     names: Names,
     words: Vec<Word>,
@@ -26,7 +27,7 @@ struct Writer<'r> {
 /// A script of about so many words.
 pub fn script(edition: u32, random: &mut Random, size: usize) -> Vec<Word> {
     let names = random.pick(&[Names::Few, Names::Many]);
-    let mut writer = Writer { edition, random, names, words: Vec::new() };
+    let mut writer = Writer { edition, is_guard: false, random, names, words: Vec::new() };
     while writer.words.len() < size {
         let left = size - writer.words.len();
         let share = if writer.random.once_in(3) { left } else { 1 + writer.random.below(left) };
@@ -35,6 +36,14 @@ pub fn script(edition: u32, random: &mut Random, size: usize) -> Vec<Word> {
             writer.push(";");
         }
     }
+    writer.words
+}
+
+/// An expression of about so many words; that of a guard has no token outside the profile.
+pub fn expression(edition: u32, is_guard: bool, random: &mut Random, size: usize) -> Vec<Word> {
+    let names = random.pick(&[Names::Few, Names::Many]);
+    let mut writer = Writer { edition, is_guard, random, names, words: Vec::new() };
+    writer.expression(size);
     writer.words
 }
 
@@ -53,6 +62,9 @@ pub fn script_of(edition: u32, random: &mut Random, size: usize) -> Vec<Word> {
 
 /// In edition 2 `not` (2), signs, parentheses (6) and chains come more often.
 const SECOND_OPERANDS: [usize; 20] = [0, 1, 2, 2, 2, 2, 2, 3, 4, 6, 6, 6, 6, 6, 8, 9, 11, 12, 12, 13];
+
+/// In a guard signs, `not`, parentheses, leaves and chains.
+const GUARD_OPERANDS: [usize; 10] = [0, 1, 2, 2, 6, 6, 11, 12, 12, 12];
 
 const BINARY: [&str; 13] = ["or", "and", "==", "!=", ">", ">=", "<", "<=", "+", "-", "*", "/", "%"];
 
@@ -200,6 +212,7 @@ impl Writer<'_> {
             return self.leaf();
         }
         let sort = match self.edition {
+            _ if self.is_guard => self.random.pick(&GUARD_OPERANDS),
             SECOND => self.random.pick(&SECOND_OPERANDS),
             _ => self.random.below(14),
         };

@@ -12,7 +12,7 @@ pub fn case(input: &[u8]) -> String {
             format!("edition  {}\nlimit    {}\nasked    code {code} at {at}\n", terms.edition, terms.limit);
         return case(&input) + &asked;
     }
-    if let Some(Lent { edition, names, limit, rooms, input }) = Lent::decode(input) {
+    if let Some(Lent { is_guard, edition, names, limit, rooms, input }) = Lent::decode(input) {
         let rows: Vec<_> = rooms.iter().zip(WIDTHS).map(|(size, width)| (size / width).to_string()).collect();
         let rows = rows.join(" ");
         let names = names.map_or(String::new(), |names| {
@@ -20,7 +20,8 @@ pub fn case(input: &[u8]) -> String {
         });
         let edition = edition.map_or(String::new(), |edition| format!("edition  {edition}\n"));
         let lent = format!("limit    {limit}\nrooms    {rooms:?} numbers, {rows} rows\n");
-        return format!("{}{names}{edition}{lent}", case(&input));
+        let guard = if is_guard { "entry    guard\n" } else { "" };
+        return format!("{}{guard}{names}{edition}{lent}", case(&input));
     }
     let Some(case) = Case::decode(input) else {
         return format!("bytes    {}\n", hex(input));

@@ -83,7 +83,7 @@ cases =
     fn shown(&self) -> String {
         let Entry { edition, names, case, limit, rooms, .. } = self.clone();
         let (edition, names, input) = (Some(edition), Some(names), case.encode());
-        let case = show::case(&Lent { edition, names, limit, rooms, input }.encode());
+        let case = show::case(&Lent { is_guard: false, edition, names, limit, rooms, input }.encode());
         format!("{case}Rust\n         {:?}\n", self.outcome)
     }
 }

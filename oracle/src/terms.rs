@@ -1,4 +1,4 @@
-//! What a call names beside its rooms: an edition (request L14) and a limit.
+//! What a call names beside its rooms: an edition (request L14) and a limit; and whether it is a guard's (request L9).
 
 #[derive(Clone, Copy, PartialEq, Eq, Debug)]
 pub struct Terms {
@@ -14,5 +14,31 @@ pub const SECOND: u32 = 2;
 impl From<u32> for Terms {
     fn from(limit: u32) -> Terms {
         Terms { edition: FIRST, limit }
+    }
+}
+
+/// Which entry is called, and on which terms: that of scripts, or that of guards.
+#[derive(Clone, Copy, PartialEq, Eq, Debug)]
+pub struct Call {
+    pub is_guard: bool,
+    pub terms: Terms,
+}
+
+impl Call {
+    pub fn guard(terms: impl Into<Terms>) -> Call {
+        Call { is_guard: true, terms: terms.into() }
+    }
+}
+
+/// Terms alone are a script's.
+impl From<Terms> for Call {
+    fn from(terms: Terms) -> Call {
+        Call { is_guard: false, terms }
+    }
+}
+
+impl From<u32> for Call {
+    fn from(limit: u32) -> Call {
+        Terms::from(limit).into()
     }
 }

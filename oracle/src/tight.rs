@@ -12,7 +12,7 @@ use crate::{
     list::script,
     random::Random,
     rooms::{Known, LARGEST, Lent, Rooms, SCRATCH, SYMBOLS, WIDTHS},
-    terms::{FIRST, Terms},
+    terms::Call,
 };
 
 /// What comes of a script in rooms of so many node, link and symbol rows.
@@ -119,7 +119,7 @@ pub fn rooms_of(case: &Case, [nodes, links, symbols]: [u32; 3]) -> Rooms {
 pub fn corners() -> Vec<Vec<u8>> {
     let mut frames = Vec::new();
     let mut add = |limit: u32, rooms: Rooms, case: &Case| {
-        frames.push(Lent { edition: None, names: None, limit, rooms, input: case.encode() }.encode());
+        frames.push(Known::of(case.clone(), limit).lent(rooms).encode());
     };
     for (text, limit, steps) in LADDERS {
         let case = script(text);
@@ -146,8 +146,7 @@ pub fn corners() -> Vec<Vec<u8>> {
     }
     // rooms larger than any; and no input, a broken one, a head that is too short
     add(LIMIT, [LARGEST[0] + 1, LARGEST[1] + 1, LARGEST[2] + 1, u32::MAX], &case);
-    let whole = Lent { edition: None, names: None, limit: LIMIT, rooms: [20, 3, 2, 9], input: case.encode() }
-        .encode();
+    let whole = Known::of(case, LIMIT).lent([20, 3, 2, 9]).encode();
     frames.extend([22, 21, 2, whole.len() - 1].map(|length| whole[..length].to_vec()));
     frames
 }
@@ -222,21 +221,21 @@ pub fn lent(known: &Known, random: &mut Random) -> Vec<Lent> {
 fn of_input(input: Vec<u8>, random: &mut Random) -> Vec<Lent> {
     let Some(case) = Case::decode(&input) else {
         let rooms = LARGEST.map(|largest| random.below(largest as usize) as u32);
-        return vec![Lent { edition: None, names: None, limit: LIMIT, rooms, input }];
+        return vec![Lent { is_guard: false, edition: None, names: None, limit: LIMIT, rooms, input }];
     };
-    let limit = limit(&case, FIRST, random);
+    let limit = limit(&case, LIMIT.into(), random);
     lent(&Known::of(case, limit), random)
 }
 
-/// The usual limit, one near the depth of the case, or rarely one that is refused.
-pub fn limit(case: &Case, edition: u32, random: &mut Random) -> u32 {
+/// The usual limit, which this call has, one near the depth of the case, or rarely one that is refused.
+pub fn limit(case: &Case, call: Call, random: &mut Random) -> u32 {
     if random.once_in(100) {
         return random.pick(&[0, LIMIT + 1, u32::MAX]);
     }
-    if random.once_in(2) || door::refusal(case, LIMIT).is_some() {
+    if random.once_in(2) || door::refusal(case, call).is_some() {
         return LIMIT;
     }
-    let depth = judge::read(&Builtins::default(), case, Terms { edition, limit: LIMIT }).deepest;
+    let depth = judge::read(&Builtins::default(), case, call).deepest;
     let near = [depth.saturating_sub(1), depth, depth + 1, 1 + random.below(LIMIT as usize) as u32];
     random.pick(&near).clamp(1, LIMIT)
 }
@@ -246,7 +245,7 @@ pub fn limit(case: &Case, edition: u32, random: &mut Random) -> u32 {
 pub fn tried(lent: &Lent) -> Vec<Vec<u8>> {
     let mut all = vec![lent.rooms];
     if let Some(case) = Case::decode(&lent.input) {
-        let known = Known::beside(lent.names.clone().unwrap_or_default(), case, lent.terms());
+        let known = Known::beside(lent.names.clone().unwrap_or_default(), case, lent.call());
         all.extend(settings(&known, &mut Random::of(0, 0)));
         all.extend((0..known.asked().len()).take(100).map(|rows| known.fitting(rows)));
     }

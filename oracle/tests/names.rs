@@ -22,7 +22,14 @@ fn lines(lent: &Lent) -> Vec<Vec<u32>> {
 }
 
 fn answer(names: &Builtins, text: &str, rooms: Rooms) -> Vec<Vec<u32>> {
-    lines(&Lent { edition: None, names: Some(names.clone()), limit: 64, rooms, input: script(text).encode() })
+    lines(&Lent {
+        is_guard: false,
+        edition: None,
+        names: Some(names.clone()),
+        limit: 64,
+        rooms,
+        input: script(text).encode(),
+    })
 }
 
 /// The eight numbers, and the used node and symbol rows, of an accepted script.
@@ -133,6 +140,7 @@ fn the_order() {
 fn frames() {
     let built_in = names(b"ab", &[0, 2, 9]);
     let lent = Lent {
+        is_guard: false,
         edition: None,
         names: Some(built_in),
         limit: 64,

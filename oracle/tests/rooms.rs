@@ -11,7 +11,8 @@ use oracle::{
 
 /// The answer's lines, as numbers.
 fn answer(text: &str, limit: u32, rooms: Rooms) -> Vec<Vec<u32>> {
-    let lent = Lent { edition: None, names: None, limit, rooms, input: script(text).encode() };
+    let lent =
+        Lent { is_guard: false, edition: None, names: None, limit, rooms, input: script(text).encode() };
     let answer = String::from_utf8(Judge::default().answer(&lent.encode())).unwrap();
     let numbers = |line: &str| line.split_whitespace().map(|number| number.parse().unwrap()).collect();
     answer.lines().map(numbers).collect()
@@ -115,8 +116,14 @@ fn numbers_left_over() {
 
 #[test]
 fn frames() {
-    let lent =
-        Lent { edition: None, names: None, limit: 64, rooms: [20, 3, 2, 9], input: script("a;").encode() };
+    let lent = Lent {
+        is_guard: false,
+        edition: None,
+        names: None,
+        limit: 64,
+        rooms: [20, 3, 2, 9],
+        input: script("a;").encode(),
+    };
     let frame = lent.encode();
     assert_eq!(frame[..22], *b"RM\x40\0\0\0\x14\0\0\0\x03\0\0\0\x02\0\0\0\x09\0\0\0");
     assert_eq!(Lent::decode(&frame), Some(lent.clone()));

@@ -1,5 +1,5 @@
-//! compare N [--tight | --names | --expected] [--edition E] [--batch] [--seed S] COMMAND..: runs N cases through the original and
-//! through COMMAND.
+//! compare N [[--guard] [--tight | --names] | --expected] [--edition E] [--batch] [--seed S] COMMAND..: runs N cases through the
+//! original and through COMMAND.
 use std::{
     process::ExitCode,
     time::{Duration, Instant},
@@ -9,7 +9,7 @@ use oracle::{
     beside,
     drawn::Cases,
     editions::{self, Sort},
-    questions,
+    guards, questions,
     rooms::{Judge, Lent},
     show,
     shrink::{shrunk, shrunk_names},
@@ -18,15 +18,16 @@ use oracle::{
     told::Question,
 };
 
-const USAGE: &str = "compare N [--seed S] COMMAND.. | compare N [--tight | --names | --expected] [--edition E] [--seed S] --batch COMMAND..";
+const USAGE: &str = "compare N [--seed S] COMMAND.. | compare N [[--guard] [--tight | --names] | --expected] [--edition E] [--seed S] --batch COMMAND..";
 
-/// Which cases are run: inputs of `rows`, in rooms of chosen sizes, or beside built-in names, or asked about a refused token; and with
-/// an edition or without.
+/// Which cases are run: inputs of `rows`, in rooms of chosen sizes, or beside built-in names, or asked about a refused token; with an
+/// edition or without; and as scripts or as guards.
 struct Options {
     count: u64,
     seed: u64,
     sort: Sort,
     asks: bool,
+    is_guard: bool,
     edition: Option<u32>,
     subject: Subject,
 }
@@ -35,6 +36,9 @@ impl Options {
     fn cases(&self) -> Box<dyn Iterator<Item = Vec<u8>> + Send> {
         if self.asks {
             return Box::new(questions::frames(self.edition, self.seed));
+        }
+        if self.is_guard {
+            return Box::new(guards::frames(self.edition, self.seed, self.sort));
         }
         if let Some(edition) = self.edition {
             return Box::new(editions::frames(edition, self.seed, self.sort));
@@ -61,7 +65,8 @@ fn main() -> ExitCode {
 fn options(words: Vec<String>) -> Option<Options> {
     let mut words = words.into_iter().peekable();
     let count = words.next()?.parse().ok()?;
-    let (mut seed, mut batch, mut sort, mut asks, mut edition) = (1, false, Sort::Plain, false, None);
+    let (mut seed, mut batch, mut sort, mut edition) = (1, false, Sort::Plain, None);
+    let (mut asks, mut is_guard) = (false, false);
     loop {
         match words.peek()?.as_str() {
             "--seed" => seed = words.nth(1)?.parse().ok()?,
@@ -71,9 +76,10 @@ fn options(words: Vec<String>) -> Option<Options> {
             word => {
                 match word {
                     "--batch" => batch = true,
-                    "--tight" => sort = Sort::Tight,
+                    "--tight" => sort = sort.max(Sort::Tight), // with names, too, rooms are those that tell
                     "--names" => sort = Sort::Named,
                     "--expected" => asks = true,
+                    "--guard" => is_guard = true,
                     _ => break,
                 }
                 words.next();
@@ -81,9 +87,10 @@ fn options(words: Vec<String>) -> Option<Options> {
         }
     }
     let subject = Subject { words: words.collect(), batch };
-    let is_plain = sort == Sort::Plain && edition.is_none() && !asks;
-    let is_one = sort == Sort::Plain || !asks;
-    (is_one && (batch || is_plain)).then_some(Options { count, seed, sort, asks, edition, subject })
+    let is_plain = sort == Sort::Plain && edition.is_none() && !asks && !is_guard;
+    let is_one = sort == Sort::Plain && !is_guard || !asks;
+    let is_right = is_one && (batch || is_plain);
+    is_right.then_some(Options { count, seed, sort, asks, is_guard, edition, subject })
 }
 
 /// The differences met so far.

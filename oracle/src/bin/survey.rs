@@ -1,4 +1,5 @@
-//! survey N [--tight | --names | --edition | --expected] [SEED]: what N generated cases cover.
+//! survey N [--tight | --names | --edition | --expected] [SEED]: what N generated cases cover. With --guard what N guards do, of
+//! edition 2 with --edition, and what is missing.
 use std::process::ExitCode;
 
 use oracle::{
@@ -6,7 +7,7 @@ use oracle::{
     coverage::Coverage,
     drawn::Cases,
     editions::{self, Sort},
-    questions,
+    guards, questions,
     terms::SECOND,
     tight,
 };
@@ -15,11 +16,23 @@ fn main() -> ExitCode {
     let (words, sort): (Vec<_>, Vec<_>) = std::env::args().skip(1).partition(|word| !word.starts_with("--"));
     let mut words = words.iter().map(|word| word.parse::<u64>());
     let Some(Ok(count)) = words.next() else {
-        eprintln!("usage: survey N [--tight | --names | --edition | --expected] [SEED]");
+        eprintln!("usage: survey N [--guard] [--tight | --names | --edition | --expected] [SEED]");
         return ExitCode::from(2);
     };
     let seed = words.next().and_then(Result::ok).unwrap_or(1);
     oracle::with_large_stack(move || {
+        let has = |word: &str| sort.iter().any(|given| given == word);
+        if has("--guard") {
+            let edition = has("--edition").then_some(SECOND);
+            let sort = match (has("--names"), has("--tight")) {
+                (true, _) => Sort::Named,
+                (_, true) => Sort::Tight,
+                _ => Sort::Plain,
+            };
+            let frames = guards::frames(edition, seed, sort).take(count as usize);
+            let covered = Coverage::of_rooms(frames).print_guards(edition, sort);
+            return ExitCode::from(!covered as u8);
+        }
         let frames: Box<dyn Iterator<Item = Vec<u8>>> = match sort.first().map(String::as_str) {
             None => {
                 let cases = Cases::new(seed);
