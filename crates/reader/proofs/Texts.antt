@@ -83,7 +83,7 @@ only-outside w l (Wrong.names-room x) = absurd (omega (arith, w .names-fit))
 only-outside w l (Wrong.byte {i = i} x) = absurd (x .lacks (l .ascii i (x .place)))
 only-outside w l (Wrong.token {i = i} x) = absurd (x .lacks (l .sound i (x .place)))
 only-outside w l (Wrong.eof {i = i} x) = absurd (x .lacks (l .closed i (x .place)))
-only-outside {p} w l (Wrong.outside {i = i} x) = (of-guards p (kind _ i) (x .lacks), refl)
+only-outside {p} {ts = ts} w l (Wrong.outside {i = i} x) = (of-guards p (kind ts i) (x .lacks), refl)
   where
     of-guards : (p : Profile) (k : ℕ) → (T (allowed p k) → ⊥) → p ≡ Profile.guard
     of-guards Profile.script k f = absurd (f tt)
