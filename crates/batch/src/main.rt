@@ -1,7 +1,7 @@
 // Answers a stream of cases, each in a frame, by a stream of frames. A case is an input of the program `rows`, and its answer what that prints. Or a limit and the
 // sizes of rooms stand before such an input, after the mark 52 4D; the answer is then what a call in these rooms answers, and all numbers that it leaves in them. Or
 // built-in names stand there, too, after the mark 52 4E; the call is then beside these names. Or after the mark 52 4F stands an edition, and then what stands after 52 4E;
-// the call is then of that edition, and otherwise of edition 1. Or after the mark 52 50 stand an edition, a limit, a code and a token, and an input; the answer is then
+// the call is then of that edition, and otherwise of edition 1. Or the same stands after the mark 52 51; the call then reads a guard. Or after the mark 52 50 stand an edition, a limit, a code and a token, and an input; the answer is then
 // what could have stood at that token, and what was open there.
 use frames::Frame;
 use frames::read;
@@ -10,8 +10,9 @@ use listing::answer;
 use listing::blank;
 use spelling::display::put;
 use syntax::Numbers;
-use syntax::parse_with;
+use syntax::parse_as;
 use token::editions::FIRST;
+use token::profiles::Profile;
 use wire::input::Script;
 use wire::input::fill;
 use wire::input::four;
@@ -66,13 +67,14 @@ fn told(
     line(scratch, out, e)
 }
 
-// The answer to an input of a text of this size and n tokens, beside these built-in names, in this edition and in these rooms.
+// The answer to an input of a text of this size and n tokens, read so, beside these built-in names, in this edition and in these rooms.
 fn called(
     names: &[u8],
     rows: &[u32],
     input: &[u8],
     size: usize,
     n: usize,
+    profile: Profile,
     edition: u32,
     limit: u32,
     nodes: &mut [u32],
@@ -88,11 +90,12 @@ fn called(
     let used = 3 * n;
     let mut tokens: [u32; 1536] = [0; 1536];
     fill(input, from, n, &mut tokens);
-    let a = parse_with(
+    let a = parse_as(
         names,
         rows,
         &input[6..from],
         &tokens[..used],
+        profile,
         edition,
         limit,
         nodes,
@@ -135,7 +138,7 @@ const SCRATCH: usize = 18;
 
 const INPUT: usize = 22;
 
-// The answer to a case with a limit and rooms of its own, whose input stands from `at` on, beside these built-in names and in this edition. After the mark stand the
+// The answer to a case with a limit and rooms of its own, whose input stands from `at` on and is read so, beside these built-in names and in this edition. After the mark stand the
 // limit, and how many numbers the rooms of nodes, links, symbols and scratch have (4 bytes each, little-endian; at most 512 rows and what can be left over). Each number
 // of the rooms is 7 before the call.
 fn lent(
@@ -143,6 +146,7 @@ fn lent(
     at: usize,
     names: &[u8],
     rows: &[u32],
+    profile: Profile,
     edition: u32,
     out: &mut [u8; 262144],
 ) -> usize
@@ -168,6 +172,7 @@ fn lent(
         &case[at..],
         size,
         n,
+        profile,
         edition,
         limit,
         &mut nodes[..ns],
@@ -200,9 +205,9 @@ fn listed(case: &[u8], from: usize, n: usize, rows: &mut [u32])
     }
 }
 
-// The answer to a case with built-in names, in this edition. After the sizes of the rooms stand those of the names' text and rows, then the text, the numbers of the
+// The answer to a case with built-in names, read so, in this edition. After the sizes of the rooms stand those of the names' text and rows, then the text, the numbers of the
 // rows (4 bytes each, little-endian), and an input.
-fn beside(case: &[u8], edition: u32, out: &mut [u8; 262144]) -> usize
+fn beside(case: &[u8], profile: Profile, edition: u32, out: &mut [u8; 262144]) -> usize
     ensures { λ r. ⌜ r ≤ 262144 ⌝ }
 {
     if case.len() < TEXT {
@@ -223,7 +228,15 @@ fn beside(case: &[u8], edition: u32, out: &mut [u8; 262144]) -> usize
     }
     let mut rows: [u32; MOST_NUMBERS] = [0; MOST_NUMBERS];
     listed(case, from, n, &mut rows);
-    lent(case, at, &case[TEXT..from], &rows[..n], edition, out)
+    lent(
+        case,
+        at,
+        &case[TEXT..from],
+        &rows[..n],
+        profile,
+        edition,
+        out,
+    )
 }
 
 // The halves of a number.
@@ -312,7 +325,7 @@ fn refused(case: &[u8], out: &mut [u8; 262144]) -> usize
     asked(&case[REFUSED..], size, n, edition, limit, code, at, out)
 }
 
-// The first byte of a case that is no input of `rows`; the second tells whether it has names, and an edition, or is about a refused token.
+// The first byte of a case that is no input of `rows`; the second tells whether it has names, and an edition, and reads a guard, or is about a refused token.
 const MARK: u8 = 0x52;
 
 const ROOMS: u8 = 0x4D;
@@ -323,6 +336,8 @@ const EDITION: u8 = 0x4F;
 
 const KINDS: u8 = 0x50;
 
+const GUARD: u8 = 0x51;
+
 // The answer to a case with this mark.
 fn marked(case: &[u8], out: &mut [u8; 262144]) -> usize
     requires { ⌜ 22 ≤ length (now case) ⌝ }
@@ -331,19 +346,22 @@ fn marked(case: &[u8], out: &mut [u8; 262144]) -> usize
     if case[1] == ROOMS {
         let names: [u8; 0] = [0; 0];
         let rows: [u32; 0] = [0; 0];
-        return lent(case, INPUT, &names, &rows, FIRST, out);
+        return lent(case, INPUT, &names, &rows, Profile::Script, FIRST, out);
     }
     if case[1] == NAMES {
-        return beside(case, FIRST, out);
+        return beside(case, Profile::Script, FIRST, out);
     }
     if case[1] == KINDS {
         return refused(case, out);
     }
-    if case[1] != EDITION {
-        return bad(out);
-    }
     // the last two bytes of the edition stand where the mark would
-    beside(&case[4..], four(case, 2), out)
+    if case[1] == EDITION {
+        return beside(&case[4..], Profile::Script, four(case, 2), out);
+    }
+    if case[1] == GUARD {
+        return beside(&case[4..], Profile::Guard, four(case, 2), out);
+    }
+    bad(out)
 }
 
 // Answers one case, and says whether there was one.

@@ -15,19 +15,20 @@ use Rattle.diagnostics.proofs.Reasons.{one-reason as one-whole}
 use Rattle.diagnostics.proofs.Places.{one-place as one-line}
 use Rattle.expected.proofs.Once.{one-told}
 use Rattle.grammar.specs.Builtin.{Builtins}
+use Rattle.grammar.specs.Profile.{Profile}
 use Rattle.grammar.specs.Room.{Rooms}
 use Rattle.naming.proofs.Telling.{one-place as one-name-place}
 use Rattle.reader.proofs.Texts.{one-read as one-answer}
 use Rattle.station.specs.Exports.{listed, placed, name-placed, told, put, Parses, Reads-text, Places, Writes, Writes-reason, Names-place, Tells-expected, Has-child, Has-places}
 use Rattle.syntax.proofs.Promises.{one-parse as one-tree}
 
-pub one-parse : {names : Builtins} {text ts : List ℕ} {edition limit : ℕ} {before after after′ : Rooms} {room out out′ : List ℕ} {r r′ : ℕ} → Parses names text ts edition limit before room after out r → Parses names text ts edition limit before room after′ out′ r′ → (r ≡ r′) × (out ≡ out′) × (after ≡ after′)
+pub one-parse : {p : Profile} {names : Builtins} {text ts : List ℕ} {edition limit : ℕ} {before after after′ : Rooms} {room out out′ : List ℕ} {r r′ : ℕ} → Parses p names text ts edition limit before room after out r → Parses p names text ts edition limit before room after′ out′ r′ → (r ≡ r′) × (out ≡ out′) × (after ≡ after′)
 one-parse (Parses.short h) (Parses.short i) = (refl, refl, refl)
 one-parse (Parses.short h) (Parses.parsed i q) = absurd (omega arith)
 one-parse (Parses.parsed h p) (Parses.short i) = absurd (omega arith)
 one-parse {room = room} (Parses.parsed h p) (Parses.parsed i q) = let (e, f) = one-tree p q in (ap (λ a. a .code) e, ap (λ a. put (listed a) room) e, f)
 
-pub one-read : {names : Builtins} {text : List ℕ} {edition limit : ℕ} {list tokens tokens′ : List ℕ} {before after after′ : Rooms} {room out out′ : List ℕ} {r r′ : ℕ} → Reads-text names text edition limit list before room tokens after out r → Reads-text names text edition limit list before room tokens′ after′ out′ r′ → (r ≡ r′) × (out ≡ out′) × (tokens ≡ tokens′) × (after ≡ after′)
+pub one-read : {p : Profile} {names : Builtins} {text : List ℕ} {edition limit : ℕ} {list tokens tokens′ : List ℕ} {before after after′ : Rooms} {room out out′ : List ℕ} {r r′ : ℕ} → Reads-text p names text edition limit list before room tokens after out r → Reads-text p names text edition limit list before room tokens′ after′ out′ r′ → (r ≡ r′) × (out ≡ out′) × (tokens ≡ tokens′) × (after ≡ after′)
 one-read (Reads-text.short h) (Reads-text.short i) = (refl, refl, refl, refl)
 one-read (Reads-text.short h) (Reads-text.read i q) = absurd (omega arith)
 one-read (Reads-text.read h p) (Reads-text.short i) = absurd (omega arith)

@@ -1,4 +1,4 @@
--- What the exported functions answer: what `parse_with`, `read_with`, `message`, `reason`, `expected`, the two `place` and, of what stands below a row, `child` and `places` answer. C gets an answer of more than one number at the start of a lent room, the
+-- What the exported functions answer: what `parse_as`, `read_as`, `message`, `reason`, `expected`, the two `place` and, of what stands below a row, `child` and `places` answer. C gets an answer of more than one number at the start of a lent room, the
 -- numbers in document 01's order, and its code once more as the value of the call. Where that room is too short the code is 13, and nothing else is done. Of what could have stood at a token the
 -- value of the call is the set of kinds, which stands in no room and is answered in any.
 use Prim.Native.Nat.{ℕ, _≤_, _<_}
@@ -15,6 +15,7 @@ use Rattle.expected.specs.Tells.{Tells}
 use Rattle.expected.specs.declared.Opening.{Opening}
 use Rattle.expected.specs.declared.Told.{Told}
 use Rattle.grammar.specs.Builtin.{Builtins}
+use Rattle.grammar.specs.Profile.{Profile}
 use Rattle.grammar.specs.Room.{Rooms}
 use Rattle.naming.specs.Name.{Place-told}
 use Rattle.naming.specs.declared.PlaceAnswer.{PlaceAnswer}
@@ -34,13 +35,13 @@ abbrev pub put : (numbers room : List ℕ) → List ℕ
 put numbers room = numbers ++ drop (length numbers) room
 
 -- room: for the answer, before the call; then the four rooms, the room for the answer, and the code after it
-pub data Parses (names : Builtins) (text ts : List ℕ) (edition limit : ℕ) (before : Rooms) (room : List ℕ) : Rooms → List ℕ → ℕ → Type 0 where
-  short : length room < 8 → Parses names text ts edition limit before room before room 13
-  parsed : {after : Rooms} {a : Numbers} → 8 ≤ length room → Parsed names text ts edition limit before after a → Parses names text ts edition limit before room after (put (listed a) room) (a .code)
+pub data Parses (p : Profile) (names : Builtins) (text ts : List ℕ) (edition limit : ℕ) (before : Rooms) (room : List ℕ) : Rooms → List ℕ → ℕ → Type 0 where
+  short : length room < 8 → Parses p names text ts edition limit before room before room 13
+  parsed : {after : Rooms} {a : Numbers} → 8 ≤ length room → Parsed p names text ts edition limit before after a → Parses p names text ts edition limit before room after (put (listed a) room) (a .code)
 
-pub data Reads-text (names : Builtins) (text : List ℕ) (edition limit : ℕ) (list : List ℕ) (before : Rooms) (room : List ℕ) : List ℕ → Rooms → List ℕ → ℕ → Type 0 where
-  short : length room < 8 → Reads-text names text edition limit list before room list before room 13
-  read : {tokens : List ℕ} {after : Rooms} {a : Numbers} → 8 ≤ length room → Read names text edition limit list tokens before after a → Reads-text names text edition limit list before room tokens after (put (listed a) room) (a .code)
+pub data Reads-text (p : Profile) (names : Builtins) (text : List ℕ) (edition limit : ℕ) (list : List ℕ) (before : Rooms) (room : List ℕ) : List ℕ → Rooms → List ℕ → ℕ → Type 0 where
+  short : length room < 8 → Reads-text p names text edition limit list before room list before room 13
+  read : {tokens : List ℕ} {after : Rooms} {a : Numbers} → 8 ≤ length room → Read p names text edition limit list tokens before after a → Reads-text p names text edition limit list before room tokens after (put (listed a) room) (a .code)
 
 pub data Places (text : List ℕ) (offset : ℕ) (room : List ℕ) : List ℕ → ℕ → Type 0 where
   short : length room < 3 → Places text offset room room 13

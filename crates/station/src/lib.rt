@@ -1,4 +1,4 @@
-// What a station links: `parse_with` and `read_with`, both of edition 1 beside no names too, the message of a refusal and the text of any, what could have stood there, the
+// What a station links: `parse_with`, `read_with` and the same of guards, those of scripts of edition 1 beside no names too, the message of a refusal and the text of any, what could have stood there, the
 // line of a place, the place of a name and what stands below a row, for C and Rust to call, over numbers and slices alone. None has a `requires`. A slice is a pointer and a
 // length to C, in this order.
 use children::below;
@@ -10,17 +10,20 @@ use diagnostics::text::message;
 use expected::Chain;
 use expected::Told;
 use expected::expected;
-use reader::read_with;
+use reader::read_as;
 use syntax::Numbers;
-use syntax::parse_with;
+use syntax::parse_as;
 use token::editions;
+use token::profiles::Profile;
 ghost use Prim.Native.Nat.{_≤_};
 ghost use mathlib.Core.Path.{_≡_};
 ghost use lib.ListN.{length};
 ghost use Rattle.grammar.specs.Builtin.{builtins as names-in, none};
+ghost use Rattle.grammar.specs.Profile.{script as a-script, guard as a-guard};
 ghost use Rattle.ast.specs.Written.{Written};
 ghost use Rattle.station.specs.Exports.{listed, put, pairs, told, Parses, Reads-text, Places, Writes, Writes-reason, Names-place, Tells-expected, Has-child, Has-places};
 ghost use Rattle.syntax.specs.Parsed.{rooms};
+ghost use Rattle.token.specs.Profiled.{profiled};
 
 // Puts the eight numbers of an answer at the start of a room.
 fn list(a: Numbers, room: &mut [u32])
@@ -35,6 +38,43 @@ fn list(a: Numbers, room: &mut [u32])
     room[5] = a.start;
     room[6] = a.end;
     room[7] = a.expected;
+}
+
+// Reads a script or a guard that is given as text and tokens: `parse_as`.
+fn parsed(
+    names: &[u8],
+    rows: &[u32],
+    text: &[u8],
+    tokens: &[u32],
+    profile: Profile,
+    edition: u32,
+    limit: u32,
+    nodes: &mut [u32],
+    links: &mut [u32],
+    symbols: &mut [u32],
+    scratch: &mut [u32],
+    answer: &mut [u32],
+) -> u32
+    ensures { λ r. ⌜ Parses (profiled profile) (names-in (now (names .entry)) (now (rows .entry))) (now (text .entry)) (now (tokens .entry)) edition limit (rooms (now (nodes .entry)) (now (links .entry)) (now (symbols .entry)) (now (scratch .entry))) (now (answer .entry)) (rooms (now (nodes .exit)) (now (links .exit)) (now (symbols .exit)) (now (scratch .exit))) (now (answer .exit)) r ⌝ }
+{
+    if answer.len() < 8 {
+        return 13;
+    }
+    let a = parse_as(
+        names,
+        rows,
+        text,
+        tokens,
+        profile,
+        edition,
+        limit,
+        nodes,
+        links,
+        symbols,
+        scratch,
+    );
+    list(a, answer);
+    a.code
 }
 
 // Reads a script that is given as text and tokens, of an edition and beside built-in names: `parse_with`.
@@ -54,25 +94,56 @@ pub extern "C" fn kaori_parse_with(
     scratch: &mut [u32],
     answer: &mut [u32],
 ) -> u32
-    ensures { λ r. ⌜ Parses (names-in (now (names .entry)) (now (rows .entry))) (now (text .entry)) (now (tokens .entry)) edition limit (rooms (now (nodes .entry)) (now (links .entry)) (now (symbols .entry)) (now (scratch .entry))) (now (answer .entry)) (rooms (now (nodes .exit)) (now (links .exit)) (now (symbols .exit)) (now (scratch .exit))) (now (answer .exit)) r ⌝ }
+    ensures { λ r. ⌜ Parses a-script (names-in (now (names .entry)) (now (rows .entry))) (now (text .entry)) (now (tokens .entry)) edition limit (rooms (now (nodes .entry)) (now (links .entry)) (now (symbols .entry)) (now (scratch .entry))) (now (answer .entry)) (rooms (now (nodes .exit)) (now (links .exit)) (now (symbols .exit)) (now (scratch .exit))) (now (answer .exit)) r ⌝ }
 {
-    if answer.len() < 8 {
-        return 13;
-    }
-    let a = parse_with(
+    parsed(
         names,
         rows,
         text,
         tokens,
+        Profile::Script,
         edition,
         limit,
         nodes,
         links,
         symbols,
         scratch,
-    );
-    list(a, answer);
-    a.code
+        answer,
+    )
+}
+
+// Reads a guard that is given as text and tokens, of an edition and beside built-in names: `guard_with`.
+// Ruled out: a script's answer, with its root; another edition than the caller's.
+#[no_mangle]
+pub extern "C" fn kaori_guard_with(
+    names: &[u8],
+    rows: &[u32],
+    text: &[u8],
+    tokens: &[u32],
+    edition: u32,
+    limit: u32,
+    nodes: &mut [u32],
+    links: &mut [u32],
+    symbols: &mut [u32],
+    scratch: &mut [u32],
+    answer: &mut [u32],
+) -> u32
+    ensures { λ r. ⌜ Parses a-guard (names-in (now (names .entry)) (now (rows .entry))) (now (text .entry)) (now (tokens .entry)) edition limit (rooms (now (nodes .entry)) (now (links .entry)) (now (symbols .entry)) (now (scratch .entry))) (now (answer .entry)) (rooms (now (nodes .exit)) (now (links .exit)) (now (symbols .exit)) (now (scratch .exit))) (now (answer .exit)) r ⌝ }
+{
+    parsed(
+        names,
+        rows,
+        text,
+        tokens,
+        Profile::Guard,
+        edition,
+        limit,
+        nodes,
+        links,
+        symbols,
+        scratch,
+        answer,
+    )
 }
 
 // Reads a script of edition 1 that is given as text and tokens, beside no names.
@@ -88,7 +159,7 @@ pub extern "C" fn kaori_parse(
     scratch: &mut [u32],
     answer: &mut [u32],
 ) -> u32
-    ensures { λ r. ⌜ Parses none (now (text .entry)) (now (tokens .entry)) 1 limit (rooms (now (nodes .entry)) (now (links .entry)) (now (symbols .entry)) (now (scratch .entry))) (now (answer .entry)) (rooms (now (nodes .exit)) (now (links .exit)) (now (symbols .exit)) (now (scratch .exit))) (now (answer .exit)) r ⌝ }
+    ensures { λ r. ⌜ Parses a-script none (now (text .entry)) (now (tokens .entry)) 1 limit (rooms (now (nodes .entry)) (now (links .entry)) (now (symbols .entry)) (now (scratch .entry))) (now (answer .entry)) (rooms (now (nodes .exit)) (now (links .exit)) (now (symbols .exit)) (now (scratch .exit))) (now (answer .exit)) r ⌝ }
 {
     let names: [u8; 0] = [0; 0];
     let rows: [u32; 0] = [0; 0];
@@ -105,6 +176,43 @@ pub extern "C" fn kaori_parse(
         scratch,
         answer,
     )
+}
+
+// Reads a script or a guard that is given as text; `tokens` takes its token list: `read_as`.
+fn read_text(
+    names: &[u8],
+    rows: &[u32],
+    text: &[u8],
+    tokens: &mut [u32],
+    profile: Profile,
+    edition: u32,
+    limit: u32,
+    nodes: &mut [u32],
+    links: &mut [u32],
+    symbols: &mut [u32],
+    scratch: &mut [u32],
+    answer: &mut [u32],
+) -> u32
+    ensures { λ r. ⌜ Reads-text (profiled profile) (names-in (now (names .entry)) (now (rows .entry))) (now (text .entry)) edition limit (now (tokens .entry)) (rooms (now (nodes .entry)) (now (links .entry)) (now (symbols .entry)) (now (scratch .entry))) (now (answer .entry)) (now (tokens .exit)) (rooms (now (nodes .exit)) (now (links .exit)) (now (symbols .exit)) (now (scratch .exit))) (now (answer .exit)) r ⌝ }
+{
+    if answer.len() < 8 {
+        return 13;
+    }
+    let a = read_as(
+        names,
+        rows,
+        text,
+        tokens,
+        profile,
+        edition,
+        limit,
+        nodes,
+        links,
+        symbols,
+        scratch,
+    );
+    list(a, answer);
+    a.code
 }
 
 // Reads a script that is given as text, of an edition and beside built-in names; `tokens` takes its token list: `read_with`.
@@ -124,25 +232,56 @@ pub extern "C" fn kaori_read_with(
     scratch: &mut [u32],
     answer: &mut [u32],
 ) -> u32
-    ensures { λ r. ⌜ Reads-text (names-in (now (names .entry)) (now (rows .entry))) (now (text .entry)) edition limit (now (tokens .entry)) (rooms (now (nodes .entry)) (now (links .entry)) (now (symbols .entry)) (now (scratch .entry))) (now (answer .entry)) (now (tokens .exit)) (rooms (now (nodes .exit)) (now (links .exit)) (now (symbols .exit)) (now (scratch .exit))) (now (answer .exit)) r ⌝ }
+    ensures { λ r. ⌜ Reads-text a-script (names-in (now (names .entry)) (now (rows .entry))) (now (text .entry)) edition limit (now (tokens .entry)) (rooms (now (nodes .entry)) (now (links .entry)) (now (symbols .entry)) (now (scratch .entry))) (now (answer .entry)) (now (tokens .exit)) (rooms (now (nodes .exit)) (now (links .exit)) (now (symbols .exit)) (now (scratch .exit))) (now (answer .exit)) r ⌝ }
 {
-    if answer.len() < 8 {
-        return 13;
-    }
-    let a = read_with(
+    read_text(
         names,
         rows,
         text,
         tokens,
+        Profile::Script,
         edition,
         limit,
         nodes,
         links,
         symbols,
         scratch,
-    );
-    list(a, answer);
-    a.code
+        answer,
+    )
+}
+
+// Reads a guard that is given as text, of an edition and beside built-in names; `tokens` takes its token list: `read_guard_with`.
+// Ruled out: a script's answer, with its root; an answer that leaves the list as it was where the token maker made one.
+#[no_mangle]
+pub extern "C" fn kaori_read_guard_with(
+    names: &[u8],
+    rows: &[u32],
+    text: &[u8],
+    tokens: &mut [u32],
+    edition: u32,
+    limit: u32,
+    nodes: &mut [u32],
+    links: &mut [u32],
+    symbols: &mut [u32],
+    scratch: &mut [u32],
+    answer: &mut [u32],
+) -> u32
+    ensures { λ r. ⌜ Reads-text a-guard (names-in (now (names .entry)) (now (rows .entry))) (now (text .entry)) edition limit (now (tokens .entry)) (rooms (now (nodes .entry)) (now (links .entry)) (now (symbols .entry)) (now (scratch .entry))) (now (answer .entry)) (now (tokens .exit)) (rooms (now (nodes .exit)) (now (links .exit)) (now (symbols .exit)) (now (scratch .exit))) (now (answer .exit)) r ⌝ }
+{
+    read_text(
+        names,
+        rows,
+        text,
+        tokens,
+        Profile::Guard,
+        edition,
+        limit,
+        nodes,
+        links,
+        symbols,
+        scratch,
+        answer,
+    )
 }
 
 // Reads a script of edition 1 that is given as text, beside no names; `tokens` takes its token list.
@@ -158,7 +297,7 @@ pub extern "C" fn kaori_read(
     scratch: &mut [u32],
     answer: &mut [u32],
 ) -> u32
-    ensures { λ r. ⌜ Reads-text none (now (text .entry)) 1 limit (now (tokens .entry)) (rooms (now (nodes .entry)) (now (links .entry)) (now (symbols .entry)) (now (scratch .entry))) (now (answer .entry)) (now (tokens .exit)) (rooms (now (nodes .exit)) (now (links .exit)) (now (symbols .exit)) (now (scratch .exit))) (now (answer .exit)) r ⌝ }
+    ensures { λ r. ⌜ Reads-text a-script none (now (text .entry)) 1 limit (now (tokens .entry)) (rooms (now (nodes .entry)) (now (links .entry)) (now (symbols .entry)) (now (scratch .entry))) (now (answer .entry)) (now (tokens .exit)) (rooms (now (nodes .exit)) (now (links .exit)) (now (symbols .exit)) (now (scratch .exit))) (now (answer .exit)) r ⌝ }
 {
     let names: [u8; 0] = [0; 0];
     let rows: [u32; 0] = [0; 0];

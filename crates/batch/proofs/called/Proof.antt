@@ -15,7 +15,7 @@ slice-aggregate-parse-with c = let m = measured (c .before .before .before .befo
 
 told-requires : tie.Need-told-requires
 told-requires c κs =
-    let call = c .before .before .before .before .before .before .before .before .before .before .before .before .before .parse-with in
+    let call = c .before .before .before .before .before .before .before .before .before .before .before .before .before .parse-as in
     let pre = c .before .before .before .before .before .before .before .before .before .before .before .before .before .before .before .before .before .before .before .before .before .before .before .before .before .before .before .before .before .before .pre in
     (omega (arith, call .kept .1 .1 .1 .1 .1 .1 .0, pre .1), omega (arith, call .kept .1 .1 .1 .1 .1 .1 .1 .0, pre .2), omega (arith, call .kept .1 .1 .1 .1 .1 .1 .1 .1 .0, pre .3), omega (arith, call .kept .1 .1 .1 .1 .1 .1 .1 .1 .1 .0, pre .4))
 
