@@ -11,7 +11,7 @@ use Rattle.grammar.specs.Pattern.{bytes, from-to}
 use Rattle.diagnostics.specs.Message.{text-of}
 use Rattle.diagnostics.specs.declared.Message.{Message}
 
--- by code, from 0; none for 8 to 11, which have their message, for 16, which has two texts, and for 12, 17, 19 and 20, which no caller meets
+-- by code, from 0; none for 8 to 11, which have their message, for 16, which has two texts, and for 12, 19 and 20, which no caller meets
 abbrev pub texts : List String
 texts =
     "" ∷
@@ -26,7 +26,8 @@ texts =
     "too little room for the answer" ∷
     "a place past the end of the text" ∷
     "no such row or name" ∷
-    "" ∷ "" ∷
+    "" ∷
+    "a guard has no {, if, | or #" ∷
     "the built-in names are wrong" ∷
     "" ∷ "" ∷
     "the edition is neither 1 nor 2" ∷ []

@@ -11,7 +11,7 @@ ghost use Rattle.diagnostics.specs.Reason.{last, tabled, table, begins, 
 
 // The texts one after the other: those of the codes, and then that of a string that is not closed. One table is checked faster than an arm with bytes of its own for each
 // code.
-const TEXTS: [u8; 454] = *b"\
+const TEXTS: [u8; 482] = *b"\
     too many tokens: a script has at most 4,095\
     file too large: a script has at most 65,536 bytes\
     the depth limit is not from 1 to 64\
@@ -23,6 +23,7 @@ const TEXTS: [u8; 454] = *b"\
     a place past the end of the text\
     no such row or name\
     no token starts here\
+    a guard has no {, if, | or #\
     the built-in names are wrong\
     the edition is neither 1 nor 2\
     a string that is not closed";
@@ -47,12 +48,12 @@ const STARTS: [u16; 24] = [
     330,
     349,
     369,
-    369,
     397,
-    397,
-    397,
-    427,
-    454,
+    425,
+    425,
+    425,
+    455,
+    482,
 ];
 
 // The place of the string's text in the table, and of no text.
@@ -125,7 +126,7 @@ fn which(text: &[u8], code: u32, start: u32) -> usize
 }
 
 // The texts, to be lent: to name a constant array copies it.
-fn texts() -> [u8; 454]
+fn texts() -> [u8; 482]
     ensures { λ r. ⌜ r ≡ table ⌝ }
 {
     TEXTS

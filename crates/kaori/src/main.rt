@@ -1,7 +1,8 @@
-// The command `kaori`, for those who write scripts: what a script reads as, what is wrong with it, what stands at a place of it, and what the editions group differently.
+// The command `kaori`, for those who write scripts: what a script reads as, what is wrong with it, what stands at a place of it, what the editions group differently, and what a guard reads as.
 mod builtin;
 mod compare;
 mod digits;
+mod guard;
 mod load;
 mod script;
 
@@ -12,6 +13,7 @@ use builtins::NAME_WIDTH;
 use check::same;
 use compare::compare;
 use digits::decimal;
+use guard::guard;
 use libc::STDOUT_FILENO;
 use load::complain;
 use load::fail;
@@ -23,7 +25,7 @@ ghost use Prim.Native.Nat.{_≤_, _<_};
 ghost use lib.ListN.{length};
 
 // The text of `help`. It is one string, since each one is checked by itself.
-const HELP: [u8; 1521] = *b"\
+const HELP: [u8; 1606] = *b"\
     kaori shows how Kaori reads a script.\n\
     \n\
     \x20 kaori check FILE ..         says what is wrong with a script, and where, and warns of what may not be meant\n\
@@ -32,6 +34,7 @@ const HELP: [u8; 1521] = *b"\
     \x20 kaori all FILE ..           the tree and then the rows\n\
     \x20 kaori at FILE LINE COLUMN   shows what stands at a place, from the innermost node outward\n\
     \x20 kaori compare FILE ..       shows what editions 1 and 2 of Kaori group differently\n\
+    \x20 kaori guard TEXT ..         shows what a guard reads as: one expression, with no ;\n\
     \x20 kaori .. then ..            one after the other\n\
     \x20 kaori help                  this text; so do --help and -h\n\
     \x20 kaori --version             which kaori this is\n\
@@ -59,9 +62,9 @@ const UNDONE: u32 = 2;
 const STOPPED: u32 = 3;
 
 // The words that a command may have: a cell of 10 bytes each.
-const WORDS: [u8; 140] = *b"\
-    check     compare   at        tree      all       rows      help      --help    -h        --version \
-    --edition --names   --json    --strict  ";
+const WORDS: [u8; 150] = *b"\
+    check     compare   at        guard     tree      all       rows      help      --help    -h        \
+    --version --edition --names   --json    --strict  ";
 
 const CELL: usize = 10;
 
@@ -71,23 +74,25 @@ const COMPARE: usize = 1;
 
 const AT: usize = 2;
 
-const TREE: usize = 3;
+const GUARD: usize = 3;
 
-const ROWS_WORD: usize = 5;
+const TREE: usize = 4;
 
-const HELP_WORD: usize = 6;
+const ROWS_WORD: usize = 6;
 
-const VERSION: usize = 9;
+const HELP_WORD: usize = 7;
 
-const EDITION: usize = 10;
+const VERSION: usize = 10;
 
-const NAMES: usize = 11;
+const EDITION: usize = 11;
 
-const JSON: usize = 12;
+const NAMES: usize = 12;
 
-const STRICT: usize = 13;
+const JSON: usize = 13;
 
-const NO_WORD: usize = 14;
+const STRICT: usize = 14;
+
+const NO_WORD: usize = 15;
 
 // The number of a word that blanks fill up.
 fn cell_of(word: &[u8; 10]) -> usize {
@@ -201,17 +206,38 @@ fn refuse(i: usize, why: &[u8]) -> u32
 // Whether a word is an option.
 fn is_option(word: usize) -> bool {
     match word {
-        10..=13 => true,
+        11..=14 => true,
         _ => false,
     }
 }
 
-// The file that an argument names.
+// The guard that argument i is.
+fn guarded(names: &[u8], rows: &[u32], edition: u32, i: usize, out: &mut [u8; 4096]) -> u32
+    ensures { λ r. ⌜ r ≤ 3 ⌝ }
+{
+    let mut text = io::large_buffer();
+    let n = os::arg(i, &mut text);
+    if os::errno() != 0 {
+        fail(b"guard");
+        return UNDONE;
+    }
+    let status = guard(names, rows, edition, &text[..n], out);
+    if os::errno() != 0 {
+        fail(b"standard output");
+        return STOPPED;
+    }
+    status
+}
+
+// The file that an argument names, or the guard that it is.
 fn argument(names: &[u8], rows: &[u32], wish: Wish, i: usize, out: &mut [u8; 4096]) -> u32
     ensures { λ r. ⌜ r ≤ 3 ⌝ }
 {
     if is_option(word_at(i)) {
         return refuse(i, b": options stand before the files; see kaori help");
+    }
+    if wish.guard {
+        return guarded(names, rows, wish.edition, i, out);
     }
     let mut path = io::buffer();
     let n = os::arg(i, &mut path);
@@ -233,12 +259,16 @@ fn worse(a: u32, b: u32) -> u32
     a
 }
 
-// The files that the arguments from `first` up to `end` name.
+// The files, or guards, of the arguments from `first` up to `end`.
 fn files(names: &[u8], rows: &[u32], wish: Wish, first: usize, end: usize) -> u32
     ensures { λ r. ⌜ r ≤ 3 ⌝ }
 {
     let mut out = io::buffer();
     if first >= end {
+        if wish.guard {
+            complain(b"guard", b" takes a text; see kaori help");
+            return UNDONE;
+        }
         complain(b"no file", b" is named; see kaori help");
         return UNDONE;
     }
@@ -304,7 +334,7 @@ struct Choice {
 // Whether a command shows trees.
 fn is_tree(word: usize) -> bool {
     match word {
-        3..=4 => true,
+        4..=5 => true,
         _ => false,
     }
 }
@@ -318,6 +348,7 @@ fn wish_of(word: usize, choice: Choice, many: usize) -> Wish {
         rows: word > TREE,
         heads: false,
         compare: word == COMPARE,
+        guard: word == GUARD,
         json: choice.json,
         strict: choice.strict,
         line: 0,
@@ -480,7 +511,7 @@ fn takes(word: usize, choice: Choice) -> bool {
     true
 }
 
-// A command that shows files, with its options.
+// A command that shows files or guards, with its options.
 fn run(word: usize, choice: Choice, end: usize) -> u32
     requires { ⌜ choice .next ≤ end ⌝ }
     ensures { λ r. ⌜ r ≤ 3 ⌝ }

@@ -21,8 +21,8 @@ use telling::tell_json;
 use warning::warn;
 ghost use Prim.Native.Nat.{_≤_};
 
-// What is asked for: the edition; the report of a refusal, the statements with their trees, the rows; the names of files above them; both editions side by side; all of
-// it for a program to read; that a warning counts; and what stands at a line and a column, unless the line is 0.
+// What is asked for: the edition; the report of a refusal, the statements with their trees, the rows; the names of files above them; both editions side by side; guards and no
+// files; all of it for a program to read; that a warning counts; and what stands at a line and a column, unless the line is 0.
 pub struct Wish {
     pub edition: u32,
     pub report: bool,
@@ -30,6 +30,7 @@ pub struct Wish {
     pub rows: bool,
     pub heads: bool,
     pub compare: bool,
+    pub guard: bool,
     pub json: bool,
     pub strict: bool,
     pub line: u32,

@@ -1,4 +1,4 @@
-// The statements of a script, one after the other: where each starts, how it is read, and its tree.
+// The statements of a script, one after the other: where each starts, how it is read, and its tree. And a guard.
 use crate::cover::cover;
 use crate::cover::noted;
 use crate::cover::part_of;
@@ -60,6 +60,27 @@ fn show(
     tree(text, nodes, links, covers, built, out, row, 0, false);
 }
 
+// An expression alone: its first line, how it is read, and its tree.
+fn show_alone(
+    text: &[u8],
+    nodes: &[u32],
+    links: &[u32],
+    covers: &[u32],
+    built: usize,
+    out: &mut [u8; 4096],
+    row: u32,
+) {
+    let part = part_of(covers, row);
+    let head = put_first_line(text, part.start, part.end, 72, out, 0);
+    end_line(out, head);
+    put_line(b"  reads as", out);
+    let from = indent(4, 0, out, 0);
+    let said = say(text, nodes, links, out, row, 0, from);
+    end_line(out, said);
+    put_line(b"  tree", out);
+    tree(text, nodes, links, covers, built, out, row, 0, false);
+}
+
 // The statements of a script, whose root is `root`.
 fn show_all(
     text: &[u8],
@@ -99,4 +120,23 @@ pub fn show_statements(
     cover(list, nodes, links, rows, &mut covers);
     mark(text, list, nodes, rows, &mut covers);
     show_all(text, nodes, links, &covers, built, out, rows - 1);
+}
+
+// A guard that is read. Its expression has the last row.
+pub fn show_guard(
+    text: &[u8],
+    list: &[u32],
+    nodes: &[u32],
+    links: &[u32],
+    rows: u32,
+    built: usize,
+    out: &mut [u8; 4096],
+) {
+    if rows == 0 {
+        return;
+    }
+    let mut covers = noted();
+    cover(list, nodes, links, rows, &mut covers);
+    mark(text, list, nodes, rows, &mut covers);
+    show_alone(text, nodes, links, &covers, built, out, rows - 1);
 }

@@ -1,4 +1,4 @@
-// What is said of a script that is refused: the place and the message, the line of the text, and below it what could have stood there and what is open.
+// What is said of a script or a guard that is refused: the place and the message, the line of the text, and below it what could have stood there and what is open.
 mod could;
 mod hints;
 mod open;
@@ -102,6 +102,12 @@ pub fn tell(
     let caret = caret_of(list, a.code, a.at, a.start);
     report(path, text, why_of(list, a), caret, out);
     tell_more(edition, text, list, a, hint::LINES, out);
+}
+
+// Says what is wrong with a guard. What could have stood there is told of scripts alone.
+pub fn tell_guard(path: &[u8], text: &[u8], list: &[u32], a: Numbers, out: &mut [u8; 4096]) {
+    let caret = caret_of(list, a.code, a.at, a.start);
+    report(path, text, why_of(list, a), caret, out);
 }
 
 // The message as a string of JSON. It is made in a room of its own.
