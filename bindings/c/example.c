@@ -1,5 +1,6 @@
 /* Reads a script and prints what the program `rows` prints of it. Of a refusal it prints its text, its line as well, what
-   could have stood there, and what was open: `example LIMIT EDITION < script`. */
+   could have stood there, and what was open: `example LIMIT EDITION < script`. With a third word it reads a guard, which has
+   no such hint. */
 #include "kaori.h"
 
 #include <inttypes.h>
@@ -63,14 +64,16 @@ static void explain(const uint32_t *answer, size_t length) {
 int main(int argc, char **argv) {
     uint32_t limit = argc > 1 ? (uint32_t)strtoul(argv[1], NULL, 10) : KAORI_LIMIT_MAX;
     uint32_t edition = argc > 2 ? (uint32_t)strtoul(argv[2], NULL, 10) : KAORI_FIRST_EDITION;
+    int is_guard = argc > 3;
     uint32_t answer[KAORI_ANSWER_ROOM];
     size_t length = fread(text, 1, sizeof text, stdin);
     /* beside no names: their pointers are not null */
-    if (kaori_read_with(no_names, 0, no_rows, 0, text, length, tokens, LENGTH(tokens), edition, limit, nodes, LENGTH(nodes),
-                        links, LENGTH(links), symbols, LENGTH(symbols), scratch, LENGTH(scratch), answer,
-                        LENGTH(answer)) != KAORI_OK) {
+    uint32_t code = (is_guard ? kaori_read_guard_with : kaori_read_with)(
+        no_names, 0, no_rows, 0, text, length, tokens, LENGTH(tokens), edition, limit, nodes, LENGTH(nodes), links,
+        LENGTH(links), symbols, LENGTH(symbols), scratch, LENGTH(scratch), answer, LENGTH(answer));
+    if (code != KAORI_OK) {
         explain(answer, length);
-        tell(answer, edition, limit);
+        if (!is_guard) tell(answer, edition, limit);
         return 1;
     }
     printf("ok %" PRIu32 " %" PRIu32 " %" PRIu32 "\n", answer[KAORI_NODES], answer[KAORI_LINKS], answer[KAORI_SYMBOLS]);

@@ -1,5 +1,5 @@
-/* The proved reader of Kaori scripts, for C. Link libstation.a, which `rt staticlib station` writes for x86-64 Linux;
-   it needs memcpy and memset of the C library and nothing else.
+/* The proved reader of Kaori scripts and guards, for C. Link libstation.a, which `rt staticlib station` writes for x86-64
+   Linux; it needs memcpy and memset of the C library and nothing else.
 
    Every function takes any numbers and any rooms, ends, and has one answer. What the proof cannot see, the caller sees to:
    - a pointer is not null, also where its length is 0, and is aligned for its type;
@@ -37,8 +37,8 @@ enum { KAORI_TOKENS_MAX = 4096, KAORI_TEXT_MAX = 65536, KAORI_LIMIT_MAX = 64, KA
    may follow a `)` that closes an expression. */
 enum { KAORI_FIRST_EDITION = 1, KAORI_SECOND_EDITION = 2 };
 
-/* The least room for an answer of the four functions that read a script, for one of kaori_place, for one of kaori_name, for
-   a text of kaori_message or kaori_reason, and for what kaori_expected tells. */
+/* The least room for an answer of the six functions that read, for one of kaori_place, for one of kaori_name, for a text of
+   kaori_message or kaori_reason, and for what kaori_expected tells. */
 enum {
     KAORI_ANSWER_ROOM = 8,
     KAORI_PLACE_ROOM = 3,
@@ -47,10 +47,10 @@ enum {
     KAORI_TOLD_ROOM = 131
 };
 
-/* What stands where in an answer of the four that read a script. After 0: code, three counts of rows, 0, 0, 0, 255. After
-   a refusal: code, 0, 0, 0, the number of the token, where it starts and ends in the text, and the kind of token that
-   was required there, or 255. Refusals 5 and 16 have no token but a byte, and 1, 2, 3, 18, 21 and a 4 that was not met in
-   reading have no place: their numbers are then 0. */
+/* What stands where in an answer of the six that read. After 0: code, three counts of rows, 0, 0, 0, 255. After a refusal:
+   code, 0, 0, 0, the number of the token, where it starts and ends in the text, and the kind of token that was required
+   there, or 255. Refusals 5 and 16 have no token but a byte, and 1, 2, 3, 18, 21 and a 4 that was not met in reading have no
+   place: their numbers are then 0. */
 enum {
     KAORI_CODE,
     KAORI_NODES,
@@ -97,6 +97,7 @@ enum {
     KAORI_PAST_TEXT = 14,      /* of kaori_place: the offset is past the text */
     KAORI_NO_NAME = 15,        /* of kaori_name: the symbol is not below the count, or its row does not fit its text */
     KAORI_NO_TOKEN = 16,       /* of kaori_read: no token starts at a byte */
+    KAORI_OUTSIDE = 17,        /* of a guard: a token that no guard has, `{`, `if`, `|` or `#`. After 7, before reading */
     KAORI_BAD_NAMES = 18,      /* the built-in names: their text is over 65,536 bytes, they are over 64, a span is wrong, one
                                   is no identifier, or two are the same. After a 4 for scratch, before any other 4 */
     KAORI_BAD_EDITION = 21     /* the edition is neither 1 nor 2. After 3, before any 4 */
@@ -106,7 +107,7 @@ enum {
 enum { KAORI_NO_KIND = 255 };
 
 /* The absent number of a row: a block's tail, an `else`, a map entry's value, what a `return` of edition 2 gives back, the
-   root's parent. */
+   last row's parent. */
 #define KAORI_ABSENT UINT32_C(4294967295)
 
 /* Kinds of tokens, 0 to 44. */
@@ -164,7 +165,7 @@ enum {
    an earlier one. NAME is three numbers: symbol, start, end. LIST is two: first link row, how many. The parent is the one
    row, always a later one, that has this row as a child or in a list. The last row is the script's root, a block with the
    span 0, 0 and no tail; its parent is absent, and no other row's is. So from any row, parent by parent, the root is
-   reached. */
+   reached. A guard has no root: its last row is the expression's own, whose parent is absent in the same way. */
 enum {
     KAORI_NODE_BINARY = 1,      /* operator, left, right; operators from 0: + - * / % == != > >= < <= */
     KAORI_NODE_AND,             /* left, right */
@@ -217,7 +218,9 @@ enum { KAORI_PARENT = 9 };
    row did not fit, and all rooms are left zeros. A symbol's row is met at its name or string, a node's links and then its
    row at the token after the node, the root's at the Eof, and there too an import's that the Eof stops. Tell the two apart
    by what was lent, not by the answer: of an Eof alone with the span 0, 0 and no node row the eight numbers are
-   4 0 0 0 0 0 0 255, as they are for scratch. */
+   4 0 0 0 0 0 0 255, as they are for scratch.
+   A guard has the rows of the script that it is with a `;` behind it, each met at the same token, but for the root's row and
+   its link. */
 
 /* Reads a script of edition 1 that is given as its text and its tokens.
    Takes: the text; the tokens, three numbers each (kind, start, end), Eof last; the depth limit, 1 to 64; four rooms,
@@ -262,6 +265,28 @@ uint32_t kaori_read_with(const uint8_t *names, size_t names_len, const uint32_t 
                          uint32_t *symbols, size_t symbols_len, uint32_t *scratch, size_t scratch_len,
                          uint32_t *answer, size_t answer_len);
 
+/* Reads a guard that is given as its text and its tokens, beside built-in names and in the edition that is named: one
+   expression, and then Eof, with no `;`.
+   Takes: what kaori_parse_with takes. No token may be `{`, `if`, `|` or `#`.
+   Answers: the code: 0, 1 to 9, 11, 13, 17, 18 or 21. 17 comes after 7 and before reading, at the first token of the list
+   that is one of the four; its numbers are that token's, and no kind is required there. All else is as in
+   kaori_parse_with, but that where tokens remain behind the expression it is 8, and Eof is required.
+   Leaves: as kaori_parse_with, and after 17 the four rooms as they were. After 0 there is no root: the last row is the
+   expression's own, and its parent is absent. */
+uint32_t kaori_guard_with(const uint8_t *names, size_t names_len, const uint32_t *name_rows, size_t name_rows_len,
+                          const uint8_t *text, size_t text_len, const uint32_t *tokens, size_t tokens_len,
+                          uint32_t edition, uint32_t limit, uint32_t *nodes, size_t nodes_len, uint32_t *links,
+                          size_t links_len, uint32_t *symbols, size_t symbols_len, uint32_t *scratch,
+                          size_t scratch_len, uint32_t *answer, size_t answer_len);
+
+/* And from its text alone, as kaori_read_with: the token maker's refusals come first, then 3, 21, 4, 18, 17, 8, 9 and 11 as
+   kaori_guard_with has them. After 17 the tokens stand in their room, as after any refusal that is not the token maker's. */
+uint32_t kaori_read_guard_with(const uint8_t *names, size_t names_len, const uint32_t *name_rows, size_t name_rows_len,
+                               const uint8_t *text, size_t text_len, uint32_t *tokens, size_t tokens_len,
+                               uint32_t edition, uint32_t limit, uint32_t *nodes, size_t nodes_len, uint32_t *links,
+                               size_t links_len, uint32_t *symbols, size_t symbols_len, uint32_t *scratch,
+                               size_t scratch_len, uint32_t *answer, size_t answer_len);
+
 /* The text of a refusal, with no byte 0 at its end.
    Takes: the refusal's code and `expected`; the kind of the token at its place; and a room of 52 bytes or more.
    Answers: the text's length, at most 52. It is 0 for a code that is not 8 to 11, where the text needs a kind over 44,
@@ -273,7 +298,7 @@ size_t kaori_message(uint32_t code, uint32_t expected, uint32_t found, uint8_t *
    Takes: the script's text; the refusal's code, start and `expected`; the kind of the token at its place; and a room of 52
    bytes or more. The script's text matters for 16 alone, which has two: `a string that is not closed` where the byte at
    the start is a quote, and else `no token starts here`. The kinds matter for 8 and 9 alone, and may else be any numbers.
-   Answers: the text's length, at most 52. It is 0 for a number that is no code (0, 12, 17, 19, 20, and over 21), where the
+   Answers: the text's length, at most 52. It is 0 for a number that is no code (0, 12, 19, 20, and over 21), where the
    text needs a kind over 44, and for a room under 52 bytes.
    Leaves: the text at the room's start, all bytes past it as they were. */
 size_t kaori_reason(const uint8_t *text, size_t text_len, uint32_t code, uint32_t start, uint32_t expected,
@@ -292,7 +317,8 @@ size_t kaori_reason(const uint8_t *text, size_t text_len, uint32_t code, uint32_
    it is whole: what opens at the refused token is open there. After 11 there are as many as the limit. A room of fewer
    numbers stays as it was, and the set is answered all the same.
    For any other code, a list, an edition or a limit that is refused before reading, or a token at which reading is not
-   refused by this code, the set and the chain are empty: 0, and in the room 0, KAORI_NO_KIND and zeros. */
+   refused by this code, the set and the chain are empty: 0, and in the room 0, KAORI_NO_KIND and zeros.
+   A guard has no hint: the list is taken as a script's, and what is told then is not what could have stood in a guard. */
 uint64_t kaori_expected(const uint32_t *tokens, size_t tokens_len, uint32_t edition, uint32_t limit, uint32_t code,
                         uint32_t at, uint32_t *told, size_t told_len);
 

@@ -345,6 +345,192 @@ static void editions(void) {
     EXPECT(in_edition(&r, "a;", 2, 64, 0) == KAORI_SMALL_ROOM && four_are(&r, OLD));
 }
 
+/* A guard's text beside names, with so many numbers of scratch and of the answer's room. */
+static uint32_t guard_beside(rooms *r, const uint32_t *rows, size_t length, const char *text, uint32_t edition,
+                             uint32_t limit, size_t scratch, size_t room) {
+    return kaori_read_guard_with((const uint8_t *)names, strlen(names), rows, length, (const uint8_t *)text, strlen(text),
+                                 r->tokens, LENGTH(r->tokens), edition, limit, r->nodes, LENGTH(r->nodes), r->links,
+                                 LENGTH(r->links), r->symbols, LENGTH(r->symbols), r->scratch, scratch, r->answer, room);
+}
+
+static uint32_t guard(rooms *r, const char *text, uint32_t edition, uint32_t limit) {
+    return guard_beside(r, name_rows, 0, text, edition, limit, LENGTH(r->scratch), 8);
+}
+
+/* A guard's text and tokens, in the first numbers of the rooms: so many of nodes, links, symbols and scratch. */
+static uint32_t guard_in(rooms *r, const char *text, const uint32_t *tokens, size_t length, uint32_t edition,
+                         uint32_t limit, const size_t *n, size_t room) {
+    return kaori_guard_with((const uint8_t *)names, 0, name_rows, 0, (const uint8_t *)text, strlen(text), tokens, length,
+                            edition, limit, r->nodes, n[0], r->links, n[1], r->symbols, n[2], r->scratch, n[3], r->answer,
+                            room);
+}
+
+static const size_t whole_rooms[] = {KAORI_NODE_WIDTH * ROWS, KAORI_LINK_WIDTH * ROWS, KAORI_SYMBOL_WIDTH * ROWS, KAORI_SCRATCH_WIDTH * ROWS};
+
+/* A guard that is accepted in an edition, with all its rows. Behind the last one's parent, which is absent, stands no root. */
+typedef struct {
+    const char *text;
+    uint32_t edition, counts[3], nodes[KAORI_NODE_WIDTH * 5], links[KAORI_LINK_WIDTH], symbols[KAORI_SYMBOL_WIDTH * 3];
+} guarded;
+
+static const guarded guards[] = {
+    {"a", 1, {1, 0, 1}, {KAORI_NODE_IDENTIFIER, 0, 1, 0, 0, 1, 0, 0, 0, KAORI_ABSENT}, {0}, {0, 1}},
+    {"typed == 0 and refreshed", 1, {5, 0, 2},
+     {KAORI_NODE_IDENTIFIER, 0, 5, 0, 0, 5, 0, 0, 0, 2, KAORI_NODE_NUMBER, 9, 10, 0, 0, 0, 0, 0, 0, 2,
+      KAORI_NODE_BINARY, 0, 10, 5, 0, 1, 0, 0, 0, 4, KAORI_NODE_IDENTIFIER, 15, 24, 1, 15, 24, 0, 0, 0, 4,
+      KAORI_NODE_AND, 0, 24, 2, 3, 0, 0, 0, 0, KAORI_ABSENT},
+     {0}, {0, 5, 15, 24}},
+    {"f(x).y", 1, {4, 1, 3},
+     {KAORI_NODE_IDENTIFIER, 0, 1, 0, 0, 1, 0, 0, 0, 2, KAORI_NODE_IDENTIFIER, 2, 3, 1, 2, 3, 0, 0, 0, 2,
+      KAORI_NODE_CALL, 1, 4, 0, 0, 1, 0, 0, 0, 3, KAORI_NODE_PROPERTY, 4, 6, 2, 2, 5, 6, 0, 0, KAORI_ABSENT},
+     {1}, {0, 1, 2, 3, 5, 6}},
+    /* what the editions have of their own */
+    {"not a and b", 1, {4, 0, 2},
+     {KAORI_NODE_IDENTIFIER, 4, 5, 0, 4, 5, 0, 0, 0, 2, KAORI_NODE_IDENTIFIER, 10, 11, 1, 10, 11, 0, 0, 0, 2,
+      KAORI_NODE_AND, 4, 11, 0, 1, 0, 0, 0, 0, 3, KAORI_NODE_NOT, 0, 3, 2, 0, 0, 0, 0, 0, KAORI_ABSENT},
+     {0}, {4, 5, 10, 11}},
+    {"not a and b", 2, {4, 0, 2},
+     {KAORI_NODE_IDENTIFIER, 4, 5, 0, 4, 5, 0, 0, 0, 1, KAORI_NODE_NOT, 0, 5, 0, 0, 0, 0, 0, 0, 3,
+      KAORI_NODE_IDENTIFIER, 10, 11, 1, 10, 11, 0, 0, 0, 3, KAORI_NODE_AND, 0, 11, 1, 2, 0, 0, 0, 0, KAORI_ABSENT},
+     {0}, {4, 5, 10, 11}},
+    {"(a)(b)", 2, {3, 1, 2},
+     {KAORI_NODE_IDENTIFIER, 1, 2, 0, 1, 2, 0, 0, 0, 2, KAORI_NODE_IDENTIFIER, 4, 5, 1, 4, 5, 0, 0, 0, 2,
+      KAORI_NODE_CALL, 3, 6, 0, 0, 1, 0, 0, 0, KAORI_ABSENT},
+     {1}, {1, 2, 4, 5}},
+};
+
+static int holds_guard(const rooms *r, const guarded *g) {
+    const uint32_t numbers[] = {0, g->counts[0], g->counts[1], g->counts[2], 0, 0, 0, KAORI_NO_KIND};
+    size_t nodes = KAORI_NODE_WIDTH * g->counts[0], links = KAORI_LINK_WIDTH * g->counts[1], symbols = KAORI_SYMBOL_WIDTH * g->counts[2];
+    return memcmp(r->answer, numbers, sizeof numbers) == 0 && memcmp(r->nodes, g->nodes, nodes * sizeof *g->nodes) == 0 &&
+           memcmp(r->links, g->links, links * sizeof *g->links) == 0 &&
+           memcmp(r->symbols, g->symbols, symbols * sizeof *g->symbols) == 0 &&
+           all(r->nodes + nodes, LENGTH(r->nodes) - nodes, 0) && all(r->links + links, LENGTH(r->links) - links, 0) &&
+           all(r->symbols + symbols, LENGTH(r->symbols) - symbols, 0) && all(r->scratch, LENGTH(r->scratch), 0) && fences(r);
+}
+
+/* The list that was made, up to its Eof. */
+static size_t made(const rooms *r) {
+    size_t length = 0;
+    while (r->tokens[length] != KAORI_EOF) length += KAORI_TOKEN_WIDTH;
+    return length + KAORI_TOKEN_WIDTH;
+}
+
+static void guards_read(void) {
+    for (size_t i = 0; i < LENGTH(guards); i++) {
+        const guarded *g = guards + i;
+        rooms r = fresh(), from_list = fresh();
+        EXPECT(guard(&r, g->text, g->edition, 64) == KAORI_OK && holds_guard(&r, g));
+        EXPECT(all(r.tokens + made(&r), LENGTH(r.tokens) - made(&r), 0));
+        EXPECT(guard_in(&from_list, g->text, r.tokens, made(&r), g->edition, 64, whole_rooms, 10) == KAORI_OK);
+        EXPECT(holds_guard(&from_list, g) && all(from_list.tokens, LENGTH(from_list.tokens), OLD));
+        /* the script with a `;` behind it has these rows, and a root, which is the last one's parent */
+        char text[32];
+        rooms script = fresh();
+        uint32_t last = g->counts[0] - 1, *parent = script.nodes + KAORI_NODE_WIDTH * last + KAORI_PARENT;
+        snprintf(text, sizeof text, "%s;", g->text);
+        EXPECT(in_edition(&script, text, g->edition, 64, LENGTH(script.scratch)) == KAORI_OK);
+        EXPECT(script.answer[KAORI_NODES] == last + 2 && *parent == last + 1);
+        *parent = KAORI_ABSENT;
+        EXPECT(memcmp(script.nodes, g->nodes, KAORI_NODE_WIDTH * (last + 1) * sizeof *g->nodes) == 0);
+        /* rooms of just these rows are enough */
+        const size_t n[] = {KAORI_NODE_WIDTH * g->counts[0], KAORI_LINK_WIDTH * g->counts[1], KAORI_SYMBOL_WIDTH * g->counts[2], made(&r)};
+        from_list = fresh();
+        EXPECT(guard_in(&from_list, g->text, r.tokens, made(&r), g->edition, 64, n, 8) == KAORI_OK);
+        EXPECT(memcmp(from_list.nodes, g->nodes, n[0] * sizeof *g->nodes) == 0 && from_list.nodes[n[0]] == OLD && fences(&from_list));
+    }
+    /* beside names: print is symbol 1, and x the third */
+    rooms r = fresh();
+    EXPECT(guard_beside(&r, name_rows, 4, "print(x)", 1, 64, LENGTH(r.scratch), 8) == KAORI_OK && r.nodes[3] == 1 &&
+           r.nodes[KAORI_NODE_WIDTH + 3] == 2 && r.answer[KAORI_NODES] == 3 && r.answer[KAORI_SYMBOLS] == 3);
+    /* from the last row inward: what stands below the call */
+    EXPECT(kaori_child(r.nodes, 30, r.links, 3, 2, 0) == 0 && kaori_child(r.nodes, 30, r.links, 3, 2, 1) == 1 &&
+           kaori_children(r.nodes, 30, 2) == 4);
+}
+
+/* A guard that is refused in an edition within a limit: code, token, its span, and the kind that was required. */
+static const struct {
+    const char *text;
+    uint32_t edition, limit, code, at, start, end, expected;
+} no_guards[] = {
+    {"a;", 1, 64, 8, 1, 1, 2, KAORI_EOF},
+    {"a;", 2, 64, 8, 1, 1, 2, KAORI_EOF},
+    {"a = b", 1, 64, 8, 1, 2, 3, KAORI_EOF},
+    {"(a)(b)", 1, 64, 8, 3, 3, 4, KAORI_EOF},
+    {"a }", 1, 64, 8, 1, 2, 3, KAORI_EOF},
+    {"(a", 1, 64, 8, 2, 2, 2, KAORI_RIGHT_PAREN},
+    {"", 1, 64, 9, 0, 0, 0, KAORI_NO_KIND},
+    {"for", 2, 64, 9, 0, 0, 3, KAORI_NO_KIND},
+    {"return a", 2, 64, 9, 0, 0, 6, KAORI_NO_KIND},
+    {"((a))", 1, 2, 11, 2, 2, 3, KAORI_NO_KIND},
+    {"not a", 2, 1, 11, 0, 0, 3, KAORI_NO_KIND},
+    /* the four, whatever stands before and behind them; the first of them */
+    {"a {", 1, 64, 17, 1, 2, 3, KAORI_NO_KIND},
+    {"a {", 2, 64, 17, 1, 2, 3, KAORI_NO_KIND},
+    {"if a", 1, 64, 17, 0, 0, 2, KAORI_NO_KIND},
+    {"|x| x", 2, 64, 17, 0, 0, 1, KAORI_NO_KIND},
+    {"f(#{})", 1, 64, 17, 2, 2, 3, KAORI_NO_KIND},
+    {"a; b |", 1, 64, 17, 3, 5, 6, KAORI_NO_KIND},
+    {"((a)) {", 1, 2, 17, 5, 6, 7, KAORI_NO_KIND},
+};
+
+static void guards_refused(void) {
+    for (size_t i = 0; i < LENGTH(no_guards); i++) {
+        uint32_t code = no_guards[i].code, at = no_guards[i].at, start = no_guards[i].start, end = no_guards[i].end;
+        rooms r = fresh(), from_list = fresh();
+        EXPECT(guard(&r, no_guards[i].text, no_guards[i].edition, no_guards[i].limit) == code);
+        EXPECT(answered(&r, code, at, start, end, no_guards[i].expected) && four_are(&r, code == KAORI_OUTSIDE ? OLD : 0));
+        EXPECT(all(r.tokens + made(&r), LENGTH(r.tokens) - made(&r), 0));
+        EXPECT(guard_in(&from_list, no_guards[i].text, r.tokens, made(&r), no_guards[i].edition, no_guards[i].limit,
+                        whole_rooms, 8) == code);
+        EXPECT(answered(&from_list, code, at, start, end, no_guards[i].expected) &&
+               four_are(&from_list, code == KAORI_OUTSIDE ? OLD : 0));
+    }
+    /* no message for 17 */
+    uint8_t room[KAORI_MESSAGE_ROOM] = {'.'};
+    EXPECT(kaori_message(KAORI_OUTSIDE, KAORI_NO_KIND, KAORI_LEFT_BRACE, room, LENGTH(room)) == 0 && room[0] == '.');
+}
+
+/* `a {` is 17 after all that comes before reading, and before what is met in reading; an answer that is too small is first. */
+static void guards_in_order(void) {
+    static const uint32_t outside[] = {KAORI_IDENTIFIER, 0, 1, KAORI_LEFT_BRACE, 2, 3, KAORI_EOF, 3, 3};
+    static const uint32_t twice[] = {0, 4, 0, 4};
+    static const size_t no_rows[] = {0, 0, 0, 9}, no_scratch[] = {80, 24, 16, 8};
+    rooms r = fresh();
+    EXPECT(guard_in(&r, "a {", outside, 9, 1, 64, whole_rooms, 7) == KAORI_SMALL_ANSWER && all(r.answer, 10, OLD));
+    EXPECT(guard_beside(&r, name_rows, 0, "a", 1, 64, LENGTH(r.scratch), 7) == KAORI_SMALL_ANSWER);
+    EXPECT(four_are(&r, OLD) && all(r.tokens, LENGTH(r.tokens), OLD) && all(r.answer, 10, OLD) && fences(&r));
+    EXPECT(guard_in(&r, "a {", outside, 8, 1, 64, whole_rooms, 8) == KAORI_BAD_COUNT);
+    EXPECT(guard_in(&r, "a {", outside, 9, 3, 65, whole_rooms, 8) == KAORI_BAD_LIMIT);
+    EXPECT(guard_in(&r, "a {", outside, 9, 3, 64, no_scratch, 8) == KAORI_BAD_EDITION);
+    EXPECT(guard_in(&r, "a {", outside, 9, 2, 64, no_scratch, 8) == KAORI_SMALL_ROOM);
+    EXPECT(guard_beside(&r, twice, 4, "a {", 1, 64, LENGTH(r.scratch), 8) == KAORI_BAD_NAMES);
+    EXPECT(guard_in(&r, "a {\x80", outside, 9, 1, 64, no_rows, 8) == KAORI_HIGH_BYTE);
+    EXPECT(guard_in(&r, "a (", outside, 9, 1, 64, no_rows, 8) == KAORI_BAD_TOKEN);
+    EXPECT(guard_in(&r, "a {", outside, 6, 1, 64, no_rows, 8) == KAORI_BAD_EOF);
+    EXPECT(guard_in(&r, "a {", outside, 9, 1, 64, no_rows, 8) == KAORI_OUTSIDE && answered(&r, 17, 1, 2, 3, KAORI_NO_KIND));
+    EXPECT(guard(&r, "a { @", 1, 64) == KAORI_NO_TOKEN && four_are(&r, OLD));
+    /* and without it no row fits */
+    static const uint32_t one[] = {KAORI_IDENTIFIER, 0, 1, KAORI_EOF, 1, 1};
+    EXPECT(guard_in(&r, "a", one, 6, 1, 64, no_rows, 8) == KAORI_SMALL_ROOM && answered(&r, 4, 0, 0, 1, KAORI_NO_KIND));
+    EXPECT(all(r.scratch, 9, 0) && r.scratch[9] == OLD && r.nodes[0] == OLD);
+}
+
+/* As bindings/README.md has it. */
+static void a_guard(void) {
+    static const uint8_t no_names[1];
+    static const uint32_t no_rows[1];
+    rooms r = fresh();
+    const char *text = "typed == 0 and refreshed";
+    if (kaori_read_guard_with(no_names, 0, no_rows, 0, (const uint8_t *)text, strlen(text), r.tokens, LENGTH(r.tokens),
+                              KAORI_FIRST_EDITION, 64, r.nodes, LENGTH(r.nodes), r.links, LENGTH(r.links), r.symbols,
+                              LENGTH(r.symbols), r.scratch, LENGTH(r.scratch), r.answer, KAORI_ANSWER_ROOM) == KAORI_OK) {
+        const uint32_t *last = r.nodes + KAORI_NODE_WIDTH * (r.answer[KAORI_NODES] - 1);
+        EXPECT(last[0] == KAORI_NODE_AND && last[KAORI_PARENT] == KAORI_ABSENT);
+    }
+    EXPECT(r.answer[KAORI_CODE] == KAORI_OK);
+}
+
 /* A text that is refused in an edition, by a code at a token; and then what kaori_expected has of it: how many kinds could
    have stood there, the lowest, the set, and the open constructs. */
 typedef struct {
@@ -547,7 +733,7 @@ static void reasons(void) {
                                         "a place past the end of the text",
                                         "no such row or name",
                                         "no token starts here",
-                                        "",
+                                        "a guard has no {, if, | or #",
                                         "the built-in names are wrong",
                                         "",
                                         "",
@@ -670,6 +856,10 @@ int main(void) {
     built_in();
     wrong_names();
     editions();
+    guards_read();
+    guards_refused();
+    guards_in_order();
+    a_guard();
     expecting();
     as_deep();
     naming();

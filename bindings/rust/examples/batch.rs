@@ -80,8 +80,17 @@ fn refused(case: &[u8]) -> Option<String> {
     let edition = Edition(edition);
     // of any number that is no code nothing is told, as of one that is no code of reading
     let code = Code::from_u32(code).unwrap_or(Code::SmallAnswer);
-    let why =
-        Refusal { code, at, span: Span::default(), byte: None, expected: None, found: None, edition, limit };
+    let why = Refusal {
+        code,
+        at,
+        span: Span::default(),
+        byte: None,
+        expected: None,
+        found: None,
+        edition,
+        limit,
+        guard: false,
+    };
     let told = expected(&tokens, why);
     let [low, high] = [told.bits() as u32, (told.bits() >> 32) as u32];
     let open = told.open();

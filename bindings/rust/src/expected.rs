@@ -17,7 +17,7 @@ const TOLD: usize = HEAD + OPENING_WIDTH * MAX_OPEN;
 /// that kind; Eof, when the tokens before it are a whole script. So the refused token's own kind never is, and `for` never
 /// is. The kind that an 8 names, [`Refusal::expected`], need not be: of `import` alone it is `;`, where only a name could
 /// have stood. After 11 there are no kinds, and as many constructs as the limit. After any refusal but 8 to 11 there is
-/// nothing: it was not a token that was wrong there, or not in reading.
+/// nothing: it was not a token that was wrong there, or not in reading. And after a guard's refusal there is nothing.
 ///
 /// ```
 /// use kaori_syntax::{Kind, Opening, Rooms, Sort};
@@ -119,6 +119,8 @@ impl fmt::Debug for Expected {
 /// shorter list costs about half a microsecond. Nothing is told where this list is not refused by this code at this token, in
 /// the refusal's edition and within its limit.
 ///
+/// A guard has no hint: the list is looked at as a script's, so after a guard's refusal ([`Refusal::guard`]) nothing is told.
+///
 /// ```
 /// use kaori_syntax::{Code, Rooms, expected};
 ///
@@ -128,11 +130,13 @@ impl fmt::Debug for Expected {
 /// assert_eq!(expected(&tokens[3..], why).count(), 0); // another list
 /// ```
 pub fn expected(tokens: &[u32], why: Refusal) -> Expected {
-    let Refusal { code, at, edition: Edition(edition), limit, .. } = why;
+    let Refusal { code, at, edition: Edition(edition), limit, guard, .. } = why;
     // a room for tokens may have numbers left over at its end
     let upto = (at as usize).checked_add(1).and_then(|count| count.checked_mul(TOKEN_WIDTH));
     let read = upto.and_then(|upto| tokens.get(..upto)).unwrap_or(tokens);
     let mut told = [0; TOLD];
+    // of a list that is empty nothing is told
+    let read = if guard { &[] } else { read };
     let kinds = raw::expected(read, edition, limit, code as u32, at, &mut told);
     let [count, lowest, used] = [told[0], told[1], told[2]];
     let mut open = [Opening { sort: Sort::Expression, at: 0 }; MAX_OPEN];

@@ -1,10 +1,11 @@
-//! A safe interface to the proved reader of Kaori scripts.
+//! A safe interface to the proved reader of Kaori scripts and guards.
 //!
 //! The reader writes a script's tree as rows of numbers into rooms that the caller lends. [`Rooms`] holds such rooms;
 //! they serve any number of calls and need no clearing. [`Rooms::read`] takes a text, [`Rooms::parse`] a text and its
 //! tokens. Both answer with a [`Tree`] over the rooms, or with a [`Refusal`]. The functions [`read`] and [`parse`] do
 //! the same over slices of the caller's own. These four read edition 1 of the language beside no built-in names; each has
-//! another form, as [`Rooms::read_with`], for both to be named. Nothing here panics, whatever is handed over.
+//! another form, as [`Rooms::read_with`], for both to be named. [`Rooms::guard`] reads a guard, which is one expression.
+//! Nothing here panics, whatever is handed over.
 //!
 //! ```
 //! use kaori_syntax::{Node, Rooms};
@@ -111,6 +112,25 @@
 //! assert_eq!(tree.row(3).map(|row| row.node), Some(Node::LogicalAnd { left: 1, right: 2 }));
 //! let tree = rooms.read_with(Builtins::NONE, b"not a and b;", Edition::FIRST, 64)?;
 //! assert_eq!(tree.row(3).map(|row| row.node), Some(Node::LogicalNot(2)));
+//! # Ok::<(), kaori_syntax::Refusal>(())
+//! ```
+//!
+//! A guard is one expression and then the Eof, with no `;`. None of its tokens is `{`, `if`, `|` or `#`, and no block stands
+//! around it: its tree's last row is the expression's own. [`read_guard_with`] says what is refused.
+//!
+//! ```
+//! use kaori_syntax::{Code, Kind, Node, Rooms};
+//!
+//! let mut rooms = Rooms::for_tokens(16);
+//! let tree = rooms.guard(b"typed == 0 and refreshed", 64)?;
+//! let last = tree.root().unwrap();
+//! assert_eq!((last.node, last.parent), (Node::LogicalAnd { left: 2, right: 3 }, None));
+//!
+//! let why = rooms.guard(b"typed;", 64).unwrap_err();
+//! assert_eq!((why.code, why.at, why.expected), (Code::Required, 1, Some(Kind::Eof)));
+//! let why = rooms.guard(b"typed {", 64).unwrap_err();
+//! assert_eq!((why.code, why.at, why.found), (Code::Outside, 1, Some(Kind::LeftBrace)));
+//! assert_eq!(why.to_string(), "a guard has no {, if, | or #");
 //! # Ok::<(), kaori_syntax::Refusal>(())
 //! ```
 //!
@@ -256,12 +276,12 @@ pub struct Lent<'a> {
     pub scratch: &'a mut [u32],
 }
 
-/// Why a script was refused, and where. [`Code`] says when each is given; the first that applies is.
+/// Why a script or a guard was refused, and where. [`Code`] says when each is given; the first that applies is.
 #[derive(Clone, Copy, PartialEq, Eq, Debug)]
 pub struct Refusal {
-    /// From 1 to 11, 16, 18 or 21.
+    /// From 1 to 11, 16, 18 or 21; of a guard 17 too, and never 10.
     pub code: Code,
-    /// The token's number, for codes 6 to 11 and a 4 that was met in reading; else 0.
+    /// The token's number, for codes 6 to 11 and 17 and a 4 that was met in reading; else 0.
     pub at: u32,
     /// The token's place in the text; for codes 5 and 16 a byte's; else 0, 0.
     pub span: Span,
@@ -269,14 +289,17 @@ pub struct Refusal {
     pub byte: Option<u8>,
     /// The kind that was required there, for code 8.
     pub expected: Option<Kind>,
-    /// The kind of the token, for codes 6 to 11 and a 4 that was met in reading; none for a 6 whose token has a number that is
-    /// no kind. So it tells the two sorts of 4 apart, also where all other numbers are the same: without a kind it is `scratch`
+    /// The kind of the token, for codes 6 to 11 and 17 and a 4 that was met in reading; none for a 6 whose token has a number
+    /// that is no kind. So it tells the two sorts of 4 apart, also where all other numbers are the same: without a kind it is `scratch`
     /// that is too small, or the symbol room for the built-in names.
     pub found: Option<Kind>,
-    /// The edition that the script was read in.
+    /// The edition that it was read in.
     pub edition: Edition,
     /// The limit that it was read within.
     pub limit: u32,
+    /// Whether it was read as a guard. A guard has no hint: [`expected()`] looks at a list as a script's, and tells nothing
+    /// then.
+    pub guard: bool,
 }
 
 impl Refusal {
@@ -417,7 +440,7 @@ pub fn read<'a>(
     let Lent { nodes, links, symbols, scratch } = rooms;
     let mut answer = [0; 8];
     let code = raw::read(text, list, limit, nodes, links, symbols, scratch, &mut answer);
-    let read = (Edition::FIRST, limit);
+    let read = (Edition::FIRST, limit, false);
     tree(answer, read, Builtins::NONE, text, made(list, code), Lent { nodes, links, symbols, scratch })
 }
 
@@ -435,7 +458,55 @@ pub fn read_with<'a>(
     let mut answer = [0; 8];
     let code =
         raw::read_with(names, rows, text, list, edition, limit, nodes, links, symbols, scratch, &mut answer);
-    let read = (Edition(edition), limit);
+    let read = (Edition(edition), limit, false);
+    tree(answer, read, builtins, text, made(list, code), Lent { nodes, links, symbols, scratch })
+}
+
+/// Reads a guard's text beside built-in names, in an edition: one expression, and then the Eof, with no `;`. `list` and `limit`
+/// are as in [`read`].
+///
+/// A token that is `{`, `if`, `|` or `#` is refused by 17 before reading, the first of them, and the rooms stay as they were.
+/// Where tokens remain behind the expression it is an 8, and [`Kind::Eof`] was required. The tree's last row is the expression's
+/// own: the rows are those of the script with a `;` behind it, but for that script's root.
+///
+/// ```
+/// use kaori_syntax::{Builtins, Code, Edition, Lent, read_guard_with};
+///
+/// let (mut list, mut nodes, mut links, mut symbols, mut scratch) = ([0; 24], [0; 80], [0; 24], [0; 16], [0; 24]);
+/// let mut rows = |text, edition| {
+///     let lent = Lent { nodes: &mut nodes, links: &mut links, symbols: &mut symbols, scratch: &mut scratch };
+///     let read = read_guard_with(Builtins::NONE, text, &mut list, edition, 64, lent);
+///     read.map(|tree| tree.rows().count()).map_err(|why| (why.code, why.at))
+/// };
+/// assert_eq!(rows(b"(f)(x)", Edition::SECOND), Ok(3)); // f, x, the call
+/// assert_eq!(rows(b"(f)(x)", Edition::FIRST), Err((Code::Required, 3)));
+/// assert_eq!(rows(b"f(|x| x)", Edition::FIRST), Err((Code::Outside, 2)));
+/// ```
+pub fn read_guard_with<'a>(
+    builtins: Builtins<'a>,
+    text: &'a [u8],
+    list: &'a mut [u32],
+    Edition(edition): Edition,
+    limit: u32,
+    rooms: Lent<'a>,
+) -> Result<Tree<'a>, Refusal> {
+    let Lent { nodes, links, symbols, scratch } = rooms;
+    let Builtins { text: names, rows } = builtins;
+    let mut answer = [0; 8];
+    let code = raw::read_guard_with(
+        names,
+        rows,
+        text,
+        list,
+        edition,
+        limit,
+        nodes,
+        links,
+        symbols,
+        scratch,
+        &mut answer,
+    );
+    let read = (Edition(edition), limit, true);
     tree(answer, read, builtins, text, made(list, code), Lent { nodes, links, symbols, scratch })
 }
 
@@ -473,7 +544,7 @@ pub fn parse<'a>(
     let Lent { nodes, links, symbols, scratch } = rooms;
     let mut answer = [0; 8];
     raw::parse(text, tokens, limit, nodes, links, symbols, scratch, &mut answer);
-    let read = (Edition::FIRST, limit);
+    let read = (Edition::FIRST, limit, false);
     tree(answer, read, Builtins::NONE, text, tokens, Lent { nodes, links, symbols, scratch })
 }
 
@@ -490,13 +561,45 @@ pub fn parse_with<'a>(
     let Builtins { text: names, rows } = builtins;
     let mut answer = [0; 8];
     raw::parse_with(names, rows, text, tokens, edition, limit, nodes, links, symbols, scratch, &mut answer);
-    let read = (Edition(edition), limit);
+    let read = (Edition(edition), limit, false);
     tree(answer, read, builtins, text, tokens, Lent { nodes, links, symbols, scratch })
 }
 
+/// Reads a guard that is given as its text and its tokens, beside built-in names and in an edition: [`read_guard_with`] says what
+/// a guard is, [`parse`] how tokens are handed over.
+///
+/// ```
+/// use kaori_syntax::{Builtins, Code, Edition, Kind, Rooms};
+///
+/// let [name, semicolon, eof] = [Kind::Identifier, Kind::Semicolon, Kind::Eof].map(u32::from);
+/// let mut rooms = Rooms::for_tokens(3);
+/// let tokens = [name, 0, 1, eof, 1, 1];
+/// assert_eq!(rooms.guard_with(Builtins::NONE, b"a", &tokens, Edition::FIRST, 64)?.rows().count(), 1);
+/// let tokens = [name, 0, 1, semicolon, 1, 2, eof, 2, 2];
+/// let why = rooms.guard_with(Builtins::NONE, b"a;", &tokens, Edition::FIRST, 64).unwrap_err();
+/// assert_eq!((why.code, why.at, why.expected), (Code::Required, 1, Some(Kind::Eof)));
+/// # Ok::<(), kaori_syntax::Refusal>(())
+/// ```
+pub fn guard_with<'a>(
+    builtins: Builtins<'a>,
+    text: &'a [u8],
+    tokens: &'a [u32],
+    Edition(edition): Edition,
+    limit: u32,
+    rooms: Lent<'a>,
+) -> Result<Tree<'a>, Refusal> {
+    let Lent { nodes, links, symbols, scratch } = rooms;
+    let Builtins { text: names, rows } = builtins;
+    let mut answer = [0; 8];
+    raw::guard_with(names, rows, text, tokens, edition, limit, nodes, links, symbols, scratch, &mut answer);
+    let read = (Edition(edition), limit, true);
+    tree(answer, read, builtins, text, tokens, Lent { nodes, links, symbols, scratch })
+}
+
+/// What comes of an answer; `guard` tells whether a guard was read.
 fn tree<'a>(
     [code, node_rows, link_rows, symbol_rows, at, start, end, expected]: [u32; 8],
-    (edition, limit): (Edition, u32),
+    (edition, limit, guard): (Edition, u32, bool),
     builtins: Builtins<'a>,
     text: &'a [u8],
     tokens: &'a [u32],
@@ -513,11 +616,12 @@ fn tree<'a>(
             tokens.len() / TOKEN_WIDTH <= scratch.len() / SCRATCH_WIDTH
                 && builtins.count() as usize <= symbols.len() / SYMBOL_WIDTH
         }
+        Code::Outside => true,
         _ => (Code::BadToken..=Code::TooDeep).contains(&code),
     };
     let token = tokens.as_chunks::<TOKEN_WIDTH>().0.get(at as usize).filter(|_| names_token);
     let found = token.and_then(|&[kind, ..]| Kind::from_u32(kind));
     let byte = text.get(start as usize).filter(|_| matches!(code, Code::HighByte | Code::NoToken)).copied();
     let expected = Kind::from_u32(expected);
-    Err(Refusal { code, at, span: Span { start, end }, byte, expected, found, edition, limit })
+    Err(Refusal { code, at, span: Span { start, end }, byte, expected, found, edition, limit, guard })
 }

@@ -1,11 +1,12 @@
-//! The rows of a script as nodes.
+//! The rows of a script or a guard as nodes.
 use core::{fmt, iter::FusedIterator, slice};
 
 use crate::{Builtins, Kind, LINK_WIDTH, NODE_WIDTH, SYMBOL_WIDTH, TOKEN_WIDTH, cover, name, raw, upto_eof};
 
 const ABSENT: u32 = u32::MAX;
 
-/// A script that was read: its rows, in the rooms that were lent, with its text and its tokens. A copy of it is seven slices.
+/// A script or a guard that was read: its rows, in the rooms that were lent, with its text and its tokens. A copy of it is seven
+/// slices. Its last row is the [`root`](Tree::root), which encloses all others: a script's block, or a guard's expression.
 #[derive(Clone, Copy, Debug)]
 pub struct Tree<'a> {
     builtins: Builtins<'a>,
@@ -45,8 +46,8 @@ impl Span {
 pub struct Row<'a> {
     /// By which other rows name it.
     pub number: u32,
-    /// Its place in the text; 0, 0 for the root. A row made of children may start later than its text, as in ast.rs: the sum in
-    /// `f(x) + 1` starts at `(`. [`Tree::cover`] has the whole.
+    /// Its place in the text; 0, 0 for a script's root. A row made of children may start later than its text, as in ast.rs: the
+    /// sum in `f(x) + 1` starts at `(`. [`Tree::cover`] has the whole.
     pub span: Span,
     /// The row that has it as a child, which is a later one; none for the root.
     pub parent: Option<u32>,
@@ -202,11 +203,11 @@ pub struct Names<'a>(&'a [[u32; LINK_WIDTH]]);
 #[derive(Clone, Copy, PartialEq, Eq, Debug)]
 pub struct Entries<'a>(&'a [[u32; LINK_WIDTH]]);
 
-/// The tokens of a script, the Eof last.
+/// The tokens of a script or a guard, the Eof last.
 #[derive(Clone, Copy, PartialEq, Eq, Debug)]
 pub struct Tokens<'a>(&'a [[u32; TOKEN_WIDTH]]);
 
-/// A token of a script that was read.
+/// A token of a script or a guard that was read.
 #[derive(Clone, Copy, PartialEq, Eq, Debug)]
 pub struct Token {
     /// What it is.
@@ -451,7 +452,7 @@ impl<'a> Tree<'a> {
         Rows { tree: *self, next: 0, end: self.nodes.len() as u32 }
     }
 
-    /// The script's tokens, the Eof last.
+    /// The tokens, the Eof last.
     ///
     /// ```
     /// use kaori_syntax::{Kind, Rooms};
@@ -466,7 +467,7 @@ impl<'a> Tree<'a> {
         Tokens(upto_eof(self.list))
     }
 
-    /// The script's text.
+    /// The text.
     pub fn text(&self) -> &'a [u8] {
         self.text
     }
@@ -490,7 +491,7 @@ impl<'a> Tree<'a> {
 
     /// The whole text that a row covers: from the leftmost start to the rightmost end of the row and of all that stands below
     /// it, with the counterparts of parentheses that are alone in that. So it is balanced, and parentheses around the row itself
-    /// are not in it. The root covers the script from its start on. None: there are not so many rows.
+    /// are not in it. A script's root covers the script from its start on. None: there are not so many rows.
     ///
     /// It is one pass over what stands below the row and one over the tokens.
     ///
@@ -537,7 +538,17 @@ impl<'a> Tree<'a> {
         Outward { tree: *self, next: Some(number) }
     }
 
-    /// The last row: the block of the script's statements.
+    /// The last row, which alone has no parent: the block of the script's statements; of a guard, which has no such block, the
+    /// expression's own.
+    ///
+    /// ```
+    /// use kaori_syntax::{Node, Rooms};
+    ///
+    /// let mut rooms = Rooms::for_tokens(8);
+    /// assert!(matches!(rooms.read(b"a.b;", 64)?.root().map(|row| row.node), Some(Node::Block { .. })));
+    /// assert!(matches!(rooms.guard(b"a.b", 64)?.root().map(|row| row.node), Some(Node::PropertyAccess { .. })));
+    /// # Ok::<(), kaori_syntax::Refusal>(())
+    /// ```
     pub fn root(&self) -> Option<Row<'a>> {
         self.row(self.nodes.len().checked_sub(1)? as u32)
     }

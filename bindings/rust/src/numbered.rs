@@ -136,7 +136,7 @@ numbered! {
 
 numbered! {
     /// Why something was refused. The first that applies is given; in reading, from left to right, the first that is met. 12,
-    /// 17, 19 and 20 are none.
+    /// 19 and 20 are none.
     ///
     /// ```
     /// use kaori_syntax::{Code, Rooms};
@@ -178,6 +178,8 @@ numbered! {
     NoName = 15,
     /// By [`read`](crate::read): no token starts at a byte.
     NoToken = 16,
+    /// Of a guard: a token that no guard has, `{`, `if`, `|` or `#`; after 7, before reading.
+    Outside = 17,
     /// The built-in names' text is over 65,536 bytes, they are over 64, a span is wrong, one is no identifier, or two are the
     /// same; after a 4 for `scratch`.
     BadNames = 18,

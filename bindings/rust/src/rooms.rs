@@ -3,7 +3,8 @@ use alloc::{vec, vec::Vec};
 
 use crate::{
     Builtins, Code, Edition, Expected, LINK_WIDTH, Lent, MAX_NAMES, MAX_TOKENS, NODE_WIDTH, Refusal,
-    SCRATCH_WIDTH, SYMBOL_WIDTH, TOKEN_WIDTH, Tree, expected, parse, parse_with, read, read_with,
+    SCRATCH_WIDTH, SYMBOL_WIDTH, TOKEN_WIDTH, Tree, expected, guard_with, parse, parse_with, read,
+    read_guard_with, read_with,
 };
 
 /// Rooms of the crate's own, to be lent again and again.
@@ -17,7 +18,7 @@ pub struct Rooms {
     pub symbols: Vec<u32>,
     /// [`SCRATCH_WIDTH`] numbers a row.
     pub scratch: Vec<u32>,
-    /// For the tokens that [`Rooms::read`] makes: [`TOKEN_WIDTH`] numbers each.
+    /// For the tokens that [`Rooms::read`] and [`Rooms::guard`] make: [`TOKEN_WIDTH`] numbers each.
     pub list: Vec<u32>,
 }
 
@@ -105,6 +106,7 @@ impl Rooms {
 
     /// What could have stood where [`Rooms::read`] or [`Rooms::read_with`] has just refused a text, and what was open there:
     /// [`expected`] over the tokens that it left. After a [`Rooms::parse`] call [`expected`] with the tokens that it was given.
+    /// A guard has no hint: after its refusal nothing is told.
     pub fn expected(&self, why: Refusal) -> Expected {
         expected(&self.list, why)
     }
@@ -143,6 +145,48 @@ impl Rooms {
     ) -> Result<Tree<'a>, Refusal> {
         let Rooms { nodes, links, symbols, scratch, .. } = self;
         parse_with(builtins, text, tokens, edition, limit, Lent { nodes, links, symbols, scratch })
+    }
+
+    /// Reads a guard's text, in edition 1 and beside no built-in names: one expression, and then the Eof, with no `;`. The last
+    /// row is the expression's own. [`read_guard_with`] says what is refused.
+    ///
+    /// ```
+    /// use kaori_syntax::{Code, Rooms};
+    ///
+    /// let mut rooms = Rooms::for_tokens(8);
+    /// let tree = rooms.guard(b"late or total > 9", 64)?;
+    /// let parts = tree.children(tree.root().unwrap().number).map(|row| tree.cover(row.number).unwrap());
+    /// assert!(parts.map(|span| span.of(tree.text()).unwrap()).eq([&b"late"[..], b"total > 9"]));
+    /// assert_eq!(rooms.guard(b"if late", 64).unwrap_err().code, Code::Outside);
+    /// # Ok::<(), kaori_syntax::Refusal>(())
+    /// ```
+    pub fn guard<'a>(&'a mut self, text: &'a [u8], limit: u32) -> Result<Tree<'a>, Refusal> {
+        self.read_guard_with(Builtins::NONE, text, Edition::FIRST, limit)
+    }
+
+    /// Reads a guard's text beside built-in names, in an edition: [`read_guard_with`] in these rooms.
+    pub fn read_guard_with<'a>(
+        &'a mut self,
+        builtins: Builtins<'a>,
+        text: &'a [u8],
+        edition: Edition,
+        limit: u32,
+    ) -> Result<Tree<'a>, Refusal> {
+        let Rooms { nodes, links, symbols, scratch, list } = self;
+        read_guard_with(builtins, text, list, edition, limit, Lent { nodes, links, symbols, scratch })
+    }
+
+    /// Reads a guard's text and tokens beside built-in names, in an edition: [`guard_with`] in these rooms.
+    pub fn guard_with<'a>(
+        &'a mut self,
+        builtins: Builtins<'a>,
+        text: &'a [u8],
+        tokens: &'a [u32],
+        edition: Edition,
+        limit: u32,
+    ) -> Result<Tree<'a>, Refusal> {
+        let Rooms { nodes, links, symbols, scratch, .. } = self;
+        guard_with(builtins, text, tokens, edition, limit, Lent { nodes, links, symbols, scratch })
     }
 }
 

@@ -254,7 +254,7 @@ fn anything_at_all() {
         "fun", "\n", "-", "@", "é", "return",
     ];
     let mut dice = Dice(20261115);
-    let (mut accepted, mut turned, mut refused, mut full) = (0, 0, 0, 0);
+    let (mut accepted, mut turned, mut refused, mut full, mut guards) = (0, 0, 0, 0, 0);
     for _ in 0..40_000 {
         let text: String = (0..dice.roll(12)).map(|_| PIECES[dice.roll(PIECES.len())]).collect();
         let text = text.as_bytes();
@@ -312,14 +312,24 @@ fn anything_at_all() {
             let from_list = rooms.parse_with(Builtins::NONE, text, &list, edition, limit);
             assert_eq!(from_list.map(|tree| walk(&tree)), from_text);
         }
+        // the same text and list as a guard
+        let from_text = rooms.read_guard_with(Builtins::NONE, text, edition, limit).map(|tree| walk(&tree));
+        guards += usize::from(from_text.is_ok());
+        if !from_text.is_err_and(|r| [1, 2, 5, 16].contains(&(r.code as u32))) {
+            let from_list = rooms.guard_with(Builtins::NONE, text, &list, edition, limit);
+            assert_eq!(from_list.map(|tree| walk(&tree)), from_text);
+        }
         // and numbers that are no tokens have one
         let wild = dice.numbers(dice.0 as usize % 40, 45);
         if let Ok(tree) = rooms.parse_with(Builtins::NONE, text, &wild, edition, limit) {
             walk(&tree);
         }
+        if let Ok(tree) = rooms.guard_with(Builtins::NONE, text, &wild, edition, limit) {
+            walk(&tree);
+        }
         let _ = place(text, dice.number(12) as usize);
     }
-    let counts = [accepted, turned, refused, full];
+    let counts = [accepted, turned, refused, full, guards];
     assert!(counts.iter().all(|&count| count > 500), "{counts:?}");
 }
 

@@ -244,6 +244,7 @@ fn any_numbers() {
             found: None,
             edition: Edition(near(4)),
             limit: near(70),
+            guard: false,
         };
         let told = expected(&tokens, why);
         hold(&told);

@@ -215,6 +215,7 @@ fn room_for_the_names() {
         found: Some(Kind::Identifier),
         edition: Edition::FIRST,
         limit: 64,
+        guard: false,
     };
     assert_eq!(rooms.grow_with(builtins, why), Err(why));
     assert_eq!(

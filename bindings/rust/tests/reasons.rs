@@ -48,6 +48,8 @@ fn of_each_code() {
     assert_eq!(said(why), told(18, "the built-in names are wrong", false));
     let why = rooms.read_with(Builtins::NONE, b"a;", Edition(3), 64).unwrap_err();
     assert_eq!(said(why), told(21, "the edition is neither 1 nor 2", false));
+    let why = rooms.guard(b"f(|x| x)", 64).unwrap_err();
+    assert_eq!(said(why), told(17, "a guard has no {, if, | or #", false));
 }
 
 /// A refusal that is made by hand has the text of its code too, and without the kinds that it would name its numbers.
@@ -62,6 +64,7 @@ fn by_hand() {
         found: None,
         edition: Edition::FIRST,
         limit: 64,
+        guard: false,
     };
     for &code in Code::ALL {
         let text = made(code).to_string();
@@ -81,7 +84,7 @@ fn by_hand() {
 
 #[test]
 fn numbers() {
-    let codes = [1, 2, 3, 4, 5, 6, 7, 8, 9, 10, 11, 13, 14, 15, 16, 18, 21];
+    let codes = [1, 2, 3, 4, 5, 6, 7, 8, 9, 10, 11, 13, 14, 15, 16, 17, 18, 21];
     assert!(Code::ALL.iter().map(|&code| code as u32).eq(codes));
     assert!(Kind::ALL.iter().map(|&kind| u32::from(kind)).eq(0..45));
     for number in (0..100).chain([u32::MAX]) {

@@ -1,7 +1,8 @@
 //! What there is without `alloc`: everything over slices of the caller's. This file uses nothing else, and is also built and run
 //! without features.
 use kaori_syntax::{
-    Builtins, Code, Edition, Kind, Lent, Node, Span, expected, name, parse, place, read, read_with,
+    Builtins, Code, Edition, Kind, Lent, Node, Span, expected, guard_with, name, parse, place, read,
+    read_guard_with, read_with,
 };
 
 #[test]
@@ -31,4 +32,24 @@ fn a_script_in_arrays() {
     let tokens = [43, 0, 1, 41, 1, 2, 44, 2, 2];
     let lent = Lent { nodes: &mut nodes, links: &mut links, symbols: &mut symbols, scratch: &mut scratch };
     assert_eq!(parse(b"a;", &tokens, 64, lent).map(|tree| tree.rows().count()), Ok(2));
+}
+
+#[test]
+fn a_guard_in_arrays() {
+    let (mut list, mut nodes, mut links, mut symbols, mut scratch) =
+        ([0; 12], [0; 30], [0; 0], [0; 4], [0; 12]);
+    let lent = Lent { nodes: &mut nodes, links: &mut links, symbols: &mut symbols, scratch: &mut scratch };
+    let tree = read_guard_with(Builtins::NONE, b"a or b", &mut list, Edition::FIRST, 64, lent).unwrap();
+    let last = tree.root().unwrap();
+    assert_eq!((last.node, last.parent), (Node::LogicalOr { left: 0, right: 1 }, None));
+    assert_eq!(tree.outward(0).last(), Some(last));
+
+    let lent = Lent { nodes: &mut nodes, links: &mut links, symbols: &mut symbols, scratch: &mut scratch };
+    let tree = guard_with(Builtins::NONE, b"a or b", &list, Edition::SECOND, 64, lent).unwrap();
+    assert!(tree.children(2).map(|row| row.number).eq([0, 1]));
+
+    let lent = Lent { nodes: &mut nodes, links: &mut links, symbols: &mut symbols, scratch: &mut scratch };
+    let why = read_guard_with(Builtins::NONE, b"a or |", &mut list, Edition::FIRST, 64, lent).unwrap_err();
+    assert_eq!((why.code, why.at, why.found), (Code::Outside, 2, Some(Kind::Pipe)));
+    assert_eq!((nodes[29], symbols), (u32::MAX, [0, 1, 5, 6]));
 }
