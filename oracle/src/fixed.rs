@@ -8,7 +8,7 @@ use crate::{
     case::Case,
     corners::{self, NESTINGS},
     drawn::{Cases, exact},
-    editions, frame,
+    editions, frame, guards,
     list::script,
     questions,
     rooms::Judge,
@@ -82,12 +82,14 @@ pub fn file() -> Vec<u8> {
 }
 
 /// What `batch` reads, and what it must write: some inputs of `rows`, whole and broken, the corners of rooms of any size, and
-/// some of built-in names, of editions and of refused tokens.
+/// some of built-in names, of editions, of guards and of refused tokens.
 pub fn batch_files() -> (Vec<u8>, Vec<u8>) {
     let whole = script("a;").encode();
     let plain = [whole.clone(), Vec::new(), [&whole[..], &[0]].concat(), whole[..8].to_vec()];
     let (mut read, mut written, mut judge) = (Vec::new(), Vec::new(), Judge::default());
-    let chosen = [tight::corners(), beside::chosen(), editions::chosen(), questions::chosen()].concat();
+    let chosen =
+        [tight::corners(), beside::chosen(), editions::chosen(), guards::chosen(), questions::chosen()]
+            .concat();
     for case in plain.into_iter().chain(chosen) {
         frame::write(&mut read, &case).expect("memory");
         frame::write(&mut written, &judge.answer(&case)).expect("memory");

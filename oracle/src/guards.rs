@@ -101,6 +101,29 @@ fn corners(edition: Option<u32>, sort: Sort) -> Vec<Lent> {
     calls
 }
 
+/// A smaller choice of them, for the fixed list: each guard that is written down in both editions, in the rooms that it asks for; the rooms of
+/// `LADDERS`; and each fault of the door alone beside what is wrong with a guard.
+pub fn chosen() -> Vec<Vec<u8>> {
+    let mut calls = Vec::new();
+    for edition in [FIRST, SECOND] {
+        let call = |limit| Call::guard(Terms { edition, limit });
+        for case in corners::guards().into_iter().step_by(2) {
+            let known = Known::of(case, call(LIMIT));
+            calls.push(known.lent_all(known.fitting(known.asked().len())));
+        }
+    }
+    for (text, limit, steps) in LADDERS {
+        let known = Known::of(script(text), Call::guard(*limit));
+        calls.extend(steps.iter().map(|(rows, _)| known.lent_all(rooms_of(&script(text), *rows))));
+    }
+    for text in WRONG {
+        calls.push(faulty(FIRST, text, &Builtins::default(), 0));
+        calls.extend((0..FAULTS - 1).map(|fault| faulty(FIRST, text, &Builtins::default(), 1 << fault)));
+        calls.push(faulty(editions::WRONG[0], text, &Builtins::default(), 0));
+    }
+    calls.iter().map(Lent::encode).collect()
+}
+
 /// What stands beside all that can be wrong: right and wrong names, or none.
 fn names_of(sort: Sort) -> Vec<Builtins> {
     if sort == Sort::Named { right_and_wrong().into() } else { vec![Builtins::default()] }

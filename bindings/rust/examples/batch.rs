@@ -9,13 +9,15 @@ use kaori_syntax::{Builtins, Code, Edition, Refusal, Rooms, Span, Tree, expected
 use rows::{answer, decode, frame};
 
 const BAD: &str = "bad input\n";
-/// What stands before a limit and the sizes of rooms, what does where built-in names follow these, and what does before an
-/// edition where one stands before all this; what stands before an edition, a limit, a code and a token, of which it is asked
-/// what could have stood there; the largest rooms that are lent, and the largest names: as for the program `batch`.
+/// What stands before a limit and the sizes of rooms, what does where built-in names follow these, what does before an edition
+/// where one stands before all this, and what does before the same of a guard; what stands before an edition, a limit, a code
+/// and a token, of which it is asked what could have stood there; the largest rooms that are lent, and the largest names: as
+/// for the program `batch`.
 const MARK: [u8; 2] = [0x52, 0x4D];
 const NAMES_MARK: [u8; 2] = [0x52, 0x4E];
 const EDITION_MARK: [u8; 2] = [0x52, 0x4F];
 const KINDS_MARK: [u8; 2] = [0x52, 0x50];
+const GUARD_MARK: [u8; 2] = [0x52, 0x51];
 const MOST_OPEN: usize = 64;
 const LARGEST: [usize; 4] = [5_129, 1_538, 1_025, 1_538];
 const MOST_BYTES: usize = 8_192;
@@ -43,9 +45,13 @@ fn main() -> Result<(), Error> {
 
 /// The answer to a case with a limit and rooms of its own, if it is one: the eight numbers, and then each room as it was left.
 fn lent(case: &[u8]) -> Option<String> {
-    let mark = [MARK, NAMES_MARK, EDITION_MARK].into_iter().find(|mark| case.starts_with(mark))?;
+    let mark =
+        [MARK, NAMES_MARK, EDITION_MARK, GUARD_MARK].into_iter().find(|mark| case.starts_with(mark))?;
     let mut rest = &case[mark.len()..];
-    let edition = if mark == EDITION_MARK { Edition(numbers(&mut rest, 1)?[0]) } else { Edition::FIRST };
+    let edition = match mark {
+        EDITION_MARK | GUARD_MARK => Edition(numbers(&mut rest, 1)?[0]),
+        _ => Edition::FIRST,
+    };
     let head = numbers(&mut rest, 5)?;
     let names = if mark == MARK { None } else { Some(names(&mut rest)?) };
     let Some((text, tokens)) = decode(rest) else { return Some(BAD.to_string()) };
@@ -55,6 +61,7 @@ fn lent(case: &[u8]) -> Option<String> {
     let builtins = names.as_ref().map_or(Builtins::NONE, |(text, rows)| Builtins { text, rows });
     let answered = match mark {
         MARK => rooms.parse(text, &tokens, head[0]),
+        GUARD_MARK => rooms.guard_with(builtins, text, &tokens, edition, head[0]),
         _ => rooms.parse_with(builtins, text, &tokens, edition, head[0]),
     };
     let numbers = match answered {

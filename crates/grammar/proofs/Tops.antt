@@ -41,52 +41,29 @@ is-row Label.Item = false
 is-row Label.Entry = false
 is-row Label.Name = false
 
--- the table of operands, and those whose links are all nodes
-abbrev of-operands : Table → Bool
-of-operands Table.statement = false
-of-operands Table.returned = false
-of-operands Table.bindings = false
-of-operands Table.path-name = false
-of-operands Table.otherwise = false
-of-operands Table.branch = false
-of-operands Table.operand = true
-of-operands Table.body = false
-of-operands Table.value = false
-of-operands (Table.comma z) = false
-of-operands Table.script-items = false
-of-operands Table.block-items = false
-of-operands Table.arguments = false
-of-operands Table.entries = false
-of-operands (Table.names z) = false
-of-operands Table.may-end = false
-of-operands Table.must-end = false
-of-operands Table.assigned = false
-of-operands Table.dots = false
-of-operands Table.calls = false
-of-operands (Table.operators n) = false
-
-abbrev of-nodes : Table → Bool
-of-nodes Table.statement = false
-of-nodes Table.returned = false
-of-nodes Table.bindings = false
-of-nodes Table.path-name = false
-of-nodes Table.otherwise = false
-of-nodes Table.branch = false
-of-nodes Table.operand = false
-of-nodes Table.body = false
-of-nodes Table.value = false
-of-nodes (Table.comma z) = false
-of-nodes Table.script-items = false
-of-nodes Table.block-items = false
-of-nodes Table.arguments = false
-of-nodes Table.entries = false
-of-nodes (Table.names z) = false
-of-nodes Table.may-end = false
-of-nodes Table.must-end = false
-of-nodes Table.assigned = false
-of-nodes Table.dots = false
-of-nodes Table.calls = true
-of-nodes (Table.operators n) = true
+-- whether a table is that of operands, and whether its links are all nodes
+abbrev traits : Table → Bool × Bool
+traits Table.statement = (false, false)
+traits Table.returned = (false, false)
+traits Table.bindings = (false, false)
+traits Table.path-name = (false, false)
+traits Table.otherwise = (false, false)
+traits Table.branch = (false, false)
+traits Table.operand = (true, false)
+traits Table.body = (false, false)
+traits Table.value = (false, false)
+traits (Table.comma z) = (false, false)
+traits Table.script-items = (false, false)
+traits Table.block-items = (false, false)
+traits Table.arguments = (false, false)
+traits Table.entries = (false, false)
+traits (Table.names z) = (false, false)
+traits Table.may-end = (false, false)
+traits Table.must-end = (false, false)
+traits Table.assigned = (false, false)
+traits Table.dots = (false, false)
+traits Table.calls = (false, true)
+traits (Table.operators n) = (false, true)
 
 -- a form that makes one node, the last; and a link that does
 unfoldable pub tops : Form → Bool
@@ -95,8 +72,8 @@ tops (token x p) = tops p
 tops (part p q) = tops p && silent q
 tops (nested k p) = tops p
 tops (node f p) = is-row f
-tops (choice n) = of-operands n
-tops (chain p n) = tops p && of-nodes n
+tops (choice n) = traits n .0
+tops (chain p n) = tops p && traits n .1
 tops (once p n) = false
 tops (refusal e) = true
 
@@ -112,7 +89,7 @@ node-link (once p n) = false
 node-link (refusal e) = false
 
 abbrev fit : Table → Form → Bool
-fit n p = cond (of-operands n) (tops p) (cond (of-nodes n) (node-link p) true)
+fit n p = cond (traits n .0) (tops p) (cond (traits n .1) (node-link p) true)
 
 tables-fit : (e : Edition) (n : Table) → T (each (fit n) (rules e n .0) (rules e n .1))
 unfolding rules tops above
@@ -140,16 +117,16 @@ tables-fit e Table.dots = tt
 tables-fit e Table.calls = tt
 tables-fit e (Table.operators n) = each-mapped (fit (Table.operators n)) _ (getD levels n []) empty (λ x. tt) tt
 
-operand-tops : (e : Edition) (n : Table) (x : ℕ) {p : Form} → kaori e n x ≡ p → T (of-operands n) → T (tops p)
-operand-tops e n x {p} k h = pick (of-operands n) h (rw k at (in-tables e fit (tables-fit e) n x))
+operand-tops : (e : Edition) (n : Table) (x : ℕ) {p : Form} → kaori e n x ≡ p → T (traits n .0) → T (tops p)
+operand-tops e n x {p} k h = pick (traits n .0) h (rw k at (in-tables e fit (tables-fit e) n x))
   where
-    pick : (b : Bool) → T b → T (cond b (tops p) (cond (of-nodes n) (node-link p) true)) → T (tops p)
+    pick : (b : Bool) → T b → T (cond b (tops p) (cond (traits n .1) (node-link p) true)) → T (tops p)
     pick true h i = i
     pick false h i = absurd h
 
-link-row : (e : Edition) (n : Table) (x : ℕ) {f : Label} {p : Form} → kaori e n x ≡ node f p → T (of-nodes n) → T (is-row f)
+link-row : (e : Edition) (n : Table) (x : ℕ) {f : Label} {p : Form} → kaori e n x ≡ node f p → T (traits n .1) → T (is-row f)
 unfolding tops
-link-row e n x {f} {p} k h = pick (of-operands n) (of-nodes n) h (rw k at (in-tables e fit (tables-fit e) n x))
+link-row e n x {f} {p} k h = pick (traits n .0) (traits n .1) h (rw k at (in-tables e fit (tables-fit e) n x))
   where
     pick : (a b : Bool) → T b → T (cond a (tops (node f p)) (cond b (is-row f) true)) → T (is-row f)
     pick true b h i = i
@@ -204,8 +181,8 @@ module _ (e : Edition) (ts : List ℕ) (σ : ℕ → ℕ) {kind : ℕ → ℕ} w
   top (Reads.opened x) h w = top x h w
   top (Reads.labelled {f = f} x) h w = node-top ts σ f h _ _ _ _ _
   top (Reads.chosen {n = n} {a = a} k x) h w = top x (operand-tops e n (kind a) k h) w
-  top (Reads.first {n = n} {p = p} x) h w = top x (both (tops p) (of-nodes n) h .0) w
-  top (Reads.link {n = n} {f = f} {b = b} {p = p} l k x) h w = node-top ts σ f (link-row e n (kind b) k (both (tops p) (of-nodes n) h .1)) _ _ _ _ _
+  top (Reads.first {n = n} {p = p} x) h w = top x (both (tops p) (traits n .1) h .0) w
+  top (Reads.link {n = n} {f = f} {b = b} {p = p} l k x) h w = node-top ts σ f (link-row e n (kind b) k (both (tops p) (traits n .1) h .1)) _ _ _ _ _
   top (Reads.ended l k) h w = top l h w
   top (Reads.alone x k) h w = absurd h
   top (Reads.joined x k y) h w = absurd h

@@ -218,7 +218,10 @@ fn guarded(names: &[u8], rows: &[u32], edition: u32, i: usize, out: &mut [u8; 40
     let mut text = io::large_buffer();
     let n = os::arg(i, &mut text);
     if os::errno() != 0 {
-        fail(b"guard");
+        complain(
+            b"guard",
+            b": text too large: a guard has at most 65,536 bytes",
+        );
         return UNDONE;
     }
     let status = guard(names, rows, edition, &text[..n], out);
@@ -259,18 +262,25 @@ fn worse(a: u32, b: u32) -> u32
     a
 }
 
+// What is said where there is no argument left.
+fn unnamed(wish: Wish) -> u32
+    ensures { λ r. ⌜ r ≤ 3 ⌝ }
+{
+    if wish.guard {
+        complain(b"guard", b" takes a text; see kaori help");
+        return UNDONE;
+    }
+    complain(b"no file", b" is named; see kaori help");
+    UNDONE
+}
+
 // The files, or guards, of the arguments from `first` up to `end`.
 fn files(names: &[u8], rows: &[u32], wish: Wish, first: usize, end: usize) -> u32
     ensures { λ r. ⌜ r ≤ 3 ⌝ }
 {
     let mut out = io::buffer();
     if first >= end {
-        if wish.guard {
-            complain(b"guard", b" takes a text; see kaori help");
-            return UNDONE;
-        }
-        complain(b"no file", b" is named; see kaori help");
-        return UNDONE;
+        return unnamed(wish);
     }
     let mut status = GOOD;
     let mut i = first;

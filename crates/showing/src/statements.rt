@@ -60,6 +60,19 @@ fn show(
     tree(text, nodes, links, covers, built, out, row, 0, false);
 }
 
+// The first line of an expression, and the expression as it is read.
+fn show_first(text: &[u8], covers: &[u32], out: &mut [u8; 4096], row: u32) {
+    let part = part_of(covers, row);
+    let head = put_first_line(text, part.start, part.end, 72, out, 0);
+    end_line(out, head);
+}
+
+fn show_said(text: &[u8], nodes: &[u32], links: &[u32], out: &mut [u8; 4096], row: u32) {
+    let from = indent(4, 0, out, 0);
+    let said = say(text, nodes, links, out, row, 0, from);
+    end_line(out, said);
+}
+
 // An expression alone: its first line, how it is read, and its tree.
 fn show_alone(
     text: &[u8],
@@ -70,13 +83,9 @@ fn show_alone(
     out: &mut [u8; 4096],
     row: u32,
 ) {
-    let part = part_of(covers, row);
-    let head = put_first_line(text, part.start, part.end, 72, out, 0);
-    end_line(out, head);
+    show_first(text, covers, out, row);
     put_line(b"  reads as", out);
-    let from = indent(4, 0, out, 0);
-    let said = say(text, nodes, links, out, row, 0, from);
-    end_line(out, said);
+    show_said(text, nodes, links, out, row);
     put_line(b"  tree", out);
     tree(text, nodes, links, covers, built, out, row, 0, false);
 }
