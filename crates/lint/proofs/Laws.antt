@@ -3,22 +3,23 @@
 use Prim.Native.Nat.{ℕ, zero, suc, _+_, _-_, _≤_, _<_}
 use native.Mathlib.Decide.{ℕ-discrete, decLt}
 use native.Mathlib.Omega.{arith}
-use mathlib.Core.Bool.{Bool, true, false, not, cond, _&&_, false≢true}
+use mathlib.Core.Bool.{Bool, true, false, not, cond, _||_, false≢true}
 use mathlib.Core.List.{List}
 use mathlib.Core.Logic.{_⊎_, inl, inr, ⊎-elim}
 use mathlib.Core.Path.{_≡_, refl, sym, ap, _∙_, subst}
 use lib.Dec.{eqb, ltb}
 use lib.ListN.{length, getD, List·getD-eq-default}
 use borrow.Author.Tests.{ne-eqb, lt-ltb, le-ltb}
+use Rattle.grammar.specs.Edition.{Edition}
 use Rattle.grammar.specs.Handle.{absent}
-use Rattle.grammar.specs.Kind.{LeftParen, RightParen, Hash, LeftBrace, RightBrace}
+use Rattle.grammar.specs.Kind.{RightParen, Hash, LeftBrace, RightBrace}
+use Rattle.grammar.specs.Label.{Node, number-of}
 use Rattle.grammar.specs.Pattern.{among}
 use Rattle.grammar.specs.Token.{count, kind, start, end}
 use Rattle.spelling.specs.Decides.{Decides}
 use Rattle.spelling.proofs.Deciding.{holds, fails, carried}
 use Rattle.diagnostics.specs.Line.{ends}
-use Rattle.lint.specs.declared.Rule.{Rule}
-use Rattle.lint.specs.Reach.{number, kind-of, start-of, end-of, parent-of, last-numbers, last, Takes, next, Ends, here, Past, First-past, left-number, Sign, opens, closes, counted, after, brackets, encloses, passing, enclosing, in-block}
+use Rattle.lint.specs.Reach.{number, kind-of, start-of, end-of, parent-of, last-numbers, last, Takes, next, Ends, here, Past, First-past, left-number, Sign, opens, closes, counted, after, brackets, encloses, enclosing, in-block}
 use Rattle.lint.specs.Rules.{Line-ends, On-new-line, joining, closed, going-on, Reached, Reaching-not, Cut-at, Cut-off, Going-on, Long-string, Any, Next}
 
 -- a search from a number on: it has come to i, and none of those before is what is looked for
@@ -74,7 +75,7 @@ pub between : {text ts : List ℕ} {k s e : ℕ} {r : Bool} → 0 < k → k < co
 between l h i e s d = carried (λ b. record { second = l; inside = h; level = i; breaks = rw (sym e) (rw (sym s) b) }) (λ n. rw e (rw s (n .breaks))) d
 
 -- what a row takes last
-pub past-kinds : (k : ℕ) → 19 < k → 0 ≡ getD last-numbers k 0
+pub past-kinds : (k : ℕ) → number-of Node.Lambda < k → 0 ≡ getD last-numbers k 0
 past-kinds k l = let m : length last-numbers ≤ k = omega arith in sym (List·getD-eq-default last-numbers 0 m)
 
 pub takes-number : (nodes : List ℕ) (row : ℕ) {k i r : ℕ} → k ≡ kind-of nodes row → i ≡ getD last-numbers k 0 → (i ≡ 0 → ⊥) → r ≡ number nodes row i → r ≡ last nodes row
@@ -126,33 +127,22 @@ pub sign-at : {ts nodes : List ℕ} {row k x end offset place left : ℕ} → x 
 sign-at {end = end} x p l e o f = record { end = end; ends = rw (sym x) (rw (sym p) (rw (sym l) e)); first = rw (sym o) f }
 
 -- brackets: no more are open than there are tokens
-grown : (x n : ℕ) → counted x n ≤ suc n
-grown x n = go (opens x) (closes x)
-  where
-    go : (b c : Bool) → cond b (suc n) (cond c (n - 1) n) ≤ suc n
-    go true c = omega arith
-    go false true = omega arith
-    go false false = omega arith
+pub grown : (more fewer : Bool) (n : ℕ) → counted more fewer n ≤ suc n
+grown true c n = omega arith
+grown false true n = omega arith
+grown false false n = omega arith
 
 pub few : (ts : List ℕ) (offset k : ℕ) → brackets ts offset k ≤ k
 unfolding brackets
 few ts offset zero = omega arith
 few ts offset (suc i) = go (ltb offset (start ts i)) (few ts offset i)
   where
-    go : (b : Bool) → brackets ts offset i ≤ i → cond b (counted (kind ts i) (brackets ts offset i)) (brackets ts offset i) ≤ suc i
-    go true l = omega (arith, grown (kind ts i) (brackets ts offset i), l)
+    go : (b : Bool) → brackets ts offset i ≤ i → cond b (counted (opens (kind ts i)) (closes (kind ts i)) (brackets ts offset i)) (brackets ts offset i) ≤ suc i
+    go true l = omega (arith, grown (opens (kind ts i)) (closes (kind ts i)) (brackets ts offset i), l)
     go false l = omega (arith, l)
 
-pub opened-one : {x : ℕ} (n : ℕ) → (x ≡ LeftParen) ⊎ (x ≡ LeftBrace) → n + 1 ≡ counted x n
-opened-one n (inl e) = rw e (omega arith)
-opened-one n (inr e) = rw e (omega arith)
-
-pub closed-one : {x m : ℕ} (n : ℕ) → (x ≡ RightParen) ⊎ (x ≡ RightBrace) → m ≡ n - 1 → m ≡ counted x n
-closed-one n (inl e) f = rw e f
-closed-one n (inr e) f = rw e f
-
-pub no-bracket : {x : ℕ} (n : ℕ) → ((x ≡ LeftParen) ⊎ (x ≡ LeftBrace) → ⊥) → ((x ≡ RightParen) ⊎ (x ≡ RightBrace) → ⊥) → n ≡ counted x n
-no-bracket {x} n o c = rw (ne-eqb x LeftParen (λ e. o (inl e))) (rw (ne-eqb x LeftBrace (λ e. o (inr e))) (rw (ne-eqb x RightParen (λ e. c (inl e))) (rw (ne-eqb x RightBrace (λ e. c (inr e))) refl)))
+pub neither-of : {x : ℕ} (y z : ℕ) → ((x ≡ y) ⊎ (x ≡ z) → ⊥) → false ≡ (eqb x y || eqb x z)
+neither-of {x} y z n = rw (ne-eqb x y (λ e. n (inl e))) (rw (ne-eqb x z (λ e. n (inr e))) refl)
 
 pub none-yet : (ts : List ℕ) (offset : ℕ) → 0 ≡ brackets ts offset 0
 unfolding brackets
@@ -161,43 +151,15 @@ none-yet ts offset = refl
 pub uncounted : (ts : List ℕ) (offset i n : ℕ) {s : ℕ} → s ≡ start ts i → s ≤ offset → n ≡ after ts offset i n
 uncounted ts offset i n e l = rw (le-ltb offset (start ts i) (omega (arith, e))) refl
 
-pub counts : (ts : List ℕ) (offset i n : ℕ) {s x r : ℕ} → s ≡ start ts i → offset < s → x ≡ kind ts i → r ≡ counted x n → r ≡ after ts offset i n
-counts ts offset i n e l x c = rw (lt-ltb offset (start ts i) (omega (arith, e))) (c ∙ ap (λ (y : ℕ). counted y n) x)
+pub counts : (ts : List ℕ) (offset i n : ℕ) {s x r : ℕ} {more fewer : Bool} → s ≡ start ts i → offset < s → x ≡ kind ts i → more ≡ opens x → fewer ≡ closes x → r ≡ counted more fewer n → r ≡ after ts offset i n
+counts ts offset i n e l x o c r = rw (lt-ltb offset (start ts i) (omega (arith, e))) (rw (sym x) (rw (sym o) (rw (sym c) r)))
 
 pub one-bracket-more : (ts : List ℕ) (offset i : ℕ) {n r : ℕ} → n ≡ brackets ts offset i → r ≡ after ts offset i n → r ≡ brackets ts offset (i + 1)
 unfolding brackets
 one-bracket-more ts offset i e f = let n : suc i ≡ i + 1 = omega arith in rw e at f ∙ ap (λ (k : ℕ). brackets ts offset k) n
 
 -- the innermost open bracket
-pub past-open : (x n : ℕ) → (n ≡ 0 → ⊥) → false ≡ encloses x n
-past-open x n z = go (opens x)
-  where
-    go : (b : Bool) → false ≡ (b && eqb n 0)
-    go true = sym (ne-eqb n 0 z)
-    go false = refl
-
-pub opens-paren : {x n : ℕ} → x ≡ LeftParen → n ≡ 0 → true ≡ encloses x n
-opens-paren e z = rw e (rw z refl)
-
-pub opens-brace : {x n : ℕ} → (x ≡ LeftParen → ⊥) → n ≡ 0 → eqb x LeftBrace ≡ encloses x n
-opens-brace {x} p z = rw (ne-eqb x LeftParen p) (rw z (go (eqb x LeftBrace)))
-  where
-    go : (b : Bool) → b ≡ (b && true)
-    go true = refl
-    go false = refl
-
-pub closing-one : {x : ℕ} (n : ℕ) → (x ≡ RightParen) ⊎ (x ≡ RightBrace) → n + 1 ≡ passing x n
-closing-one n (inl e) = rw e (omega arith)
-closing-one n (inr e) = rw e (omega arith)
-
-pub opening-one : {x m : ℕ} (n : ℕ) → (x ≡ LeftParen) ⊎ (x ≡ LeftBrace) → m ≡ n - 1 → m ≡ passing x n
-opening-one n (inl e) f = rw e f
-opening-one n (inr e) f = rw e f
-
-pub passing-other : {x : ℕ} (n : ℕ) → ((x ≡ RightParen) ⊎ (x ≡ RightBrace) → ⊥) → ((x ≡ LeftParen) ⊎ (x ≡ LeftBrace) → ⊥) → n ≡ passing x n
-passing-other {x} n c o = rw (ne-eqb x RightParen (λ e. c (inl e))) (rw (ne-eqb x RightBrace (λ e. c (inr e))) (rw (ne-eqb x LeftParen (λ e. o (inl e))) (rw (ne-eqb x LeftBrace (λ e. o (inr e))) refl)))
-
-pub one-back : (ts : List ℕ) (n : ℕ) {i : ℕ} (j : ℕ) → i ≡ suc j → encloses (kind ts j) n ≡ false → enclosing ts i n ≡ enclosing ts j (passing (kind ts j) n)
+pub one-back : (ts : List ℕ) (n : ℕ) {i : ℕ} (j : ℕ) → i ≡ suc j → encloses (kind ts j) n ≡ false → enclosing ts i n ≡ enclosing ts j (counted (closes (kind ts j)) (opens (kind ts j)) n)
 unfolding enclosing
 one-back ts n j e f = rw e (rw f refl)
 
@@ -205,8 +167,8 @@ pub encloses-here : (ts : List ℕ) (n : ℕ) {i : ℕ} (j : ℕ) → i ≡ suc 
 unfolding enclosing
 encloses-here ts n j e f = rw e (rw f refl)
 
-pub back-one : (ts : List ℕ) (n : ℕ) {i x m t : ℕ} {b : Bool} (j : ℕ) → i ≡ suc j → x ≡ kind ts j → b ≡ encloses x n → b ≡ false → m ≡ passing x n → enclosing ts i n ≡ t → enclosing ts j m ≡ t
-back-one ts n j e x b f m t = rw m (rw x (sym (one-back ts n j e (rw x at (sym b ∙ f))) ∙ t))
+pub back-one : (ts : List ℕ) (n : ℕ) {i x m t : ℕ} {b more fewer : Bool} (j : ℕ) → i ≡ suc j → x ≡ kind ts j → b ≡ encloses x n → b ≡ false → more ≡ closes x → fewer ≡ opens x → m ≡ counted more fewer n → enclosing ts i n ≡ t → enclosing ts j m ≡ t
+back-one ts n j e x b f c o m t = rw m (rw c (rw o (rw x (sym (one-back ts n j e (rw x at (sym b ∙ f))) ∙ t))))
 
 pub found-open : (ts : List ℕ) (n : ℕ) {i x t : ℕ} {b : Bool} (j : ℕ) → i ≡ suc j → x ≡ kind ts j → b ≡ encloses x n → b ≡ true → enclosing ts i n ≡ t → j ≡ t
 found-open ts n j e x b f t = sym (encloses-here ts n j e (rw x at (sym b ∙ f))) ∙ t
@@ -215,20 +177,12 @@ pub none-open : (ts : List ℕ) (n : ℕ) → enclosing ts 0 n ≡ absent
 unfolding enclosing
 none-open ts n = refl
 
-pub passing-few : (x n : ℕ) → passing x n ≤ suc n
-passing-few x n = go (closes x) (opens x)
-  where
-    go : (b c : Bool) → cond b (suc n) (cond c (n - 1) n) ≤ suc n
-    go true c = omega arith
-    go false true = omega arith
-    go false false = omega arith
-
 pub open-before : (ts : List ℕ) (k n : ℕ) → (enclosing ts k n ≡ absent) ⊎ (enclosing ts k n < k)
 unfolding enclosing
 open-before ts zero n = inl refl
-open-before ts (suc i) n = go (encloses (kind ts i) n) (open-before ts i (passing (kind ts i) n))
+open-before ts (suc i) n = go (encloses (kind ts i) n) (open-before ts i (counted (closes (kind ts i)) (opens (kind ts i)) n))
   where
-    go : (b : Bool) → (enclosing ts i (passing (kind ts i) n) ≡ absent) ⊎ (enclosing ts i (passing (kind ts i) n) < i) → (cond b i (enclosing ts i (passing (kind ts i) n)) ≡ absent) ⊎ (cond b i (enclosing ts i (passing (kind ts i) n)) < suc i)
+    go : {e : ℕ} (b : Bool) → (e ≡ absent) ⊎ (e < i) → (cond b i e ≡ absent) ⊎ (cond b i e < suc i)
     go true d = inr (omega arith)
     go false (inl e) = inl e
     go false (inr l) = inr (omega (arith, l))
@@ -285,10 +239,10 @@ reached-by {ts} {nodes} {row} {x} {k = k} {s} {n} y i v t e b = go (ℕ-discrete
     go (yes z) = rw z (holds (record { joined = rw y at (sym i ∙ v); token = k; sign = t; bare = at ∙ z }))
     go (no z) = rw (ne-eqb n 0 z) (fails λ r. z (sym at ∙ subst (λ i. brackets ts (start-of nodes row) i ≡ 0) (one-sign (r .sign) t) (r .bare)))
 
-pub reaching-from : {ts nodes : List ℕ} {row x above k : ℕ} → k ≡ kind-of nodes row → k ≡ 4 → Walked nodes (Reached ts nodes row) row above → x ≡ last nodes above → x < above → Reached ts nodes row x → Decides (Reaching-not ts nodes row) true
+pub reaching-from : {ts nodes : List ℕ} {row x above k : ℕ} → k ≡ kind-of nodes row → k ≡ number-of (Node.LogicalNot Edition.first) → Walked nodes (Reached ts nodes row) row above → x ≡ last nodes above → x < above → Reached ts nodes row x → Decides (Reaching-not ts nodes row) true
 reaching-from {nodes = nodes} {x = x} {above} e n w l h r = holds (record { not = sym e ∙ n; taken = x; takes = w .on x (rw l (Takes.next {row = above} (rw (sym l) h))); reached = r })
 
-pub no-not : {ts nodes : List ℕ} {row k : ℕ} → k ≡ kind-of nodes row → (k ≡ 4 → ⊥) → Decides (Reaching-not ts nodes row) false
+pub no-not : {ts nodes : List ℕ} {row k : ℕ} → k ≡ kind-of nodes row → (k ≡ number-of (Node.LogicalNot Edition.first) → ⊥) → Decides (Reaching-not ts nodes row) false
 no-not e n = fails λ r. n (e ∙ r .not)
 
 pub reaching-nothing : {ts nodes : List ℕ} {row x above : ℕ} → Walked nodes (Reached ts nodes row) row above → x ≡ last nodes above → above ≤ x → Decides (Reaching-not ts nodes row) false
@@ -310,17 +264,17 @@ cut-here l e f x b y g = carried (λ t. record { inside = l; last = sym e ∙ f;
 pub not-closed : {ts nodes : List ℕ} {row x : ℕ} {b : Bool} → x ≡ kind-of nodes row → b ≡ among closed x → b ≡ false → Decides (Cut-off ts nodes row) false
 not-closed x c f = fails λ r. not-both (rw x at (sym c ∙ f)) (r .own)
 
-pub no-statement : {ts nodes : List ℕ} {row p x : ℕ} → p ≡ parent-of nodes row → x ≡ kind-of nodes p → (x ≡ 20 → ⊥) → Decides (Cut-off ts nodes row) false
+pub no-statement : {ts nodes : List ℕ} {row p x : ℕ} → p ≡ parent-of nodes row → x ≡ kind-of nodes p → (x ≡ number-of Node.Block → ⊥) → Decides (Cut-off ts nodes row) false
 no-statement {nodes = nodes} p x n = fails λ r. n (x ∙ ap (λ (i : ℕ). kind-of nodes i) p ∙ r .statement)
 
-pub cut-found : {ts nodes : List ℕ} {row y p x e k : ℕ} {b : Bool} → y ≡ kind-of nodes row → b ≡ among closed y → b ≡ true → p ≡ parent-of nodes row → x ≡ kind-of nodes p → x ≡ 20 → e ≡ end-of nodes row → Cut-at ts e k → Decides (Cut-off ts nodes row) true
+pub cut-found : {ts nodes : List ℕ} {row y p x e k : ℕ} {b : Bool} → y ≡ kind-of nodes row → b ≡ among closed y → b ≡ true → p ≡ parent-of nodes row → x ≡ kind-of nodes p → x ≡ number-of Node.Block → e ≡ end-of nodes row → Cut-at ts e k → Decides (Cut-off ts nodes row) true
 cut-found {nodes = nodes} {k = k} y o t p x b e c = holds (record { own = rw y at (sym o ∙ t); statement = sym (ap (λ (i : ℕ). kind-of nodes i) p) ∙ sym x ∙ b; token = k; cut = rw (sym e) c })
 
 pub cut-nowhere : {ts nodes : List ℕ} {row e k : ℕ} → e ≡ end-of nodes row → Passed (Cut-at ts e) 0 k → count ts ≤ k + 1 → Decides (Cut-off ts nodes row) false
 cut-nowhere {ts} {k = k} e s l = fails λ r. let c = rw (sym e) at (r .cut) in s .none (r .token) (omega arith) (omega (arith, c .inside, l)) c
 
 -- Rule 3
-pub call-goes-on : {text ts nodes : List ℕ} {row x s k : ℕ} {r : Bool} → x ≡ kind-of nodes row → x ≡ 15 → s ≡ start-of nodes row → First-past ts s k → Decides (On-new-line text ts k) r → Decides (Going-on text ts nodes row) r
+pub call-goes-on : {text ts nodes : List ℕ} {row x s k : ℕ} {r : Bool} → x ≡ kind-of nodes row → x ≡ number-of Node.FunctionCall → s ≡ start-of nodes row → First-past ts s k → Decides (On-new-line text ts k) r → Decides (Going-on text ts nodes row) r
 call-goes-on {text} {ts} {nodes} {row} {x} {s} {k} e c i f d = carried to back d
   where
     to : On-new-line text ts k → Going-on text ts nodes row
@@ -330,7 +284,7 @@ call-goes-on {text} {ts} {nodes} {row} {x} {s} {k} e c i f d = carried to back d
     back (inl g) = subst (On-new-line text ts) (one-first (g .opening) (rw (sym i) f)) (g .line)
     back (inr g) = absurd (omega (arith, e, c, g .binary))
 
-pub sum-goes-on : {text ts nodes : List ℕ} {row x o k : ℕ} {r : Bool} → x ≡ kind-of nodes row → x ≡ 1 → o ≡ number nodes row 3 → o ≤ 1 → Sign ts nodes row k → Decides (On-new-line text ts k) r → Decides (Going-on text ts nodes row) r
+pub sum-goes-on : {text ts nodes : List ℕ} {row x o k : ℕ} {r : Bool} → x ≡ kind-of nodes row → x ≡ number-of Node.Binary → o ≡ number nodes row 3 → o ≤ 1 → Sign ts nodes row k → Decides (On-new-line text ts k) r → Decides (Going-on text ts nodes row) r
 sum-goes-on {text} {ts} {nodes} {row} {x} {o} {k} e b p l t d = carried to back d
   where
     to : On-new-line text ts k → Going-on text ts nodes row
@@ -340,17 +294,17 @@ sum-goes-on {text} {ts} {nodes} {row} {x} {o} {k} e b p l t d = carried to back 
     back (inl g) = absurd (omega (arith, e, b, g .call))
     back (inr g) = subst (On-new-line text ts) (one-sign (g .sign) t) (g .line)
 
-pub neither : {text ts nodes : List ℕ} {row x : ℕ} → x ≡ kind-of nodes row → (x ≡ 15 → ⊥) → (x ≡ 1 → ⊥) → Decides (Going-on text ts nodes row) false
+pub neither : {text ts nodes : List ℕ} {row x : ℕ} → x ≡ kind-of nodes row → (x ≡ number-of Node.FunctionCall → ⊥) → (x ≡ number-of Node.Binary → ⊥) → Decides (Going-on text ts nodes row) false
 neither e c b = fails λ g. ⊎-elim (λ g. c (e ∙ g .call)) (λ g. b (e ∙ g .binary)) g
 
-pub other-sign : {text ts nodes : List ℕ} {row x o : ℕ} → x ≡ kind-of nodes row → (x ≡ 15 → ⊥) → o ≡ number nodes row 3 → 1 < o → Decides (Going-on text ts nodes row) false
+pub other-sign : {text ts nodes : List ℕ} {row x o : ℕ} → x ≡ kind-of nodes row → (x ≡ number-of Node.FunctionCall → ⊥) → o ≡ number nodes row 3 → 1 < o → Decides (Going-on text ts nodes row) false
 other-sign e c p l = fails λ g. ⊎-elim (λ g. c (e ∙ g .call)) (λ g. absurd (omega (arith, p, l, g .operator))) g
 
 -- Rule 4
-pub no-string : {text nodes : List ℕ} {row x : ℕ} → x ≡ kind-of nodes row → (x ≡ 11 → ⊥) → Decides (Long-string text nodes row) false
+pub no-string : {text nodes : List ℕ} {row x : ℕ} → x ≡ kind-of nodes row → (x ≡ number-of Node.String → ⊥) → Decides (Long-string text nodes row) false
 no-string e n = fails λ r. n (e ∙ r .string)
 
-pub a-string : {text nodes : List ℕ} {row x s t : ℕ} {r : Bool} → x ≡ kind-of nodes row → x ≡ 11 → s ≡ start-of nodes row → t ≡ end-of nodes row → Decides (Line-ends text s t) r → Decides (Long-string text nodes row) r
+pub a-string : {text nodes : List ℕ} {row x s t : ℕ} {r : Bool} → x ≡ kind-of nodes row → x ≡ number-of Node.String → s ≡ start-of nodes row → t ≡ end-of nodes row → Decides (Line-ends text s t) r → Decides (Long-string text nodes row) r
 a-string e x s t d = carried (λ l. record { string = sym e ∙ x; line = rw (sym s) (rw (sym t) l) }) (λ r. rw s (rw t (r .line))) d
 
 -- any rule: the first three fail, and the fourth decides

@@ -76,18 +76,20 @@ pub record Sign (ts nodes : List ℕ) (row k : ℕ) : Type 0 where
   pub ends : Ends nodes (number nodes row (left-number (kind-of nodes row))) end
   pub first : First-past ts (end-of nodes end) k
 
--- so many brackets are open before token k, of those that are opened past an offset
+-- the kinds that open a bracket, and those that close one
 abbrev pub opens : ℕ → Bool
 opens x = eqb x LeftParen || eqb x LeftBrace
 
 abbrev pub closes : ℕ → Bool
 closes x = eqb x RightParen || eqb x RightBrace
 
-abbrev pub counted : (kind before : ℕ) → ℕ
-counted x n = cond (opens x) (suc n) (cond (closes x) (n - 1) n)
+-- so many brackets, and one more or one fewer, where there is one
+abbrev pub counted : (more fewer : Bool) (before : ℕ) → ℕ
+counted more fewer n = cond more (suc n) (cond fewer (n - 1) n)
 
+-- so many brackets are open before token k, of those that are opened past an offset
 abbrev pub after : (ts : List ℕ) (offset i before : ℕ) → ℕ
-after ts offset i n = cond (ltb offset (start ts i)) (counted (kind ts i) n) n
+after ts offset i n = cond (ltb offset (start ts i)) (counted (opens (kind ts i)) (closes (kind ts i)) n) n
 
 unfoldable pub brackets : (ts : List ℕ) (offset k : ℕ) → ℕ
 brackets ts offset zero = 0
@@ -95,14 +97,11 @@ brackets ts offset (suc i) = after ts offset i (brackets ts offset i)
 
 -- the innermost bracket that is open before token k, going back from it past as many that are closed; absent where none is
 abbrev pub encloses : (kind closed : ℕ) → Bool
-encloses x n = opens x && eqb n 0
-
-abbrev pub passing : (kind closed : ℕ) → ℕ
-passing x n = cond (closes x) (suc n) (cond (opens x) (n - 1) n)
+encloses x n = eqb n 0 && opens x
 
 unfoldable pub enclosing : (ts : List ℕ) (k closed : ℕ) → ℕ
 enclosing ts zero n = absent
-enclosing ts (suc i) n = cond (encloses (kind ts i) n) i (enclosing ts i (passing (kind ts i) n))
+enclosing ts (suc i) n = cond (encloses (kind ts i) n) i (enclosing ts i (counted (closes (kind ts i)) (opens (kind ts i)) n))
 
 -- a statement could start at token k: it stands in no parentheses and in no map, so in a block or in the script itself
 unfoldable pub in-block : (ts : List ℕ) (k : ℕ) → Bool

@@ -9,7 +9,7 @@ ghost use mathlib.Core.Path.{_≡_};
 ghost use lib.ListN.{getD};
 ghost use Rattle.grammar.specs.Token.{count};
 ghost use Rattle.spelling.specs.Decides.{Decides};
-ghost use Rattle.lint.specs.Reach.{last-numbers, last as last-of, Ends, Past, First-past, Sign, left-number, counted as counted-in, after as after-in, brackets as brackets-in, encloses, passing as passing-in, enclosing as enclosing-in, in-block};
+ghost use Rattle.lint.specs.Reach.{last-numbers, last as last-of, Ends, Past, First-past, Sign, left-number, opens, closes, counted as counted-in, after as after-in, brackets as brackets-in, encloses, enclosing as enclosing-in, in-block};
 
 // By kind, from 0 on: which number of a row names what it takes last, with nothing behind that; 0 where something closes it, or it takes nothing. Binary, LogicalAnd,
 // LogicalOr, LogicalNot, Unary and, at the end, Lambda have one.
@@ -97,24 +97,44 @@ pub fn sign(tokens: &[u32], nodes: &[u32], row: u32) -> usize
     first_past(tokens, node(nodes, end, 2))
 }
 
-// How many brackets are open after a token of this kind, from so many before it.
-fn counted(kind: u32, before: usize) -> usize
-    requires { ⌜ before < 18446744073709551615 ⌝ }
-    ensures { λ r. ⌜ r ≡ counted-in kind before ⌝ }
+// Whether a token of this kind opens a bracket.
+fn is_opening(kind: u32) -> bool
+    ensures { λ r. ⌜ r ≡ opens kind ⌝ }
 {
     match kind {
-        token::kinds::LEFT_PAREN | token::kinds::LEFT_BRACE => before + 1,
-        token::kinds::RIGHT_PAREN | token::kinds::RIGHT_BRACE => {
-            if before == 0 {
-                return 0;
-            }
-            before - 1
-        }
-        _ => before,
+        token::kinds::LEFT_PAREN | token::kinds::LEFT_BRACE => true,
+        _ => false,
     }
 }
 
-// The same where the token is one of a list, and counts only past an offset.
+// Whether it closes one.
+fn is_closing(kind: u32) -> bool
+    ensures { λ r. ⌜ r ≡ closes kind ⌝ }
+{
+    match kind {
+        token::kinds::RIGHT_PAREN | token::kinds::RIGHT_BRACE => true,
+        _ => false,
+    }
+}
+
+// So many brackets, and one more or one fewer, where there is one.
+fn counted(more: bool, fewer: bool, before: usize) -> usize
+    requires { ⌜ before < 18446744073709551615 ⌝ }
+    ensures { λ r. ⌜ r ≡ counted-in more fewer before ⌝ }
+{
+    if more {
+        return before + 1;
+    }
+    if !fewer {
+        return before;
+    }
+    if before == 0 {
+        return 0;
+    }
+    before - 1
+}
+
+// How many brackets are open after a token of a list, from so many before it: it counts only past an offset.
 fn after(tokens: &[u32], offset: u32, i: usize, before: usize) -> usize
     requires { ⌜ (i < count (now tokens)) × (before ≤ i) ⌝ }
     ensures { λ r. ⌜ r ≡ after-in (now (tokens .entry)) offset i before ⌝ }
@@ -122,7 +142,8 @@ fn after(tokens: &[u32], offset: u32, i: usize, before: usize) -> usize
     if start_at(tokens, i) <= offset {
         return before;
     }
-    counted(kind_at(tokens, i), before)
+    let kind = kind_at(tokens, i);
+    counted(is_opening(kind), is_closing(kind), before)
 }
 
 // How many brackets are open before token `upto`, of those that are opened past an offset. It asks that the list has so many tokens.
@@ -147,27 +168,7 @@ fn is_enclosing(kind: u32, closed: usize) -> bool
     if closed != 0 {
         return false;
     }
-    if kind == token::kinds::LEFT_PAREN {
-        return true;
-    }
-    kind == token::kinds::LEFT_BRACE
-}
-
-// How many brackets are passed that were closed, with a token of this kind.
-fn passing(kind: u32, closed: usize) -> usize
-    requires { ⌜ closed < 18446744073709551615 ⌝ }
-    ensures { λ r. ⌜ r ≡ passing-in kind closed ⌝ }
-{
-    match kind {
-        token::kinds::RIGHT_PAREN | token::kinds::RIGHT_BRACE => closed + 1,
-        token::kinds::LEFT_PAREN | token::kinds::LEFT_BRACE => {
-            if closed == 0 {
-                return 0;
-            }
-            closed - 1
-        }
-        _ => closed,
-    }
+    is_opening(kind)
 }
 
 // The innermost bracket that is open before token k; the absent number where none is.
@@ -183,7 +184,7 @@ fn enclosing(tokens: &[u32], k: usize) -> usize
         if is_enclosing(kind, closed) {
             return i;
         }
-        closed = passing(kind, closed);
+        closed = counted(is_closing(kind), is_opening(kind), closed);
     }
     ABSENT as usize
 }

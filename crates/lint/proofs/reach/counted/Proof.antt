@@ -1,17 +1,22 @@
--- `reach::counted` meets its contract: a bracket that opens, one that closes, or none.
+-- `reach::counted` meets its contract: one more, as many, or one fewer where there is one.
 use borrow.Author.Needs.{needs}
 use native.Mathlib.Omega.{arith}
-use Rattle.lint.proofs.Laws.{opened-one, closed-one, no-bracket}
+use mathlib.Core.Path.{refl}
+use borrow.Author.Tests.{not-true, not-false}
 use Rattle.lint.proofs.reach.counted.Statement.{statement}
 use Rattle.lint.proofs.reach.counted.Tie as tie
 
+returns : tie.Need-returns
+returns c = rw (c .if1 .taken) (omega arith)
+
+returns-2 : tie.Need-returns-2
+returns-2 c = rw (c .before .if1 .left, not-true (c .before .before .args .fewer) (c .if2 .taken)) refl
+
+returns-3 : tie.Need-returns-3
+returns-3 c = rw (c .before .before .if1 .left, not-false (c .before .before .before .args .fewer) (c .before .if2 .left)) (omega arith)
+
+returns-4 : tie.Need-returns-4
+returns-4 c = rw (c .before .before .if1 .left, not-false (c .before .before .before .args .fewer) (c .before .if2 .left)) (omega arith)
+
 pub counted-spec : {M : Type 1} → statement M
-counted-spec =
-    tie.close
-    (tie.spec
-    (λ c. search needs)
-    (λ c. closed-one _ (c .before .match .keys2) (omega arith))
-    (λ c. search needs)
-    (λ c. opened-one _ (c .match .keys1))
-    (λ c. closed-one _ (c .before .match .keys2) (omega arith))
-    (λ c. no-bracket _ (c .match .rest .0 .1) (c .match .rest .1)))
+counted-spec = tie.close (tie.spec (λ c. search needs) returns returns-2 returns-3 (λ c. search needs) returns-4)

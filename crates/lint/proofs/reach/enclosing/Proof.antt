@@ -1,10 +1,10 @@
 -- `reach::enclosing` meets its contract. Its loop goes back token by token, and keeps that from there on the same bracket is found.
 use borrow.Author.Needs.{needs}
-use Prim.Native.Nat.{ℕ, suc, _+_, _-_, _≤_}
+use Prim.Native.Nat.{suc, _+_, _-_, _≤_}
 use native.Mathlib.Omega.{arith}
 use mathlib.Core.Path.{_≡_, refl, sym, _∙_}
 use Rattle.lint.specs.Reach.{enclosing}
-use Rattle.lint.proofs.Laws.{back-one, found-open, none-open, passing-few}
+use Rattle.lint.proofs.Laws.{back-one, found-open, none-open, grown}
 use Rattle.lint.proofs.reach.enclosing.Statement.{statement}
 use Rattle.lint.proofs.reach.enclosing.Tie as tie
 
@@ -22,10 +22,11 @@ returns c =
 
 loop-again : tie.Need-loop-again Inv-loop μ-loop
 loop-again c =
-    let l = c .before .before .before .before .before .loop in
+    let n = c .before .before .before in
+    let l = n .before .before .before .before .loop in
     let e : l .i ≡ suc (l .i - 1) = omega arith in (
-      back-one (c .before .before .before .before .before .before .before .args .tokens .now) (l .closed) (l .i - 1) e (c .before .before .before .kind-at .ensures) (c .before .before .is-enclosing .ensures) (c .before .if1 .left) (c .passing .ensures) (l .inv .0),
-      omega (arith, c .passing .ensures, passing-few (c .before .before .before .kind-at .result) (l .closed)),
+      back-one (n .before .before .before .before .before .before .args .tokens .now) (l .closed) (l .i - 1) e (n .before .before .kind-at .ensures) (n .before .is-enclosing .ensures) (n .if1 .left) (c .before .before .is-closing .ensures) (c .before .is-opening .ensures) (c .counted .ensures) (l .inv .0),
+      omega (arith, c .counted .ensures, grown (c .before .before .is-closing .result) (c .before .is-opening .result) (l .closed)),
     )
 
 returns-2 : tie.Need-returns-2 Inv-loop μ-loop
@@ -45,6 +46,8 @@ enclosing-spec =
     (λ c κs. search needs)
     (λ c κs. search needs)
     returns
+    (λ c κs. search needs)
+    (λ c κs. search needs)
     (λ c κs. search needs)
     (λ c. search needs)
     loop-again
