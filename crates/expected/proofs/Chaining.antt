@@ -13,7 +13,8 @@ use Rattle.grammar.proofs.Overflow.{opened-append, opened-length}
 use Rattle.grammar.proofs.Stack.{Stack}
 use Rattle.grammar.proofs.Stopping.{opened, marks}
 use Rattle.expected.specs.Cells.{states, cell, decoded}
-use Rattle.expected.specs.Chains.{nothing, told, Chained, Extends}
+use Rattle.expected.specs.Chains.{nothing, told, Chained}
+use Rattle.expected.specs.Parts.{Extends}
 use Rattle.expected.specs.declared.Chain.{Chain}
 use Rattle.expected.specs.declared.Opening.{Opening}
 use Rattle.expected.proofs.Passing.{state-unmarked}

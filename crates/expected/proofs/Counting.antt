@@ -9,7 +9,7 @@ use lib.Dec.{eqb}
 use native.Mathlib.Nat.{pow-suc}
 use borrow.Author.Tests.{eq-eqb, ne-eqb}
 use Rattle.grammar.specs.Expected.{gathered, how-many, lowest-from}
-use Rattle.expected.specs.Tells.{lowest-of}
+use Rattle.expected.specs.Parts.{lowest-of}
 
 -- the digits under n are all
 pub under-power : (f : ℕ → Bool) (n : ℕ) → gathered f n < 2 ^ n

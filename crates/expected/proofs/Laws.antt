@@ -78,7 +78,7 @@ piling k at top room h = record {
 set-drop : (l : List ℕ) (t r : ℕ) → t < length l → drop t (set l t r) ≡ r ∷ drop (suc t) l
 set-drop l t r h = drop-cons (set l t r) t 0 (rw (length-set l t r) h) ∙ (rw (getD-set-same l t r 0 h, drop-set-lt (suc t) l t r (omega arith)))
 
-pub piled : {k at top : ℕ} {before after : List ℕ} {i t r : ℕ} → Piling k at top before after (i + 1) (t + 1) → 8 * k ≤ i → t < length after → Celled (getD lists i 0) at r → Piling k at top before (set after t r) i t
+piled : {k at top : ℕ} {before after : List ℕ} {i t r : ℕ} → Piling k at top before after (i + 1) (t + 1) → 8 * k ≤ i → t < length after → Celled (getD lists i 0) at r → Piling k at top before (set after t r) i t
 unfolding joined decoded
 piled {k} {at} {top} {before} {after} {i} {t} {r} p h l c = record {
   low = h;

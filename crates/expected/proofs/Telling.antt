@@ -25,10 +25,11 @@ use Rattle.grammar.proofs.Refusing.{refusing}
 use Rattle.grammar.proofs.Stack.{want, links, mark, Stack, Result, took, over, bars, Goes}
 use Rattle.grammar.proofs.Stopping.{opened, marks, Meets, Opens, meets, met-chain, one-met, onward-over, stood}
 use Rattle.expected.specs.Cells.{decoded, entry, barred, barred-by, only-marks, Sound}
-use Rattle.expected.specs.Chains.{Chained, Extends, Inner, Inside}
+use Rattle.expected.specs.Chains.{Chained}
 use Rattle.expected.specs.Left.{Asked-of, Reached, Comes-to, Left-at}
+use Rattle.expected.specs.Parts.{Inner, Inside, lowest-of, Filled, Nothing, code-of, opened-by}
 use Rattle.expected.specs.Steps.{Too-deep, Taken, Ends, Bars, Case, Stepped, Admits, Gathers}
-use Rattle.expected.specs.Tells.{lowest-of, code-of, opened-by, Filled, Nothing, Tells}
+use Rattle.expected.specs.Tells.{Tells}
 use Rattle.expected.specs.declared.Chain.{Chain}
 use Rattle.expected.specs.declared.Rest.{Rest}
 use Rattle.expected.specs.declared.Told.{Told}

@@ -4,3 +4,4 @@ pub mod Steps
 pub mod Chains
 pub mod Left
 pub mod Tells
+pub mod Parts

@@ -7,6 +7,7 @@ mod tables;
 use crate::stack::Step;
 use crate::stack::admits;
 use crate::stack::advance;
+use crate::stack::size;
 use crate::tables::MARK;
 use crate::tables::NO_BLOCK;
 use crate::tables::NO_FOR;
@@ -26,10 +27,11 @@ ghost use Rattle.grammar.specs.Edition.{edition as the-edition};
 ghost use Rattle.grammar.proofs.Stopping.{opened, marks};
 ghost use Rattle.expected.specs.Cells.{decoded, Sound};
 ghost use Rattle.expected.specs.Steps.{Gathers};
-ghost use Rattle.expected.specs.Chains.{Chained, Extends, Inside};
+ghost use Rattle.expected.specs.Chains.{Chained};
 ghost use Rattle.expected.specs.Tables.{tables};
 ghost use Rattle.expected.specs.Left.{Asked-of, Asks, Asked, Reached, Left-at};
-ghost use Rattle.expected.specs.Tells.{lowest-of, code-of, opened-by, Filled, Nothing, Tells};
+ghost use Rattle.expected.specs.Tells.{Tells};
+ghost use Rattle.expected.specs.Parts.{Extends, Inside, lowest-of, Filled, Nothing, code-of, opened-by};
 
 // An open construct: its sort (module sorts), and its opening token.
 pub struct Opening {
@@ -171,12 +173,6 @@ fn narrow(x: usize) -> u32
     ensures { λ r. ⌜ r ≡ x ⌝ }
 {
     x as u32
-}
-
-fn size(x: u32) -> usize
-    ensures { λ r. ⌜ r ≡ x ⌝ }
-{
-    x as usize
 }
 
 // What is left to read after the tokens before a place.

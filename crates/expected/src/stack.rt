@@ -22,7 +22,7 @@ pub(crate) enum Step {
     Barred(usize, usize, usize),
 }
 
-fn size(x: u32) -> usize
+pub(crate) fn size(x: u32) -> usize
     ensures { λ r. ⌜ r ≡ x ⌝ }
 {
     x as usize

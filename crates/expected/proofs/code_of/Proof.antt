@@ -2,7 +2,7 @@
 use Prim.Native.Nat.{ℕ, zero, suc, _<_}
 use mathlib.Core.Path.{_≡_, refl}
 use native.Mathlib.Omega.{arith}
-use Rattle.expected.specs.Tells.{code-of}
+use Rattle.expected.specs.Parts.{code-of}
 use Rattle.expected.proofs.code_of.Statement.{statement}
 use Rattle.expected.proofs.code_of.Tie as tie
 

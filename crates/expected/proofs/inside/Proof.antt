@@ -2,7 +2,7 @@
 use Prim.Native.Nat.{ℕ, zero, suc, _<_}
 use mathlib.Core.Path.{_≡_, refl, sym, subst}
 use native.Mathlib.Omega.{arith}
-use Rattle.expected.specs.Chains.{Inner, Inside}
+use Rattle.expected.specs.Parts.{Inner, Inside}
 use Rattle.expected.specs.declared.Chain.{Chain}
 use Rattle.expected.proofs.inside.Statement.{statement}
 use Rattle.expected.proofs.inside.Tie as tie

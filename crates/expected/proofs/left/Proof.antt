@@ -17,7 +17,7 @@ use Rattle.expected.proofs.left.Reads as reads
 use Rattle.token.proofs.list.kind_at.Reads as kind-at-reads
 use Rattle.expected.proofs.narrow.Reads as narrow-reads
 use Rattle.expected.proofs.stack.advance.Reads as advance-reads
-use Rattle.expected.proofs.size.Reads as size-reads
+use Rattle.expected.proofs.stack.size.Reads as size-reads
 
 abbrev Inv-loop : tie.InvT-loop
 Inv-loop table tokens edition limit at room₀ top₀ depth₀ i₀ room top depth i = (i ≤ at) × Leaving (the-edition edition) tokens limit room top depth i

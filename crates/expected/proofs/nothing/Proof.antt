@@ -2,8 +2,7 @@
 use borrow.Author.Needs.{needs}
 use mathlib.Core.Path.{_≡_, sym, subst, _∙_, refl}
 use lib.Count.{ones, onesIn, trailingZeros}
-use Rattle.expected.specs.Chains.{Chained}
-use Rattle.expected.specs.Tells.{lowest-of}
+use Rattle.expected.specs.Parts.{lowest-of}
 use Rattle.expected.proofs.nothing.Statement.{statement}
 use Rattle.expected.proofs.nothing.Tie as tie
 

@@ -2,7 +2,7 @@
 use Prim.Native.Nat.{ℕ, zero, suc, _≤_, _<_}
 use mathlib.Core.Path.{_≡_, refl}
 use native.Mathlib.Omega.{arith}
-use Rattle.expected.specs.Tells.{opened-by}
+use Rattle.expected.specs.Parts.{opened-by}
 use Rattle.expected.proofs.opened_by.Statement.{statement}
 use Rattle.expected.proofs.opened_by.Tie as tie
 

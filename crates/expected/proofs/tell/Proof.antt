@@ -10,14 +10,14 @@ use Rattle.grammar.specs.Kind.{Eof}
 use Rattle.grammar.specs.Token.{kind}
 use Rattle.expected.specs.Left.{Asked-of, Reached}
 use Rattle.expected.specs.Steps.{Taken, Bars, Stepped}
-use Rattle.expected.specs.Tells.{opened-by}
+use Rattle.expected.specs.Parts.{opened-by}
 use Rattle.expected.proofs.Leaving.{as-took}
 use Rattle.expected.proofs.Telling.{opened-few, nothing-told, unknown-kind, not-taken, not-passed, passed-told, not-over, below-sound, lower, only-deep, barred-deep, other-code, room-inside, barred-told, as-barred, as-over}
 use Rattle.expected.proofs.tell.Statement.{statement}
 use Rattle.expected.proofs.tell.Tie as tie
 use Rattle.expected.proofs.tell.Lts as lts
 use Rattle.expected.proofs.tell.Reads as reads
-use Rattle.expected.proofs.size.Reads as size-reads
+use Rattle.expected.proofs.stack.size.Reads as size-reads
 use Rattle.token.proofs.list.kind_at.Reads as kind-at-reads
 use Rattle.expected.proofs.nothing.Reads as nothing-reads
 use Rattle.expected.proofs.stack.advance.Reads as advance-reads
