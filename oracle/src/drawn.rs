@@ -198,15 +198,22 @@ pub fn damage(list: &mut Vec<Word>, random: &mut Random) {
     }
 }
 
-/// A small case, and random numbers to go with it: first the corners, then scripts, often damaged.
-pub fn small(edition: u32, seed: u64, index: u64) -> (Case, Random) {
+/// A small case, and random numbers to go with it: first the corners, then scripts or guards, often damaged.
+pub fn small(is_guard: bool, edition: u32, seed: u64, index: u64) -> (Case, Random) {
     let mut random = Random::of(seed, index);
     let own = if edition == SECOND { EDITIONS } else { &[] };
-    if let Some(text) = own.iter().chain(SAMPLES).chain(RULES).nth(index as usize) {
-        return (list::script(text), random);
+    let corner = match is_guard {
+        true => corners::guards().into_iter().nth(index as usize),
+        false => own.iter().chain(SAMPLES).chain(RULES).nth(index as usize).map(|text| list::script(text)),
+    };
+    if let Some(case) = corner {
+        return (case, random);
     }
     let size = random.between(1, 18);
-    let mut list = script(edition, &mut random, size);
+    let mut list = match is_guard {
+        true => expression(edition, true, &mut random, size),
+        false => script(edition, &mut random, size),
+    };
     if random.once_in(2) {
         (0..random.between(1, 2)).for_each(|_| damage(&mut list, &mut random));
     }

@@ -21,9 +21,10 @@ pub trait Row: Clone {
     fn shown(&self) -> String;
 }
 
-/// A case with its edition, its built-in names, its limit, its rooms and what the original made of it.
+/// A case with its entry and edition, its built-in names, its limit, its rooms and what the original made of it.
 #[derive(Clone)]
 pub struct Entry {
+    pub is_guard: bool,
     pub edition: u32,
     pub names: Builtins,
     pub case: Case,
@@ -46,6 +47,7 @@ impl Row for Entry {
 use mathlib.Core.List.{{List, [], _∷_}}
 use Rattle.grammar.specs.Edition.{{Edition}}
 use Rattle.grammar.specs.Outcome.{{refusal}}
+use Rattle.grammar.specs.Profile.{{Profile}}
 use Rattle.grammar.specs.Refusal.{{refused}}
 use Rattle.grammar.specs.Samples.{{Sample, writes}}
 
@@ -60,18 +62,18 @@ cases =
     fn proofs(model: &str) -> String {
         let model = replaced(
             model,
-            "specs.Samples.{Sample, All-right, samples, points, tight, named, later}",
+            "specs.Samples.{Sample, All-right, samples, points, tight, named, later, guards}",
             "specs.Samples.{Sample, All-right}\nuse Rattle.grammar.specs.Cases.{cases}",
         );
-        let model = replaced(&model, " 400 script", &format!(" {FUEL} script"));
+        let model = replaced(&model, " 400 (form p)", &format!(" {FUEL} (form p)"));
         let model = replaced(
             &model,
-            "pub samples-right : All-right (samples ++ points ++ tight ++ named ++ later)",
+            "pub samples-right : All-right (samples ++ points ++ tight ++ named ++ later ++ guards)",
             "pub cases-right : All-right cases",
         );
         replaced(
             &model,
-            "samples-right = all-right (samples ++ points ++ tight ++ named ++ later) refl",
+            "samples-right = all-right (samples ++ points ++ tight ++ named ++ later ++ guards) refl",
             "cases-right = all-right cases refl",
         )
     }
@@ -81,9 +83,9 @@ cases =
     }
 
     fn shown(&self) -> String {
-        let Entry { edition, names, case, limit, rooms, .. } = self.clone();
+        let Entry { is_guard, edition, names, case, limit, rooms, .. } = self.clone();
         let (edition, names, input) = (Some(edition), Some(names), case.encode());
-        let case = show::case(&Lent { is_guard: false, edition, names, limit, rooms, input }.encode());
+        let case = show::case(&Lent { is_guard, edition, names, limit, rooms, input }.encode());
         format!("{case}Rust\n         {:?}\n", self.outcome)
     }
 }
@@ -131,7 +133,7 @@ fn replaced(text: &str, old: &str, new: &str) -> String {
     text.replace(old, new)
 }
 
-fn sample(Entry { edition, names, case, limit, rooms, outcome }: &Entry) -> String {
+fn sample(Entry { is_guard, edition, names, case, limit, rooms, outcome }: &Entry) -> String {
     let built_in = [list(names.text.iter().map(|byte| *byte as u32)), list(names.rows.iter().copied())];
     let names = format!("names = record {{ text = {}; rows = {} }}", built_in[0], built_in[1]);
     let text = list(case.text.iter().map(|byte| *byte as u32));
@@ -150,7 +152,8 @@ fn sample(Entry { edition, names, case, limit, rooms, outcome }: &Entry) -> Stri
     let [nodes, links, symbols, _] = rooms;
     let rooms = format!("space = record {{ nodes = {nodes}; links = {links} }}; room = {symbols}");
     let edition = if *edition == SECOND { "second" } else { "first" };
-    let terms = format!("edition = Edition.{edition}; limit = {limit}");
+    let profile = if *is_guard { "guard" } else { "script" };
+    let terms = format!("profile = Profile.{profile}; edition = Edition.{edition}; limit = {limit}");
     format!("record {{ {terms}; {names}; text = {text}; tokens = {tokens}; {rooms}; outcome = {outcome} }}")
 }
 

@@ -7,6 +7,7 @@ use oracle::{
     drawn::Cases,
     editions::Sort,
     guards::{self, LADDERS, WRONG},
+    judge,
     kinds::{EOF, OUTSIDE, spelling},
     list::script,
     random::Random,
@@ -311,4 +312,15 @@ fn frames() {
     // without an edition all are of edition 1
     let edition = |frame: &Vec<u8>| Lent::decode(frame).map_or(Some(FIRST), |lent| lent.edition);
     assert!(guards::frames(None, 1, Sort::Named).take(6_000).all(|frame| edition(&frame) == Some(FIRST)));
+}
+
+/// The four kinds are expressions to the original: without the door's 17 it reads them.
+#[test]
+fn read_by_the_original() {
+    for text in ["{}", "{ a }", "if a {}", "|x| x", "#{}", "a + { b }"] {
+        let read = judge::read(&Builtins::default(), &script(text), Call::guard(64));
+        assert!(matches!(read.outcome, Outcome::Accepted(_)), "{text}");
+        let known = known(FIRST, script(text), 64);
+        assert_eq!(lines(&known.lent_all(known.ample()))[0][0], 17, "{text}");
+    }
 }

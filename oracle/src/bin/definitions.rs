@@ -1,4 +1,4 @@
-//! definitions N [--numbers] [--edition E] [--seed S] [--damage]: N of the original's answers, computed anew by antt from the
+//! definitions N [--numbers | --guard] [--edition E] [--seed S] [--damage]: N of the original's answers, computed anew by antt from the
 //! definitions of crate `grammar`, in a copy of that crate outside the repository.
 use std::{
     collections::BTreeMap,
@@ -17,7 +17,7 @@ use oracle::{
     rooms::Known,
     rows::Outcome,
     table::{Entry, Row},
-    terms::{FIRST, SECOND, Terms},
+    terms::{Call, FIRST, SECOND, Terms},
     tight::settings,
 };
 
@@ -29,29 +29,32 @@ const MOST_NAMES: usize = 5;
 
 fn main() -> ExitCode {
     let mut words = env::args().skip(1);
-    let (mut count, mut edition, mut seed, mut damage, mut numbers) = (None, FIRST, 1, false, false);
+    let (mut count, mut edition, mut seed) = (None, FIRST, 1);
+    let (mut damage, mut numbers, mut is_guard) = (false, false, false);
     while let Some(word) = words.next() {
         match word.as_str() {
             "--seed" => seed = words.next().and_then(|seed| seed.parse().ok()).unwrap_or(seed),
             "--edition" => edition = words.next().and_then(|edition| edition.parse().ok()).unwrap_or(edition),
             "--damage" => damage = true,
             "--numbers" => numbers = true,
+            "--guard" => is_guard = true,
             number => count = number.parse().ok(),
         }
     }
     let (Some(count), Some(grammar)) = (count, env::var_os("ORACLE_GRAMMAR")) else {
-        eprintln!("usage: oracle/definitions N [--numbers] [--edition E] [--seed S] [--damage]");
+        eprintln!("usage: oracle/definitions N [--numbers | --guard] [--edition E] [--seed S] [--damage]");
         return ExitCode::from(2);
     };
     oracle::with_large_stack(move || match numbers {
-        false => scripts(count, edition, seed, damage, Path::new(&grammar)),
+        false => lists(count, is_guard, edition, seed, damage, Path::new(&grammar)),
         true => texts(count, seed, damage, Path::new(&grammar)),
     })
 }
 
-/// Scripts that pass the door, and what the original makes of them.
-fn scripts(count: usize, edition: u32, seed: u64, damage: bool, grammar: &Path) -> ExitCode {
-    let mut entries: Vec<_> = (0..).filter_map(|index| entry(edition, seed, index)).take(count).collect();
+/// Scripts or guards that pass the door, and what the original makes of them.
+fn lists(count: usize, is_guard: bool, edition: u32, seed: u64, damage: bool, grammar: &Path) -> ExitCode {
+    let mut entries: Vec<_> =
+        (0..).filter_map(|index| entry(is_guard, edition, seed, index)).take(count).collect();
     if damage && let Some(entry) = entries.get_mut(count / 2) {
         falsify(&mut entry.outcome);
     }
@@ -90,26 +93,27 @@ fn run<R: Row>(rows: &[R], summary: String, grammar: &Path) -> ExitCode {
 
 /// A case that passes the door, every other time beside built-in names, with a limit near its own depth or the usual one, and
 /// rooms that tell, every other time with a row for each token and each name.
-fn entry(edition: u32, seed: u64, index: u64) -> Option<Entry> {
-    let (case, mut random) = small(edition, seed, index);
-    if door::refusal(&case, 64).is_some() {
+fn entry(is_guard: bool, edition: u32, seed: u64, index: u64) -> Option<Entry> {
+    let (case, mut random) = small(is_guard, edition, seed, index);
+    let call = |edition, limit| Call { is_guard, terms: Terms { edition, limit } };
+    if door::refusal(&case, call(FIRST, 64)).is_some() {
         return None;
     }
     let names =
         if random.once_in(2) { for_case(&case, MOST_NAMES, &mut random) } else { Builtins::default() };
     // scripts of edition 2 are read in edition 1, too
     let edition = if edition == SECOND && random.once_in(5) { FIRST } else { edition };
-    let depth = judge::read(&names, &case, Terms { edition, limit: 64 }).deepest as usize;
+    let depth = judge::read(&names, &case, call(edition, 64)).deepest as usize;
     let near = [64, 64, depth.saturating_sub(1), depth, depth + 1, random.between(1, depth.max(1))];
     let limit = random.pick(&near).clamp(1, 64) as u32;
-    let known = Known::beside(names.clone(), case.clone(), Terms { edition, limit });
+    let known = Known::beside(names.clone(), case.clone(), call(edition, limit));
     let mut rooms = vec![known.ample()];
     if random.once_in(2) {
         rooms = settings(&known, &mut random);
         rooms.retain(|rooms| known.turned_away(*rooms).is_none());
     }
     let rooms = random.pick(&rooms);
-    Some(Entry { outcome: known.comes(rooms), edition, names, case, limit, rooms })
+    Some(Entry { outcome: known.comes(rooms), is_guard, edition, names, case, limit, rooms })
 }
 
 fn codes(entries: &[Entry]) -> String {

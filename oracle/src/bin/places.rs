@@ -220,6 +220,9 @@ const NOT_BYTES: &[&str] = &[
 ];
 const A: &[&str] =
     &["", "line 1: a", "  reads as", "    a;", "  tree", "    1:1      Identifier                       a"];
+const GUARD: &[&str] =
+    &["a", "  reads as", "    a", "  tree", "    1:1      Identifier                       a"];
+const UNENDED: &[&str] = &["guard:1:2: expected <end of file> and found `;`", "a;", " ^"];
 const TWO: &[&str] = &["== screen.kaori", A[0], A[1], A[2], A[3], A[4], A[5]];
 
 #[rustfmt::skip]
@@ -256,6 +259,20 @@ const WIDE: &[Wide] = &[
     (b"let = 1;", &["check", "--json", "screen.kaori"], &[REFUSED_JSON], "", 1),
     (b"let = 1;", &["--json", "tree", "screen.kaori", "empty.kaori"], &[REFUSED_JSON, r#"{"file":"empty.kaori","row":0,"parent":null,"kind":"Script","tail":false,"built_in":false,"warning":false,"line":1,"column":1,"start":0,"end":0,"text":""}"#], "", 1),
     (SIGN, &["tree", "--json", "-"], SIGN_JSON, "", 0),
+    // guards, whose texts are the words; a file of that name is not looked at
+    (b"", &["guard", "a"], GUARD, "", 0),
+    (b"", &["guard", "a", "a;", "a"], &[GUARD[0], GUARD[1], GUARD[2], GUARD[3], GUARD[4], UNENDED[0], UNENDED[1], UNENDED[2], GUARD[0], GUARD[1], GUARD[2], GUARD[3], GUARD[4]], "", 1),
+    (b"", &["guard", "screen.kaori"], &["screen.kaori", GUARD[1], "    screen.kaori", GUARD[3], "    1:1      PropertyAccess                   screen.kaori", "    1:1        Identifier                     screen"], "", 0),
+    (b"", &["guard", "a | {"], &["guard:1:3: a guard has no {, if, | or #", "a | {", "  ^"], "", 1),
+    (b"", &["guard", ""], &["guard:1:1: expected a <operand> and found: <end of file>", "", "^"], "", 1),
+    (b"", &["guard", "-"], &["guard:1:2: expected a <operand> and found: <end of file>", "-", " ^"], "", 1),
+    (b"", &["--edition", "2", "guard", "(a)()"], &["(a)()", GUARD[1], "    a()", GUARD[3], "    1:1      FunctionCall                     (a)()", "    1:2        Identifier                     a"], "", 0),
+    (b"", &["guard", "--edition", "1", "(a)()"], &["guard:1:4: expected <end of file> and found `(`", "(a)()", "   ^"], "", 1),
+    (b"a", &["--names", "screen.kaori", "guard", "a"], &[GUARD[0], GUARD[1], GUARD[2], GUARD[3], "    1:1      Identifier (built-in)            a"], "", 0),
+    (b"", &["guard"], &[], "guard takes a text; see kaori help", 2),
+    (b"", &["guard", "a", "--strict"], GUARD, "--strict: options stand before the files; see kaori help", 2),
+    (b"", &["--json", "guard", "a"], &[], "--json goes with check or tree; see kaori help", 2),
+    (b"", &["guard", "--strict", "a"], &[], "--strict goes with check; see kaori help", 2),
     // bytes that are not printed
     (CONTROL, &["tree", "screen.kaori"], CONTROL_TREE, "", 0),
     (BYTES, &["check", "screen.kaori"], BYTES_LINES, "", 1),
@@ -273,6 +290,7 @@ const FULL: &[(&[&str], &str, i32)] = &[
     (&["tree", "--json", "screen.kaori"], "standard output: No space left on device", 2),
     (&["rows", "screen.kaori"], "standard output: No space left on device", 2),
     (&["compare", "screen.kaori"], "standard output: No space left on device", 2),
+    (&["guard", "a", "b"], "standard output: No space left on device", 2),
     (&["help"], "standard output: No space left on device", 2),
     (&["--version"], "standard output: No space left on device", 2),
     (&["check", "screen.kaori", "empty.kaori"], "", 0),
