@@ -1,0 +1,2 @@
+pub mod Check
+pub mod Walk
