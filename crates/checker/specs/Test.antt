@@ -1,11 +1,12 @@
 -- The rules of Check.antt that speak of one row's items, as tests.
-use Prim.Native.Nat.{ℕ, _+_, _*_, _/_, _≤_, _<_}
+use Prim.Native.Nat.{ℕ, _+_, _-_, _*_, _/_, _≤_, _<_}
 use mathlib.Core.Bool.{Bool, true, false, cond, _&&_, _||_, not}
 use mathlib.Core.List.{List, [], _∷_}
 use mathlib.Core.Path.{_≡_}
 use lib.Dec.{eqb, ltb, leb}
 use lib.ListN.{length, getD, drop}
 use Rattle.grammar.specs.Handle.{absent}
+use Rattle.grammar.specs.Label.{Node, number-of}
 use Rattle.grammar.specs.Room.{node-width, link-width}
 use Rattle.foreign.specs.Check.{Item}
 use Rattle.checker.specs.Marks.{Settled, Within}
@@ -71,9 +72,12 @@ pub record First (test : ℕ → Bool) (n r : ℕ) : Type 0 where
   pub before : (j : ℕ) → j < r → test j ≡ true
   pub fails : r < n → test r ≡ false
 
--- rule 1 of a row, and the rules of its items
+-- rule 1 of a row, rule 5 of all, and the rules of a row's items
 unfoldable pub known-kind : (nodes : List ℕ) (row : ℕ) → Bool
 known-kind ns i = leb 1 (getD ns (node-width * i) 0) && leb (getD ns (node-width * i) 0) 26
+
+unfoldable pub is-rooted : (nodes : List ℕ) (count : ℕ) → Bool
+is-rooted ns n = ltb 0 n && (eqb (getD ns (node-width * (n - 1)) 0) (number-of Node.Block) && eqb (getD ns (node-width * (n - 1) + 5) 0) absent)
 
 unfoldable pub row-keeps : (rule symbols : ℕ) (table nodes links : List ℕ) (row : ℕ) → Bool
 row-keeps rule s t ns ls i = keep-all rule i s (length ls / link-width) (held-in ns ls i (cut-of t ns i))

@@ -1,20 +1,18 @@
 -- What the check answers; and what its passes do of rows that are there, one after another.
 use Prim.Native.Nat.{ℕ, _+_, _-_, _*_, _/_, _≤_, _<_}
-use mathlib.Core.Bool.{Bool, true, _&&_}
+use mathlib.Core.Bool.{true}
 use mathlib.Core.List.{List}
 use mathlib.Core.Path.{_≡_}
-use lib.Dec.{eqb, ltb}
-use lib.ListN.{length, getD}
+use lib.ListN.{length}
 use Rattle.grammar.specs.Edition.{Edition}
 use Rattle.grammar.specs.Handle.{absent}
-use Rattle.grammar.specs.Label.{Node, number-of}
 use Rattle.grammar.specs.Room.{Rooms, node-width, link-width}
 use Rattle.grammar.specs.Rows.{Rows}
 use Rattle.foreign.specs.Check.{Checked, Fails, Given, Checks}
 use Rattle.checker.specs.Follow.{covered-by, row-follows}
 use Rattle.checker.specs.Named.{is-once, is-parent, All-named}
 use Rattle.checker.specs.Slots.{table, rows}
-use Rattle.checker.specs.Test.{First, known-kind, row-keeps}
+use Rattle.checker.specs.Test.{First, known-kind, is-rooted, row-keeps}
 use Rattle.checker.specs.declared.Verdict.{Verdict}
 
 abbrev pub rooms : (nodes links symbols scratch : List ℕ) → Rooms
@@ -26,10 +24,6 @@ given e n m s r = record { edition = e; nodes = n; links = m; symbols = s; rooms
 -- the answer, and the rooms afterwards
 pub record Tells (g : Given) (after : Rooms) (r : Verdict) : Type 0 where
   pub says : Checks g (r .code) (r .rule) (r .row) after
-
--- rule 5 of rows
-unfoldable pub is-rooted : (nodes : List ℕ) (count : ℕ) → Bool
-is-rooted ns n = ltb 0 n && (eqb (getD ns (node-width * (n - 1)) 0) (number-of Node.Block) && eqb (getD ns (node-width * (n - 1) + 5) 0) absent)
 
 -- the rows are there, with the table of an edition, and room for marks
 pub record Judgeable (lent nodes links : List ℕ) (count marks : ℕ) : Type 0 where

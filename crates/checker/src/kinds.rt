@@ -6,8 +6,7 @@ ghost use Prim.Native.Nat.{_*_, _≤_};
 ghost use mathlib.Core.Path.{_≡_};
 ghost use lib.ListN.{length};
 ghost use Rattle.grammar.specs.Room.{node-width};
-ghost use Rattle.checker.specs.Test.{First, known-kind};
-ghost use Rattle.checker.specs.Verdict.{is-rooted};
+ghost use Rattle.checker.specs.Test.{First, known-kind, is-rooted};
 
 // Where a Block's tail stands in its row.
 const TAIL: usize = 5;
