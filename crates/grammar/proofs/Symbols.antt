@@ -30,7 +30,7 @@ named-all h (deeper t) = named-all h t
 named-all h (made f a b t) = (named-all h t, λ _. h a)
 
 -- a word is that of a token, and not past a list of whole ones
-word-inside : (ts : List ℕ) → Whole ts → (i : ℕ) → is-name ts i ≡ true → i < count ts
+pub word-inside : (ts : List ℕ) → Whole ts → (i : ℕ) → is-name ts i ≡ true → i < count ts
 word-inside ts w i e = elim (decLt i (count ts)) [
   | yes l ↦ l
   | no l ↦ let k : kind ts i ≡ 0 = List·getD-eq-default ts 0 (omega (arith, w .rows)) in let f : false ≡ true = rw k at e in absurd (let z : _≡_ {A = ℕ} 0 1 = cc in omega arith)
