@@ -6,15 +6,20 @@ use mathlib.Core.List.{List, [], _∷_, _++_, map}
 use mathlib.Core.Path.{_≡_, refl, sym, ap, _∙_}
 use lib.Dec.{T, leb, leb→le}
 use borrow.Author.Tests.{ne-eqb, le-ltb}
-use lib.ListN.{length, getD, take, drop, length-drop, length-take}
-use lib.Seq.{getD-drop, getD-take, drop-drop}
+use lib.ListN.{length, getD, take, drop, replicate, length-drop, length-take, length-replicate}
+use lib.Seq.{getD-drop, getD-take, drop-drop, drop-at, take-take}
 use Rattle.grammar.specs.Edition.{Edition}
 use Rattle.grammar.specs.Layout.{Slot as Form, below, child, option, symbol, name, nodes, names, entries, layouts, layout}
+use Rattle.grammar.specs.Naming.{linked-nodes, linked-entries, naming, named-by}
 use Rattle.grammar.specs.Parent.{own}
 use Rattle.grammar.specs.Room.{node-width, own-width, link-width}
+use Rattle.grammar.specs.Rows.{Rows}
 use Rattle.grammar.specs.Symbol.{same}
+use Rattle.grammar.proofs.Parents.{named-own}
+use Rattle.grammar.proofs.Pieces.{first-on, named-alike}
 use Rattle.grammar.proofs.Tests.{passes, within, both, same-means}
-use Rattle.foreign.specs.Check.{Item, node-items, name-items, entry-items, items, items-of}
+use Rattle.foreign.specs.Check.{Item, node-items, name-items, entry-items, items, kind-of, items-of, lists}
+use Rattle.checker.specs.Named.{names-in}
 use Rattle.checker.specs.Slots.{rows, code, width, line, table, slot-at, cell, cut-of, linked-items, held, spared, held-in, Standing}
 use Rattle.checker.specs.declared.slots.Slot.{Slot}
 use Rattle.checker.specs.declared.slots.Cut.{Cut}
@@ -211,3 +216,89 @@ unfolding items-of
 cut-items e ns ls row same s =
     let b = stood e same s in
     rw (own-kind row ns ls, cut-is e same s) (three ls ns row (layout e (getD ns (node-width * row) 0)) (b .few) (b .rest) (own-seen ls ns row (s .room)))
+
+-- what items name, and the lists among them, one after another
+pub names-append : (xs ys : List Item) → names-in (xs ++ ys) ≡ names-in xs ++ names-in ys
+names-append [] ys = refl
+names-append (Item.number l n ∷ is) ys = names-append is ys
+names-append (Item.child x ∷ is) ys = ap (λ ns. x ∷ ns) (names-append is ys)
+names-append (Item.option x ∷ is) ys = ap (λ ns. x ∷ ns) (names-append is ys)
+names-append (Item.symbol x ∷ is) ys = names-append is ys
+names-append (Item.list f n ∷ is) ys = names-append is ys
+names-append (Item.unused x ∷ is) ys = names-append is ys
+
+pub lists-append : (xs ys : List Item) → lists (xs ++ ys) ≡ lists xs ++ lists ys
+lists-append [] ys = refl
+lists-append (Item.number l n ∷ is) ys = lists-append is ys
+lists-append (Item.child x ∷ is) ys = lists-append is ys
+lists-append (Item.option x ∷ is) ys = lists-append is ys
+lists-append (Item.symbol x ∷ is) ys = lists-append is ys
+lists-append (Item.list f n ∷ is) ys = ap (λ ls. (f, n) ∷ ls) (lists-append is ys)
+lists-append (Item.unused x ∷ is) ys = lists-append is ys
+
+pub names-spared : (n : ℕ) (xs : List ℕ) → names-in (spared n xs) ≡ []
+unfolding spared
+names-spared zero xs = refl
+names-spared (suc n) xs = names-spared n (drop 1 xs)
+
+pub lists-spared : (n : ℕ) (xs : List ℕ) → lists (spared n xs) ≡ []
+unfolding spared
+lists-spared zero xs = refl
+lists-spared (suc n) xs = lists-spared n (drop 1 xs)
+
+-- what numbers name by their slots is what their items name
+names-unused : (xs : List ℕ) → names-in (map Item.unused xs) ≡ []
+names-unused [] = refl
+names-unused (x ∷ xs) = names-unused xs
+
+names-nodes : (n : ℕ) (ls : List ℕ) → names-in (node-items n ls) ≡ linked-nodes n ls
+unfolding node-items linked-nodes
+names-nodes zero ls = refl
+names-nodes (suc n) ls = ap (λ ns. getD ls 0 0 ∷ ns) (names-nodes n (drop link-width ls))
+
+names-names : (n : ℕ) (ls : List ℕ) → names-in (name-items n ls) ≡ []
+unfolding name-items
+names-names zero ls = refl
+names-names (suc n) ls = names-names n (drop link-width ls)
+
+names-entries : (n : ℕ) (ls : List ℕ) → names-in (entry-items n ls) ≡ linked-entries n ls
+unfolding entry-items linked-entries
+names-entries zero ls = refl
+names-entries (suc n) ls = ap (λ ns. getD ls 0 0 ∷ getD ls 1 0 ∷ ns) (names-entries n (drop link-width ls))
+
+naming-items : (ls : List ℕ) (ss : List Form) (xs : List ℕ) → naming ls ss xs ≡ names-in (items ls ss xs)
+unfolding naming items
+naming-items ls [] xs = sym (names-unused xs)
+naming-items ls (below n ∷ ss) xs = naming-items ls ss (drop 1 xs)
+naming-items ls (child ∷ ss) xs = ap (λ ns. getD xs 0 0 ∷ ns) (naming-items ls ss (drop 1 xs))
+naming-items ls (option ∷ ss) xs = ap (λ ns. getD xs 0 0 ∷ ns) (naming-items ls ss (drop 1 xs))
+naming-items ls (symbol ∷ ss) xs = naming-items ls ss (drop 1 xs)
+naming-items ls (name ∷ ss) xs = naming-items ls ss (drop 3 xs)
+naming-items ls (nodes ∷ ss) xs = rw (naming-items ls ss (drop 2 xs), names-append, names-nodes) refl
+naming-items ls (names ∷ ss) xs = rw (naming-items ls ss (drop 2 xs), names-append, names-names) refl
+naming-items ls (entries ∷ ss) xs = rw (naming-items ls ss (drop 2 xs), names-append, names-entries) refl
+
+-- a row by itself, behind as many numbers as stand before it, names what it does among the others
+module _ (w : Rows) (i : ℕ) where
+  abbrev zeros : List ℕ
+  zeros = replicate (node-width * i) 0
+
+  abbrev alone : Rows
+  alone = record { nodes = zeros ++ own w i; links = w .links }
+
+  behind : drop (node-width * i) (alone .nodes) ≡ own w i
+  behind = drop-at zeros (own w i) (node-width * i) (length-replicate (node-width * i) 0)
+
+  alone-own : own alone i ≡ own w i
+  alone-own = ap (take own-width) behind ∙ take-take own-width own-width (drop (node-width * i) (w .nodes)) (omega arith)
+
+  alone-names : named-by alone i ≡ naming (w .links) (layout Edition.second (kind-of w i)) (drop 3 (own w i))
+  unfolding named-by
+  alone-names =
+      let k : getD (alone .nodes) (node-width * i) 0 ≡ kind-of w i = sym (first-on (alone .nodes) (node-width * i)) ∙ ap (λ (xs : List ℕ). getD xs 0 0) behind in
+      let r : drop (node-width * i + 3) (alone .nodes) ≡ drop 3 (own w i) = sym (drop-drop 3 (node-width * i) (alone .nodes)) ∙ ap (drop 3) behind in
+      rw (k, r) refl
+
+pub named-items : (e : Edition) (w : Rows) (i : ℕ) → named-by w i ≡ names-in (items-of e w i)
+unfolding items-of
+named-items e w i = sym (named-own (alone w i) w i (alone-own w i) refl) ∙ alone-names w i ∙ sym (named-alike e (w .links) (kind-of w i) (drop 3 (own w i))) ∙ naming-items (w .links) (layout e (kind-of w i)) (drop 3 (own w i))
