@@ -1,16 +1,20 @@
 -- A row's items against a rule, one after another, as the functions of keep.rt look at them: numbers that are left over, links with their marks, slots.
 use Prim.Native.Nat.{ℕ, zero, suc, _+_, _-_, _*_, _/_, _≤_, _<_}
+use native.Mathlib.Decide.{decLt, ℕ-discrete}
 use native.Mathlib.Omega.{arith}
 use mathlib.Core.Bool.{Bool, true, false, cond, _&&_}
 use mathlib.Core.List.{List, [], _∷_, _++_}
 use mathlib.Core.Path.{_≡_, refl, sym, ap, _∙_}
-use lib.ListN.{length, getD, drop}
+use lib.ListN.{length, getD, drop, set}
 use lib.Seq.{getD-drop, drop-drop}
 use Rattle.foreign.specs.Check.{Item}
-use Rattle.checker.specs.Slots.{spared}
-use Rattle.checker.specs.Test.{keep, keep-all}
+use Rattle.grammar.specs.Room.{link-width}
+use Rattle.checker.specs.Marks.{Settled, Within, Skips}
+use Rattle.checker.specs.Slots.{link-items, linked-items, spared}
+use Rattle.checker.specs.Test.{keep, keep-all, link-keeps, Linkable, Linked}
 use Rattle.checker.specs.declared.keep.Asked.{Asked}
-use Rattle.checker.proofs.Laws.{and-assoc}
+use Rattle.checker.proofs.Laws.{and-assoc, and-false, true-both, never}
+use Rattle.checker.proofs.Skipping.{within-self, within-both, within-one, settled-one}
 
 -- by what is asked
 abbrev pub all : Asked → (m : ℕ) → List Item → Bool
@@ -41,3 +45,88 @@ module _ {a : Asked} {ns : List ℕ} {from upto i : ℕ} (s : Sparing a ns from 
   pub spare-ended : i ≡ upto → true ≡ all a 0 (spared (upto - from) (drop from ns))
   unfolding spared
   spare-ended e = let z : upto - i ≡ 0 = omega arith in sym (s .rest ∙ rw z refl)
+
+abbrev pub many : (links : List ℕ) → ℕ
+many ls = length ls / link-width
+
+-- the links of a list, one by one
+module _ (a : Asked) (code : ℕ) (ls : List ℕ) where
+  abbrev passes : ℕ → Bool
+  passes = link-keeps (a .rule) (a .row) (a .symbols) code ls
+
+  -- so many links from one on
+  abbrev links-pass : (from count : ℕ) → Bool
+  links-pass from n = all a 0 (linked-items code n (drop (link-width * from) ls))
+
+  link-step : (from n : ℕ) → links-pass from (suc n) ≡ (passes from && links-pass (suc from) n)
+  unfolding linked-items link-keeps
+  link-step from n =
+      let l = drop (link-width * from) ls in
+      let d : link-width * from + link-width ≡ link-width * suc from = omega arith in
+      let z : link-width * from + 0 ≡ link-width * from = omega arith in
+      all-append a 0 (link-items code (getD l 0 0) (getD l 1 0) (getD l 2 0)) (linked-items code n (drop link-width l)) ∙
+      rw (getD-drop (link-width * from) ls 0 0, z, getD-drop (link-width * from) ls 1 0, getD-drop (link-width * from) ls 2 0, drop-drop link-width (link-width * from) ls, d) refl
+
+  links-kept : (from n : ℕ) → ((j : ℕ) → from ≤ j → j < from + n → passes j ≡ true) → links-pass from n ≡ true
+  unfolding linked-items
+  links-kept from zero f = refl
+  links-kept from (suc n) f = link-step from n ∙ true-both (f from (omega arith) (omega arith)) (links-kept (suc from) n (λ j h l. f j (omega arith) (omega arith)))
+
+  link-broken : (from n j : ℕ) → from ≤ j → j < from + n → passes j ≡ false → links-pass from n ≡ false
+  link-broken from zero j h l e = absurd (omega arith)
+  link-broken from (suc n) j h l e = link-step from n ∙ elim (ℕ-discrete from j) [ yes d ↦ rw (d, e) refl | no d ↦ and-false (passes from) (link-broken (suc from) n j (omega arith) (omega arith) e) ]
+
+  -- from a link on all before another are settled or looked at, and the marks are right
+  pub record Walked (base from : ℕ) (before after : List ℕ) (at : ℕ) : Type 0 where
+    pub onward : from ≤ at
+    pub size : length after ≡ length before
+    pub room : base + many ls ≤ length after
+    pub within : Within base (many ls) before after
+    pub settled : Settled passes base (many ls) after
+    pub kept : (j : ℕ) → from ≤ j → j < at → passes j ≡ true
+
+wider : {base end size : ℕ} {ms ms′ : List ℕ} → end ≤ size → Within base end ms ms′ → Within base size ms ms′
+wider h w = record { low = w .low; high = λ i l. w .high i (omega arith) }
+
+module _ {a : Asked} {code : ℕ} {ls : List ℕ} {base from : ℕ} where
+  pub walk-begun : {count end at : ℕ} {ms ms′ : List ℕ} → Linkable (a .rule) (a .row) (a .symbols) code ls ms base from count → end ≡ from + count → length ms′ ≡ length ms → Skips base from end ms ms′ at → Walked a code ls base from ms′ ms′ at
+  walk-begun g e l s = record {
+    onward = s .onward;
+    size = refl;
+    room = omega (arith, g .room);
+    within = within-self base (many ls) _;
+    settled = s .settled _ (many ls) (omega (arith, g .inside)) (g .settled);
+    kept = s .between _ (many ls) (omega (arith, g .inside)) (g .settled);
+  }
+
+  -- one link more, and then to the next that is not settled
+  pub walk-on : {at end next : ℕ} {r : Bool} {ms₀ ms ms₁ ms₂ : List ℕ} → Walked a code ls base from ms₀ ms at → at < end → end ≤ many ls → r ≡ true → r ≡ passes a code ls at → ms₁ ≡ set ms (base + at) (at + 1) → length ms₂ ≡ length ms → Skips base (at + 1) end ms₁ ms₂ next → Walked a code ls base from ms₀ ms₂ next
+  walk-on {at} {end} {ms = ms} {ms₁ = ms₁} w h k t e d l s =
+      record {
+        onward = omega (arith, w .onward, s .onward);
+        size = l ∙ w .size;
+        room = omega (arith, w .room);
+        within = within-both (w .within) (within-both (rw d (within-one (at + 1) (omega arith))) (wider k (s .within)));
+        settled = s .settled _ (many ls) k put;
+        kept = λ j x y. elim (decLt j at) [ yes z ↦ w .kept j x z | no z ↦ elim (ℕ-discrete j at) [ yes q ↦ here j q | no q ↦ s .between _ (many ls) k put j (omega arith) y ] ];
+      }
+    where
+      here : (j : ℕ) → j ≡ at → passes a code ls j ≡ true
+      here j q = rw q (sym e ∙ t)
+
+      put : Settled (passes a code ls) base (many ls) ms₁
+      put = rw d (settled-one (omega (arith, w .room)) (λ j x y. here j (omega arith)) (w .settled))
+
+  pub walk-broken : {at count : ℕ} {r : Bool} {ms₀ ms₁ ms : List ℕ} → Walked a code ls base from ms₁ ms at → at < from + count → r ≡ false → r ≡ passes a code ls at → Linked (a .rule) (a .row) (a .symbols) code ls base from count ms₀ ms false
+  walk-broken {at} {count} w h t e = record {
+    says = sym (link-broken a code ls from count at (w .onward) h (sym e ∙ t));
+    within = λ y. absurd (never y refl);
+    settled = λ y. absurd (never y refl);
+  }
+
+  pub walk-ended : {at at₀ count end : ℕ} {ms₀ ms₁ ms : List ℕ} → Linkable (a .rule) (a .row) (a .symbols) code ls ms₀ base from count → end ≡ from + count → end ≤ at → Skips base from end ms₀ ms₁ at₀ → Walked a code ls base from ms₁ ms at → Linked (a .rule) (a .row) (a .symbols) code ls base from count ms₀ ms true
+  walk-ended {count = count} g e h s w = record {
+    says = sym (links-kept a code ls from count (λ j x y. w .kept j x (omega arith)));
+    within = λ y. within-both (wider (omega (arith, g .inside)) (s .within)) (w .within);
+    settled = λ y. w .settled;
+  }

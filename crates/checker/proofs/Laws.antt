@@ -10,6 +10,10 @@ pub and-true : (b : Bool) → (b && true) ≡ b
 and-true true = refl
 and-true false = refl
 
+pub and-false : (x : Bool) {y : Bool} → y ≡ false → (x && y) ≡ false
+and-false true e = e
+and-false false e = refl
+
 pub and-assoc : (x y z : Bool) → (x && (y && z)) ≡ ((x && y) && z)
 and-assoc true y z = refl
 and-assoc false y z = refl
