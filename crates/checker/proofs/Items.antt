@@ -112,6 +112,10 @@ module _ {t ns : List ℕ} {row : ℕ} (s : Standing t ns row) where
   pub at-rest : {p : ℕ} → p ≡ cell t ns row 5 → node-width * row + p < length ns
   at-rest e = omega (arith, s .room, placed s .rest)
 
+  pub rest-inside : {c : Cut} → c ≡ cut-of t ns row → c .rest ≤ node-width * row + own-width
+  unfolding cut-of
+  rest-inside e = omega (arith, ap (λ (d : Cut). d .rest) e, placed s .rest)
+
 pub cut-made : (t ns : List ℕ) (row : ℕ) {a b c : Slot} {k l m p q r : ℕ} → k ≡ getD t (6 * (getD ns (node-width * row) 0 - 1)) 0 → a ≡ slot-at ns k (node-width * row + 3) →
     l ≡ cell t ns row 1 → p ≡ cell t ns row 2 → b ≡ slot-at ns l (node-width * row + p) → m ≡ cell t ns row 3 → q ≡ cell t ns row 4 → c ≡ slot-at ns m (node-width * row + q) → r ≡ cell t ns row 5 →
     record { first = a; second = b; third = c; rest = node-width * row + r } ≡ cut-of t ns row

@@ -2,27 +2,29 @@
 use Prim.Native.Nat.{ℕ, zero, suc, _+_, _-_, _*_, _/_, _≤_, _<_}
 use native.Mathlib.Decide.{decLt, ℕ-discrete}
 use native.Mathlib.Omega.{arith}
-use mathlib.Core.Bool.{Bool, true, false, cond, _&&_}
+use mathlib.Core.Bool.{Bool, true, false, cond, _&&_, not}
 use mathlib.Core.List.{List, [], _∷_, _++_}
 use mathlib.Core.Path.{_≡_, refl, sym, ap, _∙_}
+use lib.Dec.{eqb, ltb, leb}
+use borrow.Author.Tests.{eqb-true, eq-eqb, ne-eqb, lt-ltb, le-ltb, le-leb, lt-leb}
 use lib.ListN.{length, getD, drop, set}
 use lib.Seq.{getD-drop, drop-drop}
 use Rattle.foreign.specs.Check.{Item}
 use Rattle.grammar.specs.Room.{link-width}
 use Rattle.checker.specs.Marks.{Settled, Within, Skips}
 use Rattle.checker.specs.Slots.{link-items, linked-items, spared}
-use Rattle.checker.specs.Test.{keep, keep-all, link-keeps, Linkable, Linked}
+use Rattle.checker.specs.Test.{keep, keep-all, link-keeps, concerns, Linkable, Linked}
 use Rattle.checker.specs.declared.keep.Asked.{Asked}
-use Rattle.checker.proofs.Laws.{and-assoc, and-false, true-both, never}
+use Rattle.checker.proofs.Laws.{and-true, and-false, and-assoc, true-both, never, wider, settled-same, settled-none}
 use Rattle.checker.proofs.Skipping.{within-self, within-both, within-one, settled-one}
 
 -- by what is asked
-abbrev pub all : Asked → (m : ℕ) → List Item → Bool
+abbrev all : Asked → (m : ℕ) → List Item → Bool
 all a m is = keep-all (a .rule) (a .row) (a .symbols) m is
 
-pub all-append : (a : Asked) (m : ℕ) (xs ys : List Item) → all a m (xs ++ ys) ≡ (all a m xs && all a m ys)
-all-append a m [] ys = refl
-all-append a m (x ∷ xs) ys = ap (λ b. keep (a .rule) (a .row) (a .symbols) m x && b) (all-append a m xs ys) ∙ and-assoc (keep (a .rule) (a .row) (a .symbols) m x) (all a m xs) (all a m ys)
+pub keep-append : (rule i s m : ℕ) (xs ys : List Item) → keep-all rule i s m (xs ++ ys) ≡ (keep-all rule i s m xs && keep-all rule i s m ys)
+keep-append rule i s m [] ys = refl
+keep-append rule i s m (x ∷ xs) ys = ap (λ b. keep rule i s m x && b) (keep-append rule i s m xs ys) ∙ and-assoc (keep rule i s m x) (keep-all rule i s m xs) (keep-all rule i s m ys)
 
 -- the numbers from one on decide all that are left over
 pub record Sparing (a : Asked) (ns : List ℕ) (from upto i : ℕ) : Type 0 where
@@ -64,7 +66,7 @@ module _ (a : Asked) (code : ℕ) (ls : List ℕ) where
       let l = drop (link-width * from) ls in
       let d : link-width * from + link-width ≡ link-width * suc from = omega arith in
       let z : link-width * from + 0 ≡ link-width * from = omega arith in
-      all-append a 0 (link-items code (getD l 0 0) (getD l 1 0) (getD l 2 0)) (linked-items code n (drop link-width l)) ∙
+      keep-append (a .rule) (a .row) (a .symbols) 0 (link-items code (getD l 0 0) (getD l 1 0) (getD l 2 0)) (linked-items code n (drop link-width l)) ∙
       rw (getD-drop (link-width * from) ls 0 0, z, getD-drop (link-width * from) ls 1 0, getD-drop (link-width * from) ls 2 0, drop-drop link-width (link-width * from) ls, d) refl
 
   links-kept : (from n : ℕ) → ((j : ℕ) → from ≤ j → j < from + n → passes j ≡ true) → links-pass from n ≡ true
@@ -84,9 +86,6 @@ module _ (a : Asked) (code : ℕ) (ls : List ℕ) where
     pub within : Within base (many ls) before after
     pub settled : Settled passes base (many ls) after
     pub kept : (j : ℕ) → from ≤ j → j < at → passes j ≡ true
-
-wider : {base end size : ℕ} {ms ms′ : List ℕ} → end ≤ size → Within base end ms ms′ → Within base size ms ms′
-wider h w = record { low = w .low; high = λ i l. w .high i (omega arith) }
 
 module _ {a : Asked} {code : ℕ} {ls : List ℕ} {base from : ℕ} where
   pub walk-begun : {count end at : ℕ} {ms ms′ : List ℕ} → Linkable (a .rule) (a .row) (a .symbols) code ls ms base from count → end ≡ from + count → length ms′ ≡ length ms → Skips base from end ms ms′ at → Walked a code ls base from ms′ ms′ at
@@ -130,3 +129,34 @@ module _ {a : Asked} {code : ℕ} {ls : List ℕ} {base from : ℕ} where
     within = λ y. within-both (wider (omega (arith, g .inside)) (s .within)) (w .within);
     settled = λ y. w .settled;
   }
+
+-- a link's items by what its code is: of names, of rows alone
+abbrev items-by : (names nodes : Bool) (ls : List ℕ) → List Item
+items-by b c ls = cond b (Item.symbol (getD ls 0 0) ∷ []) (Item.child (getD ls 0 0) ∷ cond c (Item.unused (getD ls 1 0)) (Item.option (getD ls 1 0)) ∷ Item.unused (getD ls 2 0) ∷ [])
+
+module _ (rule i s m code : ℕ) where
+  -- links hold no list, so how many there are does not matter to them
+  pub any-many : (n : ℕ) (ls : List ℕ) → keep-all rule i s 0 (linked-items code n ls) ≡ keep-all rule i s m (linked-items code n ls)
+  unfolding linked-items
+  any-many zero ls = refl
+  any-many (suc n) ls =
+      let is = items-by (eqb code 6) (eqb code 5) ls in
+      keep-append rule i s 0 is _ ∙ rw (one (eqb code 6) (eqb code 5), any-many n (drop link-width ls)) (sym (keep-append rule i s m is _))
+    where
+      one : (b c : Bool) → keep-all rule i s 0 (items-by b c ls) ≡ keep-all rule i s m (items-by b c ls)
+      one true c = refl
+      one false true = refl
+      one false false = refl
+
+  -- a rule that has nothing to do with them
+  pub unconcerned : concerns rule code ≡ false → (n : ℕ) (ls : List ℕ) → keep-all rule i s m (linked-items code n ls) ≡ true
+  unfolding linked-items
+  unconcerned e zero ls = refl
+  unconcerned e (suc n) ls = keep-append rule i s m (items-by (eqb code 6) (eqb code 5) ls) _ ∙ true-both (one (eqb rule 2) refl (eqb code 6) (eqb code 5) e) (unconcerned e n (drop link-width ls))
+    where
+      one : (d : Bool) → eqb rule 2 ≡ d → (b c : Bool) → cond d b (not b) ≡ false → keep-all rule i s m (items-by b c ls) ≡ true
+      one true p true c f = absurd (never refl f)
+      one true p false true f = rw (eqb-true rule 2 p) refl
+      one true p false false f = rw (eqb-true rule 2 p) refl
+      one false p true c f = rw p refl
+      one false p false c f = absurd (never refl f)
