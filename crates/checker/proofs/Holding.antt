@@ -28,6 +28,11 @@ module _ {rule i s : ℕ} {ls : List ℕ} {xs : List Item} {b : Bool} {ms : List
   pub kept-then : {ys : List Item} {r : Bool} {ms′ : List ℕ} → b ≡ true → Keeps rule i s ls ys ms′ r → Keeps rule i s ls (xs ++ ys) ms′ r
   kept-then {ys} t l = record { says = l .says ∙ sym (keep-append rule i s (many ls) xs ys ∙ rw (sym (k .says) ∙ t) refl); marked = l .marked }
 
+-- a list's items: whether it is in range, and its links
+pub list-is : (rule i s : ℕ) (ls : List ℕ) (t : Slot) → 5 ≤ t .code → t .code < 8 → keep-all rule i s (many ls) (held ls t) ≡ (leb (t .x + t .y) (many ls) && keep-all rule i s (many ls) (linked-items (t .code) (t .y) (drop (link-width * t .x) ls)))
+unfolding held
+list-is rule i s ls t h l = rw (ne-eqb (t .code) 0 (λ e. omega arith), ne-eqb (t .code) 1 (λ e. omega arith), ne-eqb (t .code) 2 (λ e. omega arith), le-ltb (t .code) 5 h, lt-ltb (t .code) 8 l) refl
+
 module _ (rule i s : ℕ) (ls : List ℕ) (t : Slot) (ms : List ℕ) where
   abbrev Answers : Bool → Type 0
   Answers r = Keeps rule i s ls (held ls t) ms r
@@ -55,18 +60,14 @@ module _ (rule i s : ℕ) (ls : List ℕ) (t : Slot) (ms : List ℕ) where
 
   -- a list
   module _ (h : 5 ≤ t .code) (l : t .code < 8) where
-    list-is : keep-all rule i s (many ls) (held ls t) ≡ (leb (t .x + t .y) (many ls) && keep-all rule i s (many ls) (linked-items (t .code) (t .y) (drop (link-width * t .x) ls)))
-    unfolding held
-    list-is = rw (ne-eqb (t .code) 0 (λ e. omega arith), ne-eqb (t .code) 1 (λ e. omega arith), ne-eqb (t .code) 2 (λ e. omega arith), le-ltb (t .code) 5 h, lt-ltb (t .code) 8 l) refl
-
     pub past-list : many ls < t .x + t .y → Answers false
-    past-list k = record { says = sym (list-is ∙ rw (lt-leb (t .x + t .y) (many ls) k) refl); marked = λ y. absurd (never y refl) }
+    past-list k = record { says = sym (list-is rule i s ls t h l ∙ rw (lt-leb (t .x + t .y) (many ls) k) refl); marked = λ y. absurd (never y refl) }
 
     pub unasked-list : t .x + t .y ≤ many ls → concerns rule (t .code) ≡ false → Marked rule i s ls ms → Answers true
-    unasked-list k e g = record { says = sym (list-is ∙ rw (le-leb (t .x + t .y) (many ls) k, unconcerned rule i s (many ls) (t .code) e (t .y) (drop (link-width * t .x) ls)) refl); marked = λ y. g }
+    unasked-list k e g = record { says = sym (list-is rule i s ls t h l ∙ rw (le-leb (t .x + t .y) (many ls) k, unconcerned rule i s (many ls) (t .code) e (t .y) (drop (link-width * t .x) ls)) refl); marked = λ y. g }
 
     list-says : {r : Bool} → t .x + t .y ≤ many ls → r ≡ keep-all rule i s 0 (linked-items (t .code) (t .y) (drop (link-width * t .x) ls)) → r ≡ keep-all rule i s (many ls) (held ls t)
-    list-says k e = e ∙ any-many rule i s (many ls) (t .code) (t .y) (drop (link-width * t .x) ls) ∙ sym (list-is ∙ rw (le-leb (t .x + t .y) (many ls) k) refl)
+    list-says k e = e ∙ any-many rule i s (many ls) (t .code) (t .y) (drop (link-width * t .x) ls) ∙ sym (list-is rule i s ls t h l ∙ rw (le-leb (t .x + t .y) (many ls) k) refl)
 
 -- which marks a list's links have
 first-is : (rule code : ℕ) → concerns rule code ≡ true → 5 ≤ code → code < 8 → (code ≡ 7 → ⊥) → first-code rule ≡ code

@@ -58,9 +58,12 @@ loop-again : tie.Need-loop-again Inv-loop μ-loop
 loop-again c =
     let r = c .before .before .before in
     let k = r .before .before in
-    let l = to-loop k in
-    (held-more (l .loop .inv .0) (answers _ _ (k .cut-row .ensures) (r .row .ensures) (not-false _ (c .if1 .left))), marked-later (r .row .ensures .marked (not-false _ (c .if1 .left))),
-    omega (arith, k .before .loop-test .taken), r .row .kept .1 .1 .1 .1 .0 ∙ l .loop .inv .3)
+    let l = to-loop k in (
+      held-more (l .loop .inv .0) (answers _ _ (k .cut-row .ensures) (r .row .ensures) (not-false _ (c .if1 .left))),
+      marked-later (r .row .ensures .marked (not-false _ (c .if1 .left))),
+      omega (arith, k .before .loop-test .taken),
+      r .row .kept .1 .1 .1 .1 .0 ∙ l .loop .inv .3,
+    )
 
 returns-2 : tie.Need-returns-2 Inv-loop μ-loop
 returns-2 c = none-found (omega arith) (c .before .loop .inv .0)
