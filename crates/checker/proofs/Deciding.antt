@@ -1,15 +1,15 @@
 -- What it means that all items of a row keep a rule: the tests decide rules 2, 3, 7 and 8 of Check.antt. Rule 2 speaks of every list, and the others leave out what is in range.
-use Prim.Native.Nat.{ℕ, _+_, _≤_, _<_}
-use mathlib.Core.Bool.{Bool, true, false, cond, _&&_, _||_, not}
+use Prim.Native.Nat.{ℕ, _+_}
+use mathlib.Core.Bool.{Bool, true, false, _||_}
 use mathlib.Core.List.{List, [], _∷_, _++_}
 use mathlib.Core.Logic.{inl, inr}
-use mathlib.Core.Path.{_≡_, refl, ap, _∙_, sym}
+use mathlib.Core.Path.{_≡_, refl, _∙_, sym}
 use lib.Dec.{eqb, ltb, leb}
 use borrow.Author.Tests.{eqb-true, eqb-false, eq-eqb, ne-eqb, ltb-true, lt-ltb, leb-true, le-leb, not-true}
 use Rattle.grammar.specs.Handle.{absent}
 use Rattle.foreign.specs.Check.{Item, Each, nil, cons, In-range, Before, Allowed, Zero}
 use Rattle.checker.specs.Named.{names-in, In-lists}
-use Rattle.checker.specs.Slots.{cut-of, held, spared, held-in}
+use Rattle.checker.specs.Slots.{cut-of, held, held-in}
 use Rattle.checker.specs.Test.{keep, keep-all, row-keeps}
 use Rattle.checker.specs.declared.slots.Slot.{Slot}
 use Rattle.checker.proofs.Laws.{both-true, true-both, or-true, never}

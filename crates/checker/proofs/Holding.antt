@@ -1,5 +1,5 @@
 -- What a slot, a row and all rows before one answer, and the marks that they leave. A slot's items are looked at by its code; a list chooses the marks of its links by it.
-use Prim.Native.Nat.{ℕ, zero, suc, _+_, _-_, _*_, _/_, _≤_, _<_}
+use Prim.Native.Nat.{ℕ, zero, suc, _+_, _-_, _*_, _≤_, _<_}
 use native.Mathlib.Omega.{arith}
 use mathlib.Core.Bool.{Bool, true, false, cond, _&&_, _||_, not}
 use mathlib.Core.List.{List, [], _∷_, _++_}
@@ -12,7 +12,7 @@ use Rattle.grammar.specs.Room.{link-width}
 use Rattle.ast.specs.Written.{Written}
 use Rattle.ast.proofs.Rooms.{zero-at}
 use Rattle.foreign.specs.Check.{Item}
-use Rattle.checker.specs.Marks.{Settled, Within}
+use Rattle.checker.specs.Marks.{Settled}
 use Rattle.checker.specs.Slots.{link-items, linked-items, held, spared, cut-of, held-in}
 use Rattle.checker.specs.Test.{keep, keep-all, link-keeps, first-code, concerns, Linkable, Linked, Marked, Keeps, row-keeps}
 use Rattle.checker.specs.declared.slots.Slot.{Slot}

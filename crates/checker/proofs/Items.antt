@@ -9,7 +9,7 @@ use borrow.Author.Tests.{ne-eqb, le-ltb}
 use lib.ListN.{length, getD, take, drop, replicate, length-drop, length-take, length-replicate}
 use lib.Seq.{getD-drop, getD-take, drop-drop, drop-at, take-take}
 use Rattle.grammar.specs.Edition.{Edition}
-use Rattle.grammar.specs.Layout.{Slot as Form, below, child, option, symbol, name, nodes, names, entries, layouts, layout}
+use Rattle.grammar.specs.Layout.{Slot as Form, below, child, option, symbol, name, nodes, names, entries, layout}
 use Rattle.grammar.specs.Naming.{linked-nodes, linked-entries, naming, named-by}
 use Rattle.grammar.specs.Parent.{own}
 use Rattle.grammar.specs.Room.{node-width, own-width, link-width}

@@ -5,8 +5,8 @@ use native.Mathlib.Omega.{arith}
 use mathlib.Core.Bool.{Bool, true, false, cond, _&&_, not}
 use mathlib.Core.List.{List, [], _∷_, _++_}
 use mathlib.Core.Path.{_≡_, refl, sym, ap, _∙_}
-use lib.Dec.{eqb, ltb, leb}
-use borrow.Author.Tests.{eqb-true, eq-eqb, ne-eqb, lt-ltb, le-ltb, le-leb, lt-leb}
+use lib.Dec.{eqb}
+use borrow.Author.Tests.{eqb-true}
 use lib.ListN.{length, getD, drop, set}
 use lib.Seq.{getD-drop, drop-drop}
 use Rattle.foreign.specs.Check.{Item}
@@ -15,7 +15,7 @@ use Rattle.checker.specs.Marks.{Settled, Within, Skips}
 use Rattle.checker.specs.Slots.{link-items, linked-items, spared}
 use Rattle.checker.specs.Test.{keep, keep-all, link-keeps, concerns, Linkable, Linked}
 use Rattle.checker.specs.declared.keep.Asked.{Asked}
-use Rattle.checker.proofs.Laws.{and-true, and-false, and-assoc, true-both, never, wider, settled-same, settled-none}
+use Rattle.checker.proofs.Laws.{and-false, and-assoc, true-both, never, wider}
 use Rattle.checker.proofs.Skipping.{within-self, within-both, within-one, settled-one}
 
 -- by what is asked

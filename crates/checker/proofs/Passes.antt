@@ -1,5 +1,5 @@
 -- The first row that a pass stops at is the first that breaks its rule, and where it stops at none all rows keep it.
-use Prim.Native.Nat.{ℕ, _*_, _≤_, _<_}
+use Prim.Native.Nat.{ℕ, _*_, _<_}
 use native.Mathlib.Omega.{arith}
 use mathlib.Core.Bool.{Bool, true}
 use mathlib.Core.List.{List}

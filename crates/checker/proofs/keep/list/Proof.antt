@@ -1,7 +1,7 @@
 -- `list` meets its contract: a list is not in range, or has nothing to do with the rule, or its links are walked, with the marks of their code.
 use borrow.Author.Needs.{needs}
 use borrow.Author.Tests.{not-true, not-false}
-use mathlib.Core.Path.{_≡_, sym, _∙_}
+use mathlib.Core.Path.{sym, _∙_}
 use native.Mathlib.Omega.{arith}
 use Rattle.checker.proofs.Holding.{past-list, unasked-list, second-kept, first-linkable, first-kept}
 use Rattle.checker.proofs.keep.list.Statement.{statement}
