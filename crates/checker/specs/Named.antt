@@ -19,7 +19,8 @@ use Rattle.checker.specs.declared.slots.Slot.{Slot}
 -- what a mark becomes where a row names it so often
 abbrev pub once-more : (row often mark : ℕ) → ℕ
 once-more row zero s = s
-once-more row (suc t) s = cond (eqb t 0) (cond (eqb s 0) row absent) absent
+once-more row (suc zero) s = cond (eqb s 0) row absent
+once-more row (suc (suc t)) s = absent
 
 -- the marks once a row names x, if that is an earlier row
 abbrev pub noted : (row x : ℕ) (marks : List ℕ) → List ℕ
@@ -49,13 +50,16 @@ unfoldable pub names-from : (two : Bool) (links : List ℕ) (from count : ℕ) �
 names-from two ls from zero = []
 names-from two ls from (suc c) = first-of ls from ∷ second-of two ls from ∷ names-from two ls (suc from) c
 
+-- where the marks of a list's links stand, behind those of n rows
+abbrev pub base-of : (n : ℕ) (two : Bool) (links : List ℕ) → ℕ
+base-of n two ls = n + cond two (length ls / link-width) 0
+
 -- the marks of n rows, and behind them two marks a link, which are right
 pub record Ready (n : ℕ) (links marks : List ℕ) : Type 0 where
   pub few : length links / link-width ≤ absent
   pub rows : n ≤ absent
   pub room : n + 2 * (length links / link-width) ≤ length marks
-  pub first : Settled (link-known n false links marks) n (length links / link-width) marks
-  pub second : Settled (link-known n true links marks) (n + length links / link-width) (length links / link-width) marks
+  pub settled : (two : Bool) → Settled (link-known n two links marks) (base-of n two links) (length links / link-width) marks
 
 -- a list of so many links from one on is there, and a row that names what they do
 pub record Listed (n row : ℕ) (links : List ℕ) (from count : ℕ) (marks : List ℕ) : Type 0 where
