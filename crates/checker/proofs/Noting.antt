@@ -19,7 +19,8 @@ use Rattle.checker.specs.Marks.{Settled, Within, Skips}
 use Rattle.checker.specs.Named.{once-more, noted, Names, known, first-of, second-of, link-known, names-from, base-of, Ready, Noted, names-in}
 use Rattle.checker.specs.Slots.{link-items, linked-items, held}
 use Rattle.checker.specs.declared.slots.Slot.{Slot}
-use Rattle.checker.proofs.Laws.{both-true, true-both, never}
+use Rattle.checker.proofs.Items.{names-append}
+use Rattle.checker.proofs.Laws.{both-true, true-both, settled-same}
 use Rattle.checker.proofs.Skipping.{within-one, settled-one}
 
 -- to be named when nothing is to be learnt; and to be named so often, and then so often again
@@ -113,14 +114,11 @@ noted-by {ls = ls} r e m s = record {
   ready = record { few = r .few; rows = r .rows; room = omega (arith, r .room); settled = λ two. record { right = λ k j h l u. link-known-on m two ls j (s two .right k j h l u) } };
 }
 
-unchanged : {test : ℕ → Bool} {base size : ℕ} {before after : List ℕ} → ((k : ℕ) → k < size → getD after (base + k) 0 ≡ getD before (base + k) 0) → Settled test base size before → Settled test base size after
-unchanged f s = record { right = λ k j h l u. s .right k j h l (rw (f k h) at u) }
-
 pub noted-none : {n row : ℕ} {ls ms : List ℕ} → row ≤ n → Ready n ls ms → Noted n row ls [] ms ms
 noted-none l r = record { names = names-none l (λ j h. refl); ready = r }
 
 pub noted-one : {n row : ℕ} {ls ms : List ℕ} (x : ℕ) → row ≤ n → Ready n ls ms → Noted n row ls (x ∷ []) ms (noted row x ms)
-noted-one {n} {row} {ls} {ms} x l r = noted-by r (noted-length row x ms) (names-one row x ms (omega (arith, r .room))) (λ two. unchanged (λ k h. noted-later row x ms (base-of n two ls + k) (omega arith)) (r .settled two))
+noted-one {n} {row} {ls} {ms} x l r = noted-by r (noted-length row x ms) (names-one row x ms (omega (arith, r .room))) (λ two. settled-same (λ k h. noted-later row x ms (base-of n two ls + k) (omega arith)) (r .settled two))
 
 pub noted-both : {n row : ℕ} {ls xs ys a b c : List ℕ} → Noted n row ls xs a b → Noted n row ls ys b c → Noted n row ls (xs ++ ys) a c
 noted-both p q = record { names = names-both (p .names) (q .names); ready = q .ready }
@@ -140,8 +138,8 @@ module _ {n row : ℕ} (two : Bool) {ls before after : List ℕ} (l : row ≤ n)
       each : (two u : Bool) {end : ℕ} → end ≤ length ls / link-width → Within (base-of n two ls) end before after → Settled (link-known n two ls before) (base-of n two ls) (length ls / link-width) after → Settled (link-known n u ls before) (base-of n u ls) (length ls / link-width) before → Settled (link-known n u ls before) (base-of n u ls) (length ls / link-width) after
       each false false h w s t = s
       each true true h w s t = s
-      each false true h w s t = unchanged (λ k i. w .high _ (omega arith)) t
-      each true false h w s t = unchanged (λ k i. w .low _ (omega arith)) t
+      each false true h w s t = settled-same (λ k i. w .high _ (omega arith)) t
+      each true false h w s t = settled-same (λ k i. w .low _ (omega arith)) t
 
   -- the links that were passed over are settled
   pub noted-over : {at end to : ℕ} → end ≤ length ls / link-width → Skips (base-of n two ls) at end before after to → Noted n row ls [] before after
@@ -272,16 +270,6 @@ module _ {n row : ℕ} {two : Bool} {ls : List ℕ} {base end : ℕ} (w : Walkab
       let z : end - from ≡ count = omega arith in
       rw z at (v .back now (rw y (noted-none (w .low) (v .ready))))
 
--- the rows that two lists of items name
-pub names-in-append : (xs ys : List Item) → names-in (xs ++ ys) ≡ names-in xs ++ names-in ys
-names-in-append [] ys = refl
-names-in-append (Item.number l x ∷ xs) ys = names-in-append xs ys
-names-in-append (Item.child x ∷ xs) ys = ap (λ zs. x ∷ zs) (names-in-append xs ys)
-names-in-append (Item.option x ∷ xs) ys = ap (λ zs. x ∷ zs) (names-in-append xs ys)
-names-in-append (Item.symbol x ∷ xs) ys = names-in-append xs ys
-names-in-append (Item.list f c ∷ xs) ys = names-in-append xs ys
-names-in-append (Item.unused x ∷ xs) ys = names-in-append xs ys
-
 -- links from one on hold the rows that are named from it on, and absent ones; links of names hold none
 module _ (ls : List ℕ) where
   at-link : (from : ℕ) → (getD (drop (link-width * from) ls) 0 0 ≡ first-of ls from) × (getD (drop (link-width * from) ls) 1 0 ≡ getD ls (link-width * from + 1) 0) × (drop link-width (drop (link-width * from) ls) ≡ drop (link-width * suc from) ls)
@@ -332,4 +320,4 @@ module _ {n row : ℕ} {ls before after : List ℕ} (s : Slot) (l : row ≤ n) w
 
 -- the three slots of a row
 pub slots-noted : {n row : ℕ} {ls a b c d : List ℕ} (x y z : Slot) → Noted n row ls (names-in (held ls x)) a b → Noted n row ls (names-in (held ls y)) b c → Noted n row ls (names-in (held ls z)) c d → Noted n row ls (names-in (held ls x ++ (held ls y ++ held ls z))) a d
-slots-noted {ls = ls} x y z p q r = rw (names-in-append (held ls x), names-in-append (held ls y)) (noted-both p (noted-both q r))
+slots-noted {ls = ls} x y z p q r = rw (names-append (held ls x), names-append (held ls y)) (noted-both p (noted-both q r))

@@ -95,13 +95,14 @@ mark-by (suc (suc t)) p = absent
 abbrev pub mark-of : Rows → (n j : ℕ) → ℕ
 mark-of w n j = mark-by (times j (named-below w n)) (parent w n j)
 
--- what is asked of all rows: each is there, its lists are in range, and it names earlier rows alone; and there is room for marks
+-- what is asked of all rows: each is there, its lists are in range, and it names earlier rows alone, however many symbols there are; and there is room for marks
 pub record Nameable (table nodes links : List ℕ) (n : ℕ) (marks : List ℕ) : Type 0 where
   pub few : length links / link-width ≤ absent
   pub rows : n ≤ absent
   pub room : n + 2 * (length links / link-width) ≤ length marks
   pub standing : All-standing table nodes n
-  pub earlier : (i : ℕ) → i < n → row-keeps 3 0 table nodes links i ≡ true
+  pub symbols : ℕ
+  pub earlier : (i : ℕ) → i < n → row-keeps 3 symbols table nodes links i ≡ true
 
 pub record All-named (w : Rows) (n : ℕ) (marks : List ℕ) : Type 0 where
   pub each : (j : ℕ) → j < n → getD marks j 0 ≡ mark-of w n j

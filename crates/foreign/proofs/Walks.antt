@@ -45,7 +45,7 @@ total-tick p h nil = refl
 total-tick p h (cons {x = x} l e) = rw (h x l, total-tick p h e)
 
 -- a name that stands in a list is one of those that are earlier
-named-earlier : {i j : ℕ} {xs : List ℕ} → Each (Before i) xs → j < absent → 0 < times j xs → j < i
+pub named-earlier : {i j : ℕ} {xs : List ℕ} → Each (Before i) xs → j < absent → 0 < times j xs → j < i
 named-earlier nil h t = absurd (omega arith)
 named-earlier {i} {j} (cons {x = x} {xs = xs} b e) h t = pick (eqb j x) refl b t (named-earlier e h)
   where
