@@ -4,83 +4,29 @@
 use Prim.Native.Nat.{ℕ, zero, suc, _+_, _-_, _*_, _/_, _≤_, _<_}
 use native.Mathlib.Decide.{decLt}
 use native.Mathlib.Omega.{arith}
-use mathlib.Core.Bool.{Bool, true, false, cond, _||_}
-use mathlib.Core.List.{List, [], _∷_, _++_, append-nil}
-use mathlib.Core.Logic.{inl, inr}
+use mathlib.Core.Bool.{Bool, true, false, cond}
+use mathlib.Core.List.{List, _++_}
 use mathlib.Core.Path.{_≡_, refl, sym, ap, _∙_}
-use lib.Dec.{eqb, ltb, leb}
-use borrow.Author.Tests.{eqb-true, ltb-true, leb-true, eq-eqb, ne-eqb, lt-ltb, le-ltb}
+use lib.Dec.{eqb}
+use borrow.Author.Tests.{eqb-true, eq-eqb, ne-eqb}
 use lib.ListN.{length, getD, replicate}
 use Rattle.grammar.specs.Handle.{absent}
 use Rattle.grammar.specs.Naming.{height, named-by, named-below, times}
-use Rattle.grammar.specs.Parent.{parent, tenth}
+use Rattle.grammar.specs.Parent.{parent}
 use Rattle.grammar.specs.Room.{link-width}
 use Rattle.grammar.specs.Rows.{Rows}
 use Rattle.grammar.proofs.Forest.{times-append}
 use Rattle.grammar.proofs.Parents.{no-parent, found}
 use Rattle.ast.specs.Written.{Written}
 use Rattle.ast.proofs.Rooms.{zero-at}
-use Rattle.foreign.specs.Check.{Item, Each, nil, cons, Before, Earlier, Once, Parent-right}
+use Rattle.foreign.specs.Check.{Earlier, Once, Parent-right}
 use Rattle.foreign.proofs.Walks.{named-earlier}
-use Rattle.checker.specs.Named.{once-more, base-of, Ready, Noted, names-in, In-lists, Nameable, mark-by, mark-of, All-named, is-once, is-parent}
-use Rattle.checker.specs.Slots.{rows, cut-of, held, held-in, Standing}
-use Rattle.checker.specs.Test.{keep-all, row-keeps}
-use Rattle.checker.specs.declared.slots.Slot.{Slot}
+use Rattle.checker.specs.Named.{once-more, base-of, Ready, Noted, names-in, In-lists, mark-by, mark-of, Nameable, All-named, is-once, is-parent}
+use Rattle.checker.specs.Slots.{rows, cut-of, held}
 use Rattle.checker.specs.declared.slots.Cut.{Cut}
-use Rattle.checker.proofs.Items.{cut-items, named-items, names-append, names-spared}
-use Rattle.checker.proofs.Keeping.{keep-append}
-use Rattle.checker.proofs.Laws.{both-true, never, settled-none}
-
--- what a row that stands names, by its slots
-module _ {t ns : List ℕ} {i : ℕ} (ls : List ℕ) (s : Standing t ns i) where
-  abbrev cut : Cut
-  cut = cut-of t ns i
-
-  names-held : named-by (rows ns ls) i ≡ names-in (held-in ns ls i cut)
-  names-held = named-items (s .edition) (rows ns ls) i ∙ ap names-in (cut-items (s .edition) ns ls i (s .same) s)
-
-  row-names : named-by (rows ns ls) i ≡ names-in (held ls (cut .first) ++ (held ls (cut .second) ++ held ls (cut .third)))
-  unfolding held-in
-  row-names = names-held ∙ rw (names-append (held ls (cut .first)), names-append (held ls (cut .second)), names-append (held ls (cut .third)), names-spared, append-nil) (sym (rw (names-append (held ls (cut .first)), names-append (held ls (cut .second))) refl))
-
--- a list whose row keeps a rule is in range
-slot-inside : (rule i s : ℕ) (ls : List ℕ) (x : Slot) → keep-all rule i s (length ls / link-width) (held ls x) ≡ true → In-lists ls x
-unfolding held
-slot-inside rule i s ls x e h l =
-    leb-true (x .x + x .y) (length ls / link-width)
-    (both-true (leb (x .x + x .y) (length ls / link-width)) _
-    (rw (ne-eqb (x .code) 0 (λ e. omega arith), ne-eqb (x .code) 1 (λ e. omega arith), ne-eqb (x .code) 2 (λ e. omega arith), le-ltb (x .code) 5 h, lt-ltb (x .code) 8 l) at e) .0)
-
-row-inside : (rule s : ℕ) (t ns ls : List ℕ) (i : ℕ) → row-keeps rule s t ns ls i ≡ true → (let c = cut-of t ns i in In-lists ls (c .first) × In-lists ls (c .second) × In-lists ls (c .third))
-unfolding row-keeps held-in
-row-inside rule s t ns ls i e =
-    let c = cut-of t ns i in
-    let m = length ls / link-width in
-    let (a, r₁) = both-true (keep-all rule i s m (held ls (c .first))) _ (sym (keep-append rule i s m (held ls (c .first)) _) ∙ e) in
-    let (b, r₂) = both-true (keep-all rule i s m (held ls (c .second))) _ (sym (keep-append rule i s m (held ls (c .second)) _) ∙ r₁) in
-    let (d, r₃) = both-true (keep-all rule i s m (held ls (c .third))) _ (sym (keep-append rule i s m (held ls (c .third)) _) ∙ r₂) in
-    (slot-inside rule i s ls (c .first) a, slot-inside rule i s ls (c .second) b, slot-inside rule i s ls (c .third) d)
-
--- and what it names is earlier, if it keeps rule 3
-before-means : (i x : ℕ) → (ltb x i || eqb x absent) ≡ true → Before i x
-before-means i x e = pick (ltb x i) refl e
-  where
-    pick : (a : Bool) → ltb x i ≡ a → (a || eqb x absent) ≡ true → Before i x
-    pick true p e = inl (ltb-true x i p)
-    pick false p e = inr (eqb-true x absent e)
-
-kept-earlier : (i s m : ℕ) (is : List Item) → keep-all 3 i s m is ≡ true → Each (Before i) (names-in is)
-kept-earlier i s m [] e = nil
-kept-earlier i s m (Item.number l x ∷ is) e = kept-earlier i s m is e
-kept-earlier i s m (Item.child x ∷ is) e = let (a, b) = both-true (ltb x i || eqb x absent) (keep-all 3 i s m is) e in cons (before-means i x a) (kept-earlier i s m is b)
-kept-earlier i s m (Item.option x ∷ is) e = let (a, b) = both-true (ltb x i || eqb x absent) (keep-all 3 i s m is) e in cons (before-means i x a) (kept-earlier i s m is b)
-kept-earlier i s m (Item.symbol x ∷ is) e = kept-earlier i s m is e
-kept-earlier i s m (Item.list f n ∷ is) e = kept-earlier i s m is (both-true (leb (f + n) m) (keep-all 3 i s m is) e .1)
-kept-earlier i s m (Item.unused x ∷ is) e = kept-earlier i s m is e
-
-row-earlier : {t ns : List ℕ} {i : ℕ} (s : ℕ) (ls : List ℕ) → Standing t ns i → row-keeps 3 s t ns ls i ≡ true → Earlier (rows ns ls) i
-unfolding row-keeps
-row-earlier {t} {ns} {i} s ls st e = rw (names-held ls st) (kept-earlier i s (length ls / link-width) (held-in ns ls i (cut-of t ns i)) e)
+use Rattle.checker.proofs.Earlier.{row-names, row-inside, row-earlier}
+use Rattle.checker.proofs.Laws.{never, settled-none}
+use Rattle.checker.proofs.Passes.{Tests}
 
 -- a mark that is of t names becomes one of t + u, where the last row among the t is no row 0
 mark-step : (i u t p : ℕ) → (t ≡ 1 → 0 < p) → once-more i u (mark-by t p) ≡ mark-by (t + u) (cond (eqb u 0) p i)
@@ -155,42 +101,34 @@ naming-done {w} e a = record { each = λ j h. a .each j h ∙ ap (λ k. mark-of 
 -- what the marks of all rows tell
 module _ {w : Rows} {n : ℕ} {marks : List ℕ} (few : n ≤ absent) (tall : height w ≡ n) (earlier : (i : ℕ) → i < n → Earlier w i) (a : All-named w n marks) where
   -- a row that is named once has its parent as its mark
-  marked-once : (j : ℕ) → j < n → times j (named-below w n) ≡ 1 → (getD marks j 0 ≡ parent w n j) × (0 < getD marks j 0) × (getD marks j 0 < absent)
-  marked-once j h e =
+  marked-once : (j : ℕ) → j < n → Once w j → (getD marks j 0 ≡ parent w n j) × (0 < getD marks j 0) × (getD marks j 0 < absent)
+  marked-once j h o =
+      let e : times j (named-below w n) ≡ 1 = rw tall at o in
       let q : getD marks j 0 ≡ parent w n j = a .each j h ∙ ap (λ t. mark-by t (parent w n j)) e in
       let (l, m) = parent-later w n few earlier n j (omega arith) (omega arith) e in
       (q, omega arith, omega arith)
 
-  once-true : (j : ℕ) → j < n → Once w j → is-once marks j ≡ true
-  once-true j h o =
-      let (q, l, m) = marked-once j h (ap (λ k. times j (named-below w k)) (sym tall) ∙ o) in
-      rw (ne-eqb (getD marks j 0) 0 (λ e. omega arith), ne-eqb (getD marks j 0) absent (λ e. omega arith)) refl
-
-  true-once : (j : ℕ) → j < n → is-once marks j ≡ true → Once w j
-  true-once j h e = ap (λ k. times j (named-below w k)) tall ∙ pick (times j (named-below w n)) (a .each j h)
+  pub once-means : Tests (is-once marks) (Once w) (n - 1)
+  once-means = record {
+    means = λ j h e. rw tall (pick j e (times j (named-below w n)) (a .each j (omega arith)));
+    holds = λ j h o. let (q, l, m) = marked-once j (omega arith) o in rw (ne-eqb (getD marks j 0) 0 (λ e. omega arith), ne-eqb (getD marks j 0) absent (λ e. omega arith)) refl;
+  }
     where
-      pick : (t : ℕ) → getD marks j 0 ≡ mark-by t (parent w n j) → t ≡ 1
-      pick zero q = absurd (never e (rw q refl))
-      pick (suc zero) q = refl
-      pick (suc (suc t)) q = absurd (never e (rw q refl))
+      pick : (j : ℕ) → is-once marks j ≡ true → (t : ℕ) → getD marks j 0 ≡ mark-by t (parent w n j) → t ≡ 1
+      pick j e zero q = absurd (never e (rw q refl))
+      pick j e (suc zero) q = refl
+      pick j e (suc (suc t)) q = absurd (never e (rw q refl))
 
   -- where all but the last are, the last is named by none
   module _ (once : (j : ℕ) → j < n - 1 → Once w j) where
     right-mark : (j : ℕ) → j < n → cond (eqb (getD marks j 0) 0) absent (getD marks j 0) ≡ parent w (height w) j
-    right-mark j h = elim (decLt j (n - 1)) [ yes l ↦ named l | no l ↦ last (omega arith) ] ∙ ap (λ k. parent w k j) (sym tall)
+    right-mark j h = rw tall (elim (decLt j (n - 1)) [ yes l ↦ named l | no l ↦ last (omega arith) ])
       where
         named : j < n - 1 → cond (eqb (getD marks j 0) 0) absent (getD marks j 0) ≡ parent w n j
-        named l =
-            let (q, m, k) = marked-once j h (ap (λ i. times j (named-below w i)) (sym tall) ∙ once j l) in
-            rw (ne-eqb (getD marks j 0) 0 (λ e. omega arith)) q
+        named l = let (q, m, k) = marked-once j h (once j l) in rw (ne-eqb (getD marks j 0) 0 (λ e. omega arith)) q
 
         last : n ≤ suc j → cond (eqb (getD marks j 0) 0) absent (getD marks j 0) ≡ parent w n j
-        last l =
-            let z = none-below w n few earlier n j (omega arith) l (omega arith) in
-            rw (a .each j h, z) (sym (no-parent w j n z))
+        last l = let z = none-below w n few earlier n j (omega arith) l (omega arith) in rw (a .each j h, z) (sym (no-parent w j n z))
 
-    right-parent : (j : ℕ) → j < n → Parent-right w j → is-parent (w .nodes) marks j ≡ true
-    right-parent j h p = eq-eqb _ _ (p ∙ sym (right-mark j h))
-
-    parent-right : (j : ℕ) → j < n → is-parent (w .nodes) marks j ≡ true → Parent-right w j
-    parent-right j h e = eqb-true _ _ e ∙ right-mark j h
+    pub parent-means : Tests (is-parent (w .nodes) marks) (Parent-right w) n
+    parent-means = record { means = λ j h e. eqb-true _ _ e ∙ right-mark j h; holds = λ j h p. eq-eqb _ _ (p ∙ sym (right-mark j h)) }

@@ -1,7 +1,7 @@
 -- Which rows are named, and by which row: a mark for each row, which stands in the lent room in the order of the rows. It is 0 where the row is not named, the row that names it
 -- where it is named once, and absent where it is named more often.
 use Prim.Native.Nat.{ℕ, zero, suc, _+_, _*_, _/_, _≤_, _<_}
-use mathlib.Core.Bool.{Bool, true, false, cond, _&&_, _||_, not}
+use mathlib.Core.Bool.{Bool, true, cond, _&&_, _||_, not}
 use mathlib.Core.List.{List, [], _∷_}
 use mathlib.Core.Path.{_≡_}
 use lib.Dec.{eqb, ltb}

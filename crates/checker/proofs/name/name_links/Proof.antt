@@ -1,9 +1,10 @@
 -- `name_links` meets its contract: from link to link, whatever is left of the list then decides what all of it does.
-use Prim.Native.Nat.{_+_, _-_}
+use Prim.Native.Nat.{_+_, _-_, _≤_}
 use borrow.Author.Needs.{needs}
 use native.Mathlib.Omega.{arith}
 use mathlib.Core.Path.{refl, ap, _∙_}
-use Rattle.checker.proofs.Noting.{Walkable, Walks, marks-inside, walks-self, walks-both, walks-over, walks-link, walks-end}
+use lib.ListN.{length}
+use Rattle.checker.proofs.Walking.{Walkable, Walks, marks-inside, walks-self, walks-both, walks-over, walks-link, walks-end}
 use Rattle.checker.proofs.name.name_links.Statement.{statement}
 use Rattle.checker.proofs.name.name_links.Tie as tie
 use Rattle.checker.proofs.name.name_links.Reads as reads
@@ -15,7 +16,7 @@ use Rattle.checker.proofs.name.other.Reads as other-reads
 use Rattle.checker.proofs.name.place.Reads as place-reads
 
 abbrev Inv-loop : tie.InvT-loop
-Inv-loop marks₀ rows links row from count two base end at₀ marks at = Walkable rows row two links base end × Walks rows row two links end at₀ marks₀ at marks
+Inv-loop marks₀ rows links row from count two base end at₀ marks at = Walkable rows row two links base end × Walks rows row two links end at₀ marks₀ at marks × (base + end ≤ length marks)
 
 abbrev μ-loop : tie.MeasureT-loop
 μ-loop marks₀ rows links row from count two base end at₀ marks at = end - at
@@ -39,59 +40,21 @@ entered c = walks-over (walkable (c .before .before .before .before)) (c .before
 add-base : tie.Need-add-base Inv-loop μ-loop
 add-base c = omega (arith, marks-inside (walkable c) (c .before .before .before .pre .ready))
 
-add-end : tie.Need-add-end Inv-loop μ-loop
-add-end c = omega arith
-
 skip-requires : tie.Need-skip-requires Inv-loop μ-loop
 skip-requires c κs = marks-inside (walkable (c .before)) (c .before .before .before .before .pre .ready)
 
 loop-holds : tie.Need-loop-holds Inv-loop μ-loop
-loop-holds c = (walkable (c .before .before .before .before), walks-self (entered c .ready))
-
-mul-x : tie.Need-mul-x Inv-loop μ-loop
-mul-x c = omega arith
-
-mul-x-2 : tie.Need-mul-x-2 Inv-loop μ-loop
-mul-x-2 c = omega arith
-
-shared-slice-read-x : tie.Need-shared-slice-read-x Inv-loop μ-loop
-shared-slice-read-x c = omega arith
-
-other-requires : tie.Need-other-requires Inv-loop μ-loop
-other-requires c κs = omega arith
-
-mark-requires : tie.Need-mark-requires Inv-loop μ-loop
-mark-requires c κs = omega arith
-
-mark-requires-2 : tie.Need-mark-requires-2 Inv-loop μ-loop
-mark-requires-2 c κs = omega arith
-
-cast-note : tie.Need-cast-note Inv-loop μ-loop
-cast-note c = omega arith
-
-note-requires : tie.Need-note-requires Inv-loop μ-loop
-note-requires c κs = let i = c .before .before .before .before .before .before .before .before .before .before .before .before .loop .inv in (omega arith, omega arith, omega (arith, marks-inside (i .0) (i .1 .ready)))
-
-add-skip : tie.Need-add-skip Inv-loop μ-loop
-add-skip c = omega arith
-
-skip-requires-2 : tie.Need-skip-requires-2 Inv-loop μ-loop
-skip-requires-2 c κs = let i = c .before .before .before .before .before .before .before .before .before .before .before .before .before .before .before .before .loop .inv in omega (arith, marks-inside (i .0) (i .1 .ready))
-
-loop-less : tie.Need-loop-less Inv-loop μ-loop
-loop-less c = omega arith
+loop-holds c = let w = walkable (c .before .before .before .before) in let r = entered c .ready in (w, walks-self r, marks-inside w r)
 
 loop-again : tie.Need-loop-again Inv-loop μ-loop
 loop-again c =
     let n = c .before .before .before .before .before .before in
     let m = n .before .before .before .before in
     let k = m .before .before .before .before in
-    let i = k .before .before .before .before .before .loop .inv in
-    let w = walks-link (i .0) (k .before .before .before .before .loop-test .taken) (i .1 .ready) refl (k .before .before .other .ensures) (k .mark .ensures) (m .mark2 .ensures) (n .note .ensures) (n .note .kept .0 ∙ m .mark2 .kept .0 ∙ k .mark .kept .0) in
-    (i .0, walks-both (i .1) (walks-both w (walks-over (i .0) (w .ready) (c .before .before .skip2 .kept .0) (c .before .before .skip2 .ensures))))
-
-same-length : tie.Need-same-length Inv-loop μ-loop
-same-length c = omega arith
+    let (w, p, q) = k .before .before .before .before .before .loop .inv in
+    let x = walks-link w (k .before .before .before .before .loop-test .taken) (p .ready) refl (k .before .before .other .ensures) (k .mark .ensures) (m .mark2 .ensures) (n .note .ensures) (n .note .kept .0 ∙ m .mark2 .kept .0 ∙ k .mark .kept .0) in
+    let y = walks-over w (x .ready) (c .before .before .skip2 .kept .0) (c .before .before .skip2 .ensures) in
+    (w, walks-both p (walks-both x y), marks-inside w (y .ready))
 
 returns : tie.Need-returns Inv-loop μ-loop
 returns c = let w = walkable (c .before .before .before .before .before .before) in walks-end w _ (walks-both (entered (c .before .before)) (c .before .loop .inv .1)) refl (c .loop-test .left)
@@ -99,4 +62,4 @@ returns c = let w = walkable (c .before .before .before .before .before .before)
 pub name-links-spec : {M : Type 1} → statement M
 name-links-spec =
     tie.close
-    (tie.spec Inv-loop μ-loop (λ c κs. search needs) add-base add-end skip-requires loop-holds mul-x mul-x-2 shared-slice-read-x other-requires mark-requires mark-requires-2 cast-note note-requires add-skip skip-requires-2 loop-less loop-again same-length returns)
+    (tie.spec Inv-loop μ-loop (λ c κs. search needs) add-base (λ c. search needs) skip-requires loop-holds (λ c. search needs) (λ c. search needs) (λ c. search needs) (λ c κs. search needs) (λ c κs. search needs) (λ c κs. search needs) (λ c. search needs) (λ c κs. search needs) (λ c. search needs) (λ c κs. search needs) (λ c. search needs) loop-again (λ c. search needs) returns)

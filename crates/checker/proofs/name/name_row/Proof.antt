@@ -1,6 +1,6 @@
 -- `name_row` meets its contract: one slot after another.
 use borrow.Author.Needs.{needs}
-use Rattle.checker.proofs.Noting.{slots-noted}
+use Rattle.checker.proofs.Walking.{slots-noted}
 use Rattle.checker.proofs.name.name_row.Statement.{statement}
 use Rattle.checker.proofs.name.name_row.Tie as tie
 

@@ -2,7 +2,8 @@
 use borrow.Author.Needs.{needs}
 use native.Mathlib.Omega.{arith}
 use mathlib.Core.Bool.{true, false}
-use Rattle.checker.proofs.Noting.{noted-none, noted-one, slot-list, slot-row, slot-none}
+use Rattle.checker.proofs.Noting.{noted-none, noted-one}
+use Rattle.checker.proofs.Walking.{slot-list, slot-row, slot-none}
 use Rattle.checker.proofs.name.name_slot.Statement.{statement}
 use Rattle.checker.proofs.name.name_slot.Tie as tie
 
