@@ -95,7 +95,7 @@ mark-by (suc (suc t)) p = absent
 abbrev pub mark-of : Rows → (n j : ℕ) → ℕ
 mark-of w n j = mark-by (times j (named-below w n)) (parent w n j)
 
--- what is asked of all rows: each is there, its lists are in range, and it names earlier rows alone, however many symbols there are; and there is room for marks
+-- what is asked of all rows: each is there, its lists are in range, and it names earlier rows alone, by rule 3 asked with some number of symbols; and there is room for marks
 pub record Nameable (table nodes links : List ℕ) (n : ℕ) (marks : List ℕ) : Type 0 where
   pub few : length links / link-width ≤ absent
   pub rows : n ≤ absent
