@@ -5,7 +5,7 @@ use Prim.Native.Nat.{ℕ, zero, suc, _+_, _-_, _*_, _/_, _≤_, _<_}
 use native.Mathlib.Decide.{decLt}
 use native.Mathlib.Omega.{arith}
 use mathlib.Core.Bool.{Bool, true, false, cond}
-use mathlib.Core.List.{List, _++_}
+use mathlib.Core.List.{List, _++_, append-nil}
 use mathlib.Core.Path.{_≡_, refl, sym, ap, _∙_}
 use lib.Dec.{eqb}
 use borrow.Author.Tests.{eqb-true, eq-eqb, ne-eqb}
@@ -22,11 +22,29 @@ use Rattle.ast.proofs.Rooms.{zero-at}
 use Rattle.foreign.specs.Check.{Earlier, Once, Parent-right}
 use Rattle.foreign.proofs.Walks.{named-earlier}
 use Rattle.checker.specs.Named.{once-more, base-of, Ready, Noted, names-in, In-lists, mark-by, mark-of, Nameable, All-named, is-once, is-parent}
-use Rattle.checker.specs.Slots.{rows, cut-of, held}
+use Rattle.checker.specs.Slots.{rows, cut-of, held, held-in, Standing}
+use Rattle.checker.specs.Test.{row-keeps}
 use Rattle.checker.specs.declared.slots.Cut.{Cut}
-use Rattle.checker.proofs.Earlier.{row-names, row-inside, row-earlier}
+use Rattle.checker.proofs.Deciding.{earlier as earlier-names, lists-inside}
+use Rattle.checker.proofs.Items.{cut-items, named-items, names-append, names-spared}
 use Rattle.checker.proofs.Laws.{never, settled-none}
 use Rattle.checker.proofs.Passes.{Tests}
+
+-- what a row that stands names, by its slots; all of that is earlier or absent, if it keeps rule 3
+module _ {t ns : List ℕ} {i : ℕ} (ls : List ℕ) (stands : Standing t ns i) where
+  abbrev cut : Cut
+  cut = cut-of t ns i
+
+  names-held : named-by (rows ns ls) i ≡ names-in (held-in ns ls i cut)
+  names-held = named-items (stands .edition) (rows ns ls) i ∙ ap names-in (cut-items (stands .edition) ns ls i (stands .same) stands)
+
+  row-names : named-by (rows ns ls) i ≡ names-in (held ls (cut .first) ++ (held ls (cut .second) ++ held ls (cut .third)))
+  unfolding held-in
+  row-names = names-held ∙ rw (names-append (held ls (cut .first)), names-append (held ls (cut .second)), names-append (held ls (cut .third)), names-spared, append-nil) (sym (rw (names-append (held ls (cut .first)), names-append (held ls (cut .second))) refl))
+
+  row-earlier : (s : ℕ) → row-keeps 3 s t ns ls i ≡ true → Earlier (rows ns ls) i
+  unfolding row-keeps
+  row-earlier s e = rw names-held (earlier-names i s (length ls / link-width) (held-in ns ls i cut) e)
 
 -- a mark that is of t names becomes one of t + u, where the last row among the t is no row 0
 mark-step : (i u t p : ℕ) → (t ≡ 1 → 0 < p) → once-more i u (mark-by t p) ≡ mark-by (t + u) (cond (eqb u 0) p i)
@@ -76,10 +94,10 @@ row-more {w} {n} {i} {xs} {marks} {after} earlier h a e m = let z : i + 1 ≡ su
 -- what is asked of them, and the marks while they are gone through
 module _ {t ns ls room : List ℕ} {n : ℕ} (asked : Nameable t ns ls n room) where
   all-earlier : (k : ℕ) → k < n → Earlier (rows ns ls) k
-  all-earlier k h = row-earlier (asked .symbols) ls (asked .standing .each k h) (asked .earlier k h)
+  all-earlier k h = row-earlier ls (asked .standing .each k h) (asked .symbols) (asked .earlier k h)
 
   pub row-lists : {i : ℕ} {c : Cut} → i < n → c ≡ cut-of t ns i → In-lists ls (c .first) × In-lists ls (c .second) × In-lists ls (c .third)
-  row-lists {i} h e = rw e (row-inside 3 (asked .symbols) t ns ls i (asked .earlier i h))
+  row-lists {i} h e = rw e (lists-inside 3 (asked .symbols) t ns ls i (asked .earlier i h))
 
   pub naming-none : {marks : List ℕ} → (let all = n + 2 * (length ls / link-width) in Written 0 all (replicate (all - 0) 0) room marks) → Naming (rows ns ls) n 0 marks
   unfolding named-below
