@@ -127,23 +127,6 @@ module _ (i s m : ℕ) where
   pub is-zeroed : {is : List Item} → Each Zero is → Each (In-range s m) is → keep-all 8 i s m is ≡ true
   is-zeroed = mean-all 8 i s m Zero means-zero
 
--- rule 3 has nothing to do with how many symbols there are
-pub earlier-any : (s s′ : ℕ) (t ns ls : List ℕ) (i : ℕ) → row-keeps 3 s t ns ls i ≡ row-keeps 3 s′ t ns ls i
-unfolding row-keeps
-earlier-any s s′ t ns ls i = any (held-in ns ls i (cut-of t ns i))
-  where
-    one : (x : Item) → keep 3 i s (many ls) x ≡ keep 3 i s′ (many ls) x
-    one (Item.number l n) = refl
-    one (Item.child x) = refl
-    one (Item.option x) = refl
-    one (Item.symbol x) = refl
-    one (Item.list f n) = refl
-    one (Item.unused x) = refl
-
-    any : (is : List Item) → keep-all 3 i s (many ls) is ≡ keep-all 3 i s′ (many ls) is
-    any [] = refl
-    any (x ∷ is) = rw (one x, any is) refl
-
 -- whatever the rule, lists of a row that keeps it are in range
 slot-inside : (rule i s : ℕ) (ls : List ℕ) (t : Slot) → keep-all rule i s (many ls) (held ls t) ≡ true → In-lists ls t
 slot-inside rule i s ls t e h l = leb-true (t .x + t .y) (many ls) (both-true _ _ (sym (list-is rule i s ls t h l) ∙ e) .0)

@@ -5,27 +5,21 @@ use mathlib.Core.Bool.{Bool, true, false, cond, _&&_}
 use mathlib.Core.List.{List, [], _∷_, _++_, append-nil}
 use mathlib.Core.Path.{_≡_, refl, sym, ap, _∙_}
 use lib.Dec.{eqb, ltb}
-use borrow.Author.Tests.{ne-eqb, eq-eqb, lt-ltb, le-ltb}
+use borrow.Author.Tests.{eqb-true, ne-eqb, eq-eqb, lt-ltb, le-ltb}
 use lib.ListN.{getD, drop}
 use Rattle.grammar.specs.Room.{node-width, own-width, link-width}
-use Rattle.foreign.specs.Check.{Item, lists, counted}
+use Rattle.grammar.specs.Edition.{Edition}
+use Rattle.foreign.specs.Check.{Item, lists, counted, Consecutive, covered, Follows}
 use Rattle.checker.specs.Follow.{consecutive, followed, Goes-on, in-slots, covered-by, row-follows, Follows-all}
-use Rattle.checker.specs.Slots.{cut-of, link-items, linked-items, held, spared, held-in}
-use Rattle.checker.specs.Test.{First}
+use Rattle.checker.specs.Slots.{rows, table, cut-of, link-items, linked-items, held, spared, held-in}
+use Rattle.checker.specs.Test.{All-standing}
 use Rattle.checker.specs.declared.slots.Cut.{Cut}
 use Rattle.checker.specs.declared.slots.Slot.{Slot}
-use Rattle.checker.proofs.Laws.{and-assoc, Held, held-none, held-more, found, none-found}
+use Rattle.checker.proofs.Items.{cut-items, lists-append, lists-spared}
+use Rattle.checker.proofs.Laws.{and-assoc, both-true, true-both, Held, held-none, held-more, found, none-found}
+use Rattle.checker.proofs.Passes.{Tests}
 
-lists-append : (xs ys : List Item) → lists (xs ++ ys) ≡ lists xs ++ lists ys
-lists-append [] ys = refl
-lists-append (Item.number l n ∷ is) ys = lists-append is ys
-lists-append (Item.child x ∷ is) ys = lists-append is ys
-lists-append (Item.option x ∷ is) ys = lists-append is ys
-lists-append (Item.symbol x ∷ is) ys = lists-append is ys
-lists-append (Item.list f n ∷ is) ys = ap (λ ls. (f, n) ∷ ls) (lists-append is ys)
-lists-append (Item.unused x ∷ is) ys = lists-append is ys
-
--- links and numbers left over hold none
+-- links hold none
 links-listless : (c n : ℕ) (ls : List ℕ) → lists (linked-items c n ls) ≡ []
 unfolding linked-items
 links-listless c zero ls = refl
@@ -35,11 +29,6 @@ links-listless c (suc n) ls = lists-append (link-items c (getD ls 0 0) (getD ls 
     one true d = refl
     one false true = refl
     one false false = refl
-
-lists-spared : (n : ℕ) (xs : List ℕ) → lists (spared n xs) ≡ []
-unfolding spared
-lists-spared zero xs = refl
-lists-spared (suc n) xs = lists-spared n (drop 1 xs)
 
 -- a slot that is no list, and one that is
 module _ (ls : List ℕ) (s : Slot) where
@@ -158,3 +147,24 @@ module _ {t ns : List ℕ} where
 
   pub follow-ended : {i links n : ℕ} → i ≡ n → Following t ns i links → Follows-all t ns n (record { row = n; links = links })
   follow-ended e x = record { first = λ ls. none-found e (x .kept ls); covered = λ q ls. x .covered ls ∙ ap (covered-by t ns ls) e }
+
+-- what the test of lists means
+consecutive-means : (m : ℕ) (ls : List (ℕ × ℕ)) → consecutive m ls ≡ true → Consecutive m ls
+consecutive-means m [] e = tt
+consecutive-means m (l ∷ ls) e = let (a, b) = both-true (eqb (l .0) m) (consecutive (m + l .1) ls) e in (eqb-true (l .0) m a, consecutive-means (m + l .1) ls b)
+
+means-consecutive : (m : ℕ) (ls : List (ℕ × ℕ)) → Consecutive m ls → consecutive m ls ≡ true
+means-consecutive m [] c = refl
+means-consecutive m (l ∷ ls) c = true-both (eq-eqb (l .0) m (c .0)) (means-consecutive (m + l .1) ls (c .1))
+
+module _ (e : Edition) {t ns : List ℕ} (ls : List ℕ) {n : ℕ} (q : t ≡ table e) (a : All-standing t ns n) where
+  pub covered-means : (m : ℕ) → m ≤ n → covered-by t ns ls m ≡ covered e (rows ns ls) m
+  unfolding covered-by covered
+  covered-means zero h = refl
+  covered-means (suc m) h = rw (covered-means m (omega arith), cut-items e ns ls m q (a .each m h)) refl
+
+  pub follows-means : Tests (row-follows t ns ls) (Follows e (rows ns ls)) n
+  unfolding row-follows
+  follows-means = record {
+    means = λ j h k. rw (← covered-means j (omega arith), cut-items e ns ls j q (a .each j h)) (consecutive-means (covered-by t ns ls j) (lists (held-in ns ls j (cut-of t ns j))) k);
+    holds = λ j h k. means-consecutive (covered-by t ns ls j) (lists (held-in ns ls j (cut-of t ns j))) (rw (← covered-means j (omega arith), cut-items e ns ls j q (a .each j h)) at k) }

@@ -123,7 +123,7 @@ unfolding cut-of
 cut-made t ns row e₁ e₂ e₃ e₄ e₅ e₆ e₇ e₈ e₉ = let z : 6 * (getD ns (node-width * row) 0 - 1) + 0 ≡ 6 * (getD ns (node-width * row) 0 - 1) = omega arith in rw z (cc)
 
 -- a row's own numbers
-own-number : (row : ℕ) (ns ls : List ℕ) (k : ℕ) → k < own-width → getD (own (rows ns ls) row) k 0 ≡ getD ns (node-width * row + k) 0
+pub own-number : (row : ℕ) (ns ls : List ℕ) (k : ℕ) → k < own-width → getD (own (rows ns ls) row) k 0 ≡ getD ns (node-width * row + k) 0
 own-number row ns ls k h = getD-take own-width (drop (node-width * row) ns) k 0 h ∙ getD-drop (node-width * row) ns k 0
 
 pub own-kind : (row : ℕ) (ns ls : List ℕ) → getD (own (rows ns ls) row) 0 0 ≡ getD ns (node-width * row) 0

@@ -1,21 +1,18 @@
--- The first row that a pass stops at is the first that breaks its rule, and where it stops at none all rows keep it.
-use Prim.Native.Nat.{ℕ, _*_, _<_}
+-- The first row that a pass stops at is the first that breaks its rule.
+use Prim.Native.Nat.{ℕ, _<_}
 use native.Mathlib.Omega.{arith}
 use mathlib.Core.Bool.{Bool, true}
 use mathlib.Core.List.{List}
 use mathlib.Core.Path.{_≡_, ap, sym, _∙_}
-use lib.Dec.{leb}
-use borrow.Author.Tests.{leb-true, le-leb}
-use lib.ListN.{getD}
 use Rattle.grammar.specs.Door.{First-without}
 use Rattle.grammar.specs.Edition.{Edition}
-use Rattle.grammar.specs.Room.{node-width}
 use Rattle.foreign.specs.Check.{items-of, Known-kind, Ranged, Earlier, Present, Clean}
 use Rattle.checker.specs.Slots.{table, rows}
 use Rattle.checker.specs.Test.{keep-all, All-standing, First, known-kind, row-keeps}
-use Rattle.checker.proofs.Laws.{both-true, true-both, never}
+use Rattle.checker.proofs.Laws.{never}
 use Rattle.checker.proofs.Items.{own-kind, cut-items, named-items}
 use Rattle.checker.proofs.Keeping.{many}
+use Rattle.checker.proofs.Roots.{kind-known, kind-means}
 use Rattle.checker.proofs.Deciding.{ranged, is-ranged, earlier, is-earlier, allowed, is-allowed, zeroed, is-zeroed}
 
 -- a test that decides P of each of n rows
@@ -23,19 +20,14 @@ pub record Tests (test : ℕ → Bool) (P : ℕ → Type 0) (n : ℕ) : Type 0 w
   pub means : (j : ℕ) → j < n → test j ≡ true → P j
   pub holds : (j : ℕ) → j < n → P j → test j ≡ true
 
-module _ {test : ℕ → Bool} {P : ℕ → Type 0} {n r : ℕ} (t : Tests test P n) (f : First test n r) where
-  pub breaks : r < n → First-without P n r
-  breaks h = record { place = h; lacks = λ p. never (t .holds r h p) (f .fails h); before = λ j l. t .means j (omega arith) (f .before j l) }
-
-  pub all-keep : r ≡ n → (j : ℕ) → j < n → P j
-  all-keep e j h = t .means j h (f .before j (omega arith))
+pub breaks : {test : ℕ → Bool} {P : ℕ → Type 0} {n r : ℕ} → Tests test P n → First test n r → r < n → First-without P n r
+breaks {r = r} t f h = record { place = h; lacks = λ p. never (t .holds r h p) (f .fails h); before = λ j l. t .means j (omega arith) (f .before j l) }
 
 -- kinds
 pub rule-one : (ns ls : List ℕ) (n : ℕ) → Tests (known-kind ns) (Known-kind (rows ns ls)) n
-unfolding known-kind
 rule-one ns ls n = record {
-  means = λ j h e. let (a, b) = both-true (leb 1 (getD ns (node-width * j) 0)) _ e in record { least = rw (own-kind j ns ls) (leb-true 1 _ a); most = rw (own-kind j ns ls) (leb-true _ 26 b) };
-  holds = λ j h k. true-both (le-leb 1 (getD ns (node-width * j) 0) (rw (own-kind j ns ls) at (k .least))) (le-leb (getD ns (node-width * j) 0) 26 (rw (own-kind j ns ls) at (k .most)));
+  means = λ j h e. let (a, b) = kind-means ns j e in record { least = rw (own-kind j ns ls) a; most = rw (own-kind j ns ls) b };
+  holds = λ j h k. kind-known ns j (rw (own-kind j ns ls) at (k .least)) (rw (own-kind j ns ls) at (k .most));
 }
 
 -- items
