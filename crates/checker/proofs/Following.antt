@@ -167,4 +167,5 @@ module _ (e : Edition) {t ns : List ℕ} (ls : List ℕ) {n : ℕ} (q : t ≡ ta
   unfolding row-follows
   follows-means = record {
     means = λ j h k. rw (← covered-means j (omega arith), cut-items e ns ls j q (a .each j h)) (consecutive-means (covered-by t ns ls j) (lists (held-in ns ls j (cut-of t ns j))) k);
-    holds = λ j h k. means-consecutive (covered-by t ns ls j) (lists (held-in ns ls j (cut-of t ns j))) (rw (← covered-means j (omega arith), cut-items e ns ls j q (a .each j h)) at k) }
+    holds = λ j h k. means-consecutive (covered-by t ns ls j) (lists (held-in ns ls j (cut-of t ns j))) (rw (← covered-means j (omega arith), cut-items e ns ls j q (a .each j h)) at k);
+  }

@@ -254,14 +254,17 @@ module _ {t ns ls : List ℕ} {n marks : ℕ} (j : Judgeable t ns ls n marks) wh
 
         -- all rules
         pub judged-passed : (orphan < n → ⊥) → Judged t s w (record { code = 0; rule = 0; row = 0 })
-        judged-passed h = record { says = λ e q. Judges.passed (record {
-          kinds = of-all (λ i l. kinds-mean .means i l (before .kinds i l));
-          ranges = of-all (ranged e q);
-          earlier = of-all (earlier before);
-          once = but-last before (k .named) only-once;
-          rooted = rooted-means ns ls (ap (is-rooted ns) tall ∙ k .rooted);
-          follows = follow e q;
-          covering = cover e q;
-          present = present e q;
-          clean = clean e q;
-          parents = of-all (λ i l. parents-mean .means i l (passes-all (k .orphans) h i l)) }) }
+        judged-passed h = record {
+          says = λ e q. Judges.passed (record {
+            kinds = of-all (λ i l. kinds-mean .means i l (before .kinds i l));
+            ranges = of-all (ranged e q);
+            earlier = of-all (earlier before);
+            once = but-last before (k .named) only-once;
+            rooted = rooted-means ns ls (ap (is-rooted ns) tall ∙ k .rooted);
+            follows = follow e q;
+            covering = cover e q;
+            present = present e q;
+            clean = clean e q;
+            parents = of-all (λ i l. parents-mean .means i l (passes-all (k .orphans) h i l));
+          });
+        }

@@ -1,4 +1,13 @@
+-- `check` meets its contract: the counts, the edition, the rules; and then the scratch room is cleared.
 use borrow.Author.Needs.{needs}
+use native.Mathlib.Omega.{arith}
+use mathlib.Core.Logic.{inl, inr, ⊎-elim}
+use mathlib.Core.Path.{sym}
+use lib.Seq.{length-take-le}
+use Rattle.grammar.specs.Door.{Right-edition}
+use Rattle.foreign.specs.Check.{Lends}
+use Rattle.checker.specs.Verdict.{given, rooms}
+use Rattle.checker.proofs.Answering.{past-nodes, past-links, past-symbols, past-scratch, no-edition, judgeable, judged}
 use Rattle.checker.proofs.check.Statement.{statement}
 use Rattle.checker.proofs.check.Tie as tie
 use Rattle.checker.proofs.check.Reads as reads
@@ -8,122 +17,59 @@ use Rattle.checker.proofs.judge.Reads as judge-reads
 use Rattle.checker.proofs.plain.Reads as plain-reads
 use Rattle.checker.proofs.slots.slots.Reads as slots-reads
 
--- src/lib.rt:192:16
-mul-high : tie.Need-mul-high
-mul-high c = search needs
+abbrev claims : lts.Claims
+claims = (plain-reads.Asked, plain-reads.Learnt, slots-reads.Asked, slots-reads.Learnt, judge-reads.Asked, judge-reads.Learnt, clear-reads.Asked, clear-reads.Learnt)
 
--- src/lib.rt:193:16
-mul-long : tie.Need-mul-long
-mul-long c = search needs
+-- the start; where all counts are lent; and where the edition is named and the table made
+abbrev Start : Type 0
+Start = lts.Start claims reads.Pre reads.Post
 
--- src/lib.rt:195:9
-plain-requires : tie.Need-plain-requires
-plain-requires c κs = search needs
+abbrev All-lent : Type 0
+All-lent = lts.Else4 claims reads.Pre reads.Post
 
--- src/lib.rt:195:9
+abbrev Made : Type 0
+Made = lts.After-slots claims reads.Pre reads.Post
+
+abbrev to-start : All-lent → Start
+to-start c = c .before .before .before .before .before .before .before .before
+
+abbrev to-lent : Made → All-lent
+to-lent c = c .before .before
+
+lent : (c : All-lent) → (let a = to-start c .args in Lends (given (a .edition) (a .n) (a .m) (a .s) (rooms (a .nodes .now) (a .links .now) (a .symbols .now) (a .scratch .now))))
+lent c = record { nodes = omega arith; links = omega arith; symbols = omega arith; scratch = omega arith }
+
+named : (c : Made) → Right-edition (to-start (to-lent c) .args .edition)
+named c = ⊎-elim (λ w. inr (omega arith)) (λ w. inl (omega arith)) (c .before .if5 .came)
+
 returns : tie.Need-returns
-returns c = ?
+returns c = rw (c .plain .ensures) (past-nodes _ _ _ _ _ _ _ _ (c .before .if1 .taken))
 
--- src/lib.rt:198:9
-plain-requires-2 : tie.Need-plain-requires-2
-plain-requires-2 c κs = search needs
-
--- src/lib.rt:198:9
 returns-2 : tie.Need-returns-2
-returns-2 c = ?
+returns-2 c = rw (c .plain2 .ensures) (past-links _ _ _ _ _ _ _ _ (c .before .if2 .taken))
 
--- src/lib.rt:200:24
-mul-if3 : tie.Need-mul-if3
-mul-if3 c = search needs
-
--- src/lib.rt:201:9
-plain-requires-3 : tie.Need-plain-requires-3
-plain-requires-3 c κs = search needs
-
--- src/lib.rt:201:9
 returns-3 : tie.Need-returns-3
-returns-3 c = ?
+returns-3 c = rw (c .plain3 .ensures) (past-symbols _ _ _ _ _ _ _ _ (c .before .if3 .taken))
 
--- src/lib.rt:203:39
-mul-if4 : tie.Need-mul-if4
-mul-if4 c = search needs
-
--- src/lib.rt:203:24
-add-if4 : tie.Need-add-if4
-add-if4 c = search needs
-
--- src/lib.rt:204:9
-plain-requires-4 : tie.Need-plain-requires-4
-plain-requires-4 c κs = search needs
-
--- src/lib.rt:204:9
 returns-4 : tie.Need-returns-4
-returns-4 c = ?
+returns-4 c = rw (c .plain4 .ensures) (past-scratch _ _ _ _ _ _ _ _ (c .before .if4 .taken))
 
--- src/lib.rt:208:13
-plain-requires-5 : tie.Need-plain-requires-5
-plain-requires-5 c κs = search needs
-
--- src/lib.rt:208:13
 returns-5 : tie.Need-returns-5
-returns-5 c = ?
+returns-5 c = rw (c .plain5 .ensures) (no-edition _ _ _ _ _ _ _ _ (lent (c .before .before .before)) (c .before .before .if5 .taken) (c .before .if6 .taken))
 
--- src/lib.rt:211:17
-slots-requires : tie.Need-slots-requires
-slots-requires c κs = search needs
-
--- src/lib.rt:212:19
-slice-aggregate-judge : tie.Need-slice-aggregate-judge
-slice-aggregate-judge c = search needs
-
--- src/lib.rt:212:27
 slice-aggregate-judge-2 : tie.Need-slice-aggregate-judge-2
-slice-aggregate-judge-2 c = ?
+slice-aggregate-judge-2 c = let p = to-lent (c .before .before) in sym (length-take-le _ _ (lent p .nodes))
 
--- src/lib.rt:212:43
 slice-aggregate-judge-3 : tie.Need-slice-aggregate-judge-3
-slice-aggregate-judge-3 c = ?
+slice-aggregate-judge-3 c = let p = to-lent (c .before .before .before) in sym (length-take-le _ _ (lent p .links))
 
--- src/lib.rt:212:9
 judge-requires : tie.Need-judge-requires
-judge-requires c κs = ?
+judge-requires c κs = let p = c .before .before .before .before in judgeable _ _ _ _ _ _ _ _ (lent (to-lent p)) (p .slots .ensures) (omega arith) (omega arith)
 
--- src/lib.rt:213:5
-clear-requires : tie.Need-clear-requires
-clear-requires c κs = search needs
-
--- src/lib.rt:180:1
-same-length : tie.Need-same-length
-same-length c = search needs
-
--- src/lib.rt:180:1
 returns-6 : tie.Need-returns-6
-returns-6 c = ?
+returns-6 c = let p = c .before .before .before .before .before .before .before .before .before .before .before in judged _ _ _ _ _ _ _ _ (lent (to-lent p)) (named p) (p .slots .ensures) (c .before .before .before .before .before .before .judge .ensures) (c .before .before .before .before .before .before .judge .kept .1 .1 .1 .1 .1 .0) (c .before .before .clear .ensures)
 
 pub check-spec : {M : Type 1} → statement M
 check-spec =
     tie.close
-    (tie.spec
-    mul-high
-    mul-long
-    plain-requires
-    returns
-    plain-requires-2
-    returns-2
-    mul-if3
-    plain-requires-3
-    returns-3
-    mul-if4
-    add-if4
-    plain-requires-4
-    returns-4
-    plain-requires-5
-    returns-5
-    slots-requires
-    slice-aggregate-judge
-    slice-aggregate-judge-2
-    slice-aggregate-judge-3
-    judge-requires
-    clear-requires
-    same-length
-    returns-6)
+    (tie.spec (λ c. search needs) (λ c. search needs) (λ c κs. search needs) returns (λ c κs. search needs) returns-2 (λ c. search needs) (λ c κs. search needs) returns-3 (λ c. search needs) (λ c. search needs) (λ c κs. search needs) returns-4 (λ c κs. search needs) returns-5 (λ c κs. search needs) (λ c. search needs) slice-aggregate-judge-2 slice-aggregate-judge-3 judge-requires (λ c κs. search needs) (λ c. search needs) returns-6)
