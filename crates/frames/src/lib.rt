@@ -1,4 +1,6 @@
 // Frames on standard input and output: four bytes of length, the lowest first, and then so many bytes. No contract can say which bytes are read or written.
+pub mod numbers;
+
 use wire::input::four;
 ghost use Rattle.frames.specs.Frame.{Framed, Sent};
 

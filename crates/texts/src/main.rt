@@ -1,5 +1,6 @@
 // Answers a stream of texts, each in a frame, by a stream of frames: what the token maker answers, and what it leaves in the list room.
 use frames::Frame;
+use frames::numbers::put_all;
 use frames::read;
 use frames::write;
 use lexer::lex;
@@ -14,27 +15,6 @@ fn mark(list: &mut [u32])
     let mut i = 0;
     while i < list.len() {
         list[i] = (i + 1) as u32;
-        i += 1;
-    }
-}
-
-// Puts a number as four bytes, the lowest first.
-fn put(n: u32, out: &mut [u8], at: usize)
-    requires { ⌜ at + 4 ≤ length (now out) ⌝ }
-{
-    out[at] = (n % 256) as u8;
-    out[at + 1] = (n / 256 % 256) as u8;
-    out[at + 2] = (n / 65536 % 256) as u8;
-    out[at + 3] = (n / 16777216 % 256) as u8;
-}
-
-// Puts all numbers of a list, from a place on.
-fn put_all(list: &[u32], out: &mut [u8], from: usize)
-    requires { ⌜ from + 4 * length (now list) ≤ length (now out) ⌝ }
-{
-    let mut i = 0;
-    while i < list.len() {
-        put(list[i], out, from + 4 * i);
         i += 1;
     }
 }

@@ -1,9 +1,9 @@
--- `texts::put` is safe and ends: a write keeps the room's length.
+-- `numbers::put` is safe and ends: a write keeps the room's length.
 use native.Mathlib.Omega.{arith}
 use lib.ListN.{length-set}
 use borrow.Author.Needs.{needs}
-use Rattle.texts.proofs.put.Statement.{statement}
-use Rattle.texts.proofs.put.Tie as tie
+use Rattle.frames.proofs.numbers.put.Statement.{statement}
+use Rattle.frames.proofs.numbers.put.Tie as tie
 
 cast-out : tie.Need-cast-out
 cast-out c = search needs

@@ -1,10 +1,10 @@
--- `texts::put_all` is safe and ends: the room keeps its length, and i does not pass the list's.
+-- `numbers::put_all` is safe and ends: the room keeps its length, and i does not pass the list's.
 use borrow.Author.Needs.{needs}
 use Prim.Native.Nat.{_-_, _≤_}
 use mathlib.Core.Path.{_≡_}
 use lib.ListN.{length}
-use Rattle.texts.proofs.put_all.Statement.{statement}
-use Rattle.texts.proofs.put_all.Tie as tie
+use Rattle.frames.proofs.numbers.put_all.Statement.{statement}
+use Rattle.frames.proofs.numbers.put_all.Tie as tie
 
 abbrev Inv-loop : tie.InvT-loop
 Inv-loop list out₀ from i₀ out i = (length out ≡ length out₀) × (i ≤ length list)
