@@ -5,7 +5,7 @@ use mathlib.Core.Bool.{Bool, true, false, cond, _&&_, _||_, not}
 use mathlib.Core.List.{List, [], _∷_, _++_}
 use mathlib.Core.Path.{_≡_, refl, sym, ap, _∙_}
 use lib.Dec.{eqb, ltb, leb}
-use borrow.Author.Tests.{eqb-true, eqb-false, ne-eqb, ltb-true, lt-ltb, le-ltb, le-leb, lt-leb}
+use borrow.Author.Tests.{eqb-true, eqb-false, ltb-true, lt-ltb, le-leb, lt-leb}
 use lib.ListN.{length, getD, drop, replicate}
 use Rattle.grammar.specs.Handle.{absent}
 use Rattle.grammar.specs.Room.{link-width}
@@ -18,6 +18,7 @@ use Rattle.checker.specs.Test.{keep, keep-all, link-keeps, first-code, c
 use Rattle.checker.specs.declared.slots.Slot.{Slot}
 use Rattle.checker.specs.declared.slots.Cut.{Cut}
 use Rattle.checker.proofs.Laws.{and-true, both-true, true-both, or-true, or-false, never, settled-same, settled-none}
+use Rattle.checker.proofs.Items.{none-held, child-held, option-held, symbol-held, list-held, number-held}
 use Rattle.checker.proofs.Keeping.{many, keep-append, any-many, unconcerned}
 
 -- one list, and then another
@@ -30,8 +31,7 @@ module _ {rule i s : ℕ} {ls : List ℕ} {xs : List Item} {b : Bool} {ms : List
 
 -- a list's items: whether it is in range, and its links
 pub list-is : (rule i s : ℕ) (ls : List ℕ) (t : Slot) → 5 ≤ t .code → t .code < 8 → keep-all rule i s (many ls) (held ls t) ≡ (leb (t .x + t .y) (many ls) && keep-all rule i s (many ls) (linked-items (t .code) (t .y) (drop (link-width * t .x) ls)))
-unfolding held
-list-is rule i s ls t h l = rw (ne-eqb (t .code) 0 (λ e. omega arith), ne-eqb (t .code) 1 (λ e. omega arith), ne-eqb (t .code) 2 (λ e. omega arith), le-ltb (t .code) 5 h, lt-ltb (t .code) 8 l) refl
+list-is rule i s ls t h l = ap (keep-all rule i s (many ls)) (list-held ls t h l)
 
 module _ (rule i s : ℕ) (ls : List ℕ) (t : Slot) (ms : List ℕ) where
   abbrev Answers : Bool → Type 0
@@ -39,24 +39,19 @@ module _ (rule i s : ℕ) (ls : List ℕ) (t : Slot) (ms : List ℕ) where
 
   -- a slot that is no list leaves the marks as they are
   pub at-none : t .code ≡ 0 → Marked rule i s ls ms → Answers true
-  unfolding held
-  at-none e g = record { says = rw e refl; marked = λ y. g }
+  at-none e g = record { says = rw (none-held ls t e) refl; marked = λ y. g }
 
   pub at-child : {r : Bool} → t .code ≡ 1 → r ≡ keep rule i s 0 (Item.child (t .x)) → Marked rule i s ls ms → Answers r
-  unfolding held
-  at-child e f g = record { says = f ∙ sym (rw e (and-true _)); marked = λ y. g }
+  at-child e f g = record { says = f ∙ sym (rw (child-held ls t e) (and-true _)); marked = λ y. g }
 
   pub at-option : {r : Bool} → t .code ≡ 2 → r ≡ keep rule i s 0 (Item.option (t .x)) → Marked rule i s ls ms → Answers r
-  unfolding held
-  at-option e f g = record { says = f ∙ sym (rw e (and-true _)); marked = λ y. g }
+  at-option e f g = record { says = f ∙ sym (rw (option-held ls t e) (and-true _)); marked = λ y. g }
 
   pub at-symbol : {r : Bool} → 3 ≤ t .code → t .code < 5 → r ≡ keep rule i s 0 (Item.number s (t .x)) → Marked rule i s ls ms → Answers r
-  unfolding held
-  at-symbol h l f g = record { says = f ∙ sym (rw (ne-eqb (t .code) 0 (λ e. omega arith), ne-eqb (t .code) 1 (λ e. omega arith), ne-eqb (t .code) 2 (λ e. omega arith), lt-ltb (t .code) 5 l) (and-true _)); marked = λ y. g }
+  at-symbol h l f g = record { says = f ∙ sym (rw (symbol-held ls t h l) (and-true _)); marked = λ y. g }
 
   pub at-number : {r : Bool} → 8 ≤ t .code → r ≡ keep rule i s 0 (Item.number (t .code - 8) (t .x)) → Marked rule i s ls ms → Answers r
-  unfolding held
-  at-number h f g = record { says = f ∙ sym (rw (ne-eqb (t .code) 0 (λ e. omega arith), ne-eqb (t .code) 1 (λ e. omega arith), ne-eqb (t .code) 2 (λ e. omega arith), le-ltb (t .code) 5 (omega arith), le-ltb (t .code) 8 h) (and-true _)); marked = λ y. g }
+  at-number h f g = record { says = f ∙ sym (rw (number-held ls t h) (and-true _)); marked = λ y. g }
 
   -- a list
   module _ (h : 5 ≤ t .code) (l : t .code < 8) where

@@ -1,11 +1,11 @@
--- A row cut by the table is the row's items: the table has the slots of each kind, and no kind takes more than six numbers. And what items name, and which lists they hold.
+-- A row's items are those of its slots, as the table cuts it. And what items name, and which lists they hold.
 use Prim.Native.Nat.{ℕ, zero, suc, _+_, _-_, _*_, _≤_, _<_}
 use native.Mathlib.Omega.{arith}
-use mathlib.Core.Bool.{Bool, _&&_}
+use mathlib.Core.Bool.{cond}
 use mathlib.Core.List.{List, [], _∷_, _++_, map}
 use mathlib.Core.Path.{_≡_, refl, sym, ap, _∙_}
-use lib.Dec.{T, leb, leb→le}
-use borrow.Author.Tests.{ne-eqb, le-ltb}
+use lib.Dec.{ltb}
+use borrow.Author.Tests.{ne-eqb, lt-ltb, le-ltb}
 use lib.ListN.{length, getD, take, drop, replicate, length-drop, length-take, length-replicate}
 use lib.Seq.{getD-drop, getD-take, drop-drop, drop-at, take-take}
 use Rattle.grammar.specs.Edition.{Edition}
@@ -14,113 +14,13 @@ use Rattle.grammar.specs.Naming.{linked-nodes, linked-entries, naming, named-by
 use Rattle.grammar.specs.Parent.{own}
 use Rattle.grammar.specs.Room.{node-width, own-width, link-width}
 use Rattle.grammar.specs.Rows.{Rows}
-use Rattle.grammar.specs.Symbol.{same}
 use Rattle.grammar.proofs.Parents.{named-own}
 use Rattle.grammar.proofs.Pieces.{first-on, named-alike}
-use Rattle.grammar.proofs.Tests.{passes, within, both, same-means}
 use Rattle.foreign.specs.Check.{Item, node-items, name-items, entry-items, items, kind-of, items-of, lists}
 use Rattle.checker.specs.Named.{names-in}
-use Rattle.checker.specs.Slots.{rows, code, width, line, table, slot-at, cell, cut-of, linked-items, held, spared, held-in, Standing}
+use Rattle.checker.specs.Slots.{rows, code, width, line, table, slot-at, cut-of, linked-items, held, spared, held-in, Standing}
 use Rattle.checker.specs.declared.slots.Slot.{Slot}
-use Rattle.checker.specs.declared.slots.Cut.{Cut}
-
--- the table has the line of each kind: three slots at most, each of whose first two numbers stand in the row, and no more than its own numbers
-right : Edition → ℕ → Bool
-right e k = leb (length (layout e k)) 3 && (leb (getD (line (layout e k)) 2 0) 8 && (leb (getD (line (layout e k)) 4 0) 8 && (leb (getD (line (layout e k)) 5 0) own-width && same (take 6 (drop (6 * (k - 1)) (table e))) (line (layout e k)))))
-
-all-right : (e : Edition) → T (passes (right e) 1 26)
-unfolding right layout table same
-all-right Edition.first = tt
-all-right Edition.second = tt
-
-record Tabled (e : Edition) (k : ℕ) : Type 0 where
-  few : length (layout e k) ≤ 3
-  second : getD (line (layout e k)) 2 0 ≤ 8
-  third : getD (line (layout e k)) 4 0 ≤ 8
-  rest : getD (line (layout e k)) 5 0 ≤ own-width
-  says : take 6 (drop (6 * (k - 1)) (table e)) ≡ line (layout e k)
-
-tabled : (e : Edition) (k : ℕ) → 1 ≤ k → k ≤ 26 → Tabled e k
-unfolding right
-tabled e k h l =
-    let (a, r₁) = both (leb (length (layout e k)) 3) _ (within (right e) 1 26 k (all-right e) h (omega arith)) in
-    let (b, r₂) = both (leb (getD (line (layout e k)) 2 0) 8) _ r₁ in
-    let (c, r₃) = both (leb (getD (line (layout e k)) 4 0) 8) _ r₂ in
-    let (d, f) = both (leb (getD (line (layout e k)) 5 0) own-width) _ r₃ in
-    record { few = leb→le _ 3 a; second = leb→le _ 8 b; third = leb→le _ 8 c; rest = leb→le _ own-width d; says = same-means _ _ f }
-
--- so a row is cut as the layout of its kind says
-abbrev cut-by : (nodes : List ℕ) (row : ℕ) (cells : List ℕ) → Cut
-cut-by ns row l = record {
-  first = slot-at ns (getD l 0 0) (node-width * row + 3);
-  second = slot-at ns (getD l 1 0) (node-width * row + getD l 2 0);
-  third = slot-at ns (getD l 3 0) (node-width * row + getD l 4 0);
-  rest = node-width * row + getD l 5 0;
-}
-
-module _ (e : Edition) {t ns : List ℕ} {row : ℕ} (same-table : t ≡ table e) (s : Standing t ns row) where
-  abbrev kind : ℕ
-  kind = getD ns (node-width * row) 0
-
-  stood : Tabled e kind
-  stood = tabled e kind (s .least) (s .most)
-
-  cells : (j : ℕ) → j < 6 → cell t ns row j ≡ getD (line (layout e kind)) j 0
-  cells j h = ap (λ (l : List ℕ). getD l (6 * (kind - 1) + j) 0) same-table ∙ sym (getD-drop (6 * (kind - 1)) (table e) j 0) ∙ sym (getD-take 6 (drop (6 * (kind - 1)) (table e)) j 0 h) ∙ ap (λ (l : List ℕ). getD l j 0) (stood .says)
-
-  cut-is : cut-of t ns row ≡ cut-by ns row (line (layout e kind))
-  unfolding cut-of
-  cut-is = rw (cells 0 (omega arith), cells 1 (omega arith), cells 2 (omega arith), cells 3 (omega arith), cells 4 (omega arith), cells 5 (omega arith)) refl
-
--- the table's size, and where the slots of a row that stands are
-pub record Placed (t ns : List ℕ) (row : ℕ) : Type 0 where
-  pub size : length t ≡ 156
-  pub second : cell t ns row 2 ≤ 8
-  pub third : cell t ns row 4 ≤ 8
-  pub rest : cell t ns row 5 ≤ own-width
-
-table-size : (e : Edition) → length (table e) ≡ 156
-unfolding table
-table-size Edition.first = refl
-table-size Edition.second = refl
-
-pub placed : {t ns : List ℕ} {row : ℕ} → Standing t ns row → Placed t ns row
-placed s =
-    let e = s .edition in
-    let b = stood e (s .same) s in
-    record {
-      size = ap length (s .same) ∙ table-size e;
-      second = rw (cells e (s .same) s 2 (omega arith)) (b .second);
-      third = rw (cells e (s .same) s 4 (omega arith)) (b .third);
-      rest = rw (cells e (s .same) s 5 (omega arith)) (b .rest);
-    }
-
--- so what `cut_row` reads is there, and is the cut
-module _ {t ns : List ℕ} {row : ℕ} (s : Standing t ns row) where
-  pub in-table : (j : ℕ) → j < 6 → 6 * (getD ns (node-width * row) 0 - 1) + j < length t
-  in-table j h = omega (arith, s .least, s .most, placed s .size)
-
-  pub at-table : 6 * (getD ns (node-width * row) 0 - 1) < length t
-  at-table = omega (arith, in-table 0 (omega arith))
-
-  pub at-second : {p : ℕ} → p ≡ cell t ns row 2 → node-width * row + p + 1 < length ns
-  at-second e = omega (arith, s .room, placed s .second)
-
-  pub at-third : {p : ℕ} → p ≡ cell t ns row 4 → node-width * row + p + 1 < length ns
-  at-third e = omega (arith, s .room, placed s .third)
-
-  pub at-rest : {p : ℕ} → p ≡ cell t ns row 5 → node-width * row + p < length ns
-  at-rest e = omega (arith, s .room, placed s .rest)
-
-  pub rest-inside : {c : Cut} → c ≡ cut-of t ns row → c .rest ≤ node-width * row + own-width
-  unfolding cut-of
-  rest-inside e = omega (arith, ap (λ (d : Cut). d .rest) e, placed s .rest)
-
-pub cut-made : (t ns : List ℕ) (row : ℕ) {a b c : Slot} {k l m p q r : ℕ} → k ≡ getD t (6 * (getD ns (node-width * row) 0 - 1)) 0 → a ≡ slot-at ns k (node-width * row + 3) →
-    l ≡ cell t ns row 1 → p ≡ cell t ns row 2 → b ≡ slot-at ns l (node-width * row + p) → m ≡ cell t ns row 3 → q ≡ cell t ns row 4 → c ≡ slot-at ns m (node-width * row + q) → r ≡ cell t ns row 5 →
-    record { first = a; second = b; third = c; rest = node-width * row + r } ≡ cut-of t ns row
-unfolding cut-of
-cut-made t ns row e₁ e₂ e₃ e₄ e₅ e₆ e₇ e₈ e₉ = let z : 6 * (getD ns (node-width * row) 0 - 1) + 0 ≡ 6 * (getD ns (node-width * row) 0 - 1) = omega arith in rw z (cc)
+use Rattle.checker.proofs.Cutting.{cut-by, stood, cut-is}
 
 -- a row's own numbers
 pub own-number : (row : ℕ) (ns ls : List ℕ) (k : ℕ) → k < own-width → getD (own (rows ns ls) row) k 0 ≡ getD ns (node-width * row + k) 0
@@ -140,6 +40,34 @@ sees-on {ns} {xs} {base} {p} n h s = record {
   at = λ k l. let f : p + (n + k) ≡ p + n + k = omega arith in getD-drop n xs k 0 ∙ s .at (n + k) (omega arith) ∙ ap (λ (i : ℕ). getD ns (base + i) 0) f;
 }
 
+-- what a slot holds, by its code
+module _ (ls : List ℕ) (s : Slot) where
+  pub none-held : s .code ≡ 0 → held ls s ≡ []
+  unfolding held
+  none-held e = rw e refl
+
+  pub child-held : s .code ≡ 1 → held ls s ≡ Item.child (s .x) ∷ []
+  unfolding held
+  child-held e = rw e refl
+
+  pub option-held : s .code ≡ 2 → held ls s ≡ Item.option (s .x) ∷ []
+  unfolding held
+  option-held e = rw e refl
+
+  pub symbol-held : 3 ≤ s .code → s .code < 5 → held ls s ≡ Item.symbol (s .x) ∷ []
+  unfolding held
+  symbol-held h l = rw (ne-eqb (s .code) 0 (λ e. omega arith), ne-eqb (s .code) 1 (λ e. omega arith), ne-eqb (s .code) 2 (λ e. omega arith), lt-ltb (s .code) 5 l) refl
+
+  past-symbol : 5 ≤ s .code → held ls s ≡ cond (ltb (s .code) 8) (Item.list (s .x) (s .y) ∷ linked-items (s .code) (s .y) (drop (link-width * s .x) ls)) (Item.number (s .code - 8) (s .x) ∷ [])
+  unfolding held
+  past-symbol h = rw (ne-eqb (s .code) 0 (λ e. omega arith), ne-eqb (s .code) 1 (λ e. omega arith), ne-eqb (s .code) 2 (λ e. omega arith), le-ltb (s .code) 5 h) refl
+
+  pub list-held : 5 ≤ s .code → s .code < 8 → held ls s ≡ Item.list (s .x) (s .y) ∷ linked-items (s .code) (s .y) (drop (link-width * s .x) ls)
+  list-held h l = past-symbol h ∙ rw (lt-ltb (s .code) 8 l) refl
+
+  pub number-held : 8 ≤ s .code → held ls s ≡ Item.number (s .code - 8) (s .x) ∷ []
+  number-held h = past-symbol (omega arith) ∙ rw (le-ltb (s .code) 8 h) refl
+
 -- links by code
 nodes-linked : (n : ℕ) (ls : List ℕ) → linked-items 5 n ls ≡ node-items n ls
 unfolding linked-items node-items
@@ -156,10 +84,6 @@ unfolding linked-items entry-items
 entries-linked zero ls = refl
 entries-linked (suc n) ls = rw (entries-linked n (drop link-width ls)) refl
 
-number-held : (n : ℕ) (ls : List ℕ) (x y : ℕ) → held ls (record { code = 8 + n; x = x; y = y }) ≡ Item.number n x ∷ []
-unfolding held
-number-held n ls x y = let e : 8 + n - 8 ≡ n = omega arith in rw (ne-eqb (8 + n) 0 (λ e. omega arith), ne-eqb (8 + n) 1 (λ e. omega arith), ne-eqb (8 + n) 2 (λ e. omega arith), le-ltb (8 + n) 5 (omega arith), le-ltb (8 + n) 8 (omega arith), e) refl
-
 seen : {ns xs : List ℕ} {base p : ℕ} → Sees ns base p xs → p < own-width → getD xs 0 0 ≡ getD ns (base + p) 0
 seen {ns} {xs} {base} {p} s h = let e : p + 0 ≡ p = omega arith in s .at 0 (omega arith) ∙ ap (λ (i : ℕ). getD ns (base + i) 0) e
 
@@ -170,7 +94,7 @@ module _ (ls ns : List ℕ) (base : ℕ) where
   -- the items of a slot, and then those of the others. Only a list has a second number
   one-slot : {xs : List ℕ} {p : ℕ} (s : Form) (ss : List Form) → Sees ns base p xs → p + width s ≤ own-width → items ls (s ∷ ss) xs ≡ held ls (slot-at ns (code s) (base + p)) ++ items ls ss (drop (width s) xs)
   unfolding items held
-  one-slot {p = p} (below n) ss e h = rw (number-held n ls (getD ns (base + p) 0) (getD ns (base + p + 1) 0), seen e (omega arith)) refl
+  one-slot {p = p} (below n) ss e h = let z : 8 + n - 8 ≡ n = omega arith in rw (number-held ls (slot-at ns (8 + n) (base + p)) (omega arith), z, seen e (omega arith)) refl
   one-slot child ss e h = rw (seen e (omega arith)) refl
   one-slot option ss e h = rw (seen e (omega arith)) refl
   one-slot symbol ss e h = rw (seen e (omega arith)) refl

@@ -1,4 +1,4 @@
--- A row's items against a rule, one after another, as the functions of keep.rt look at them: numbers that are left over, links with their marks, slots.
+-- Items against a rule, one after another, as the loops of keep.rt look at them: numbers that are left over, and links with their marks.
 use Prim.Native.Nat.{ℕ, zero, suc, _+_, _-_, _*_, _/_, _≤_, _<_}
 use native.Mathlib.Decide.{decLt, ℕ-discrete}
 use native.Mathlib.Omega.{arith}

@@ -7,7 +7,7 @@ use native.Mathlib.Omega.{arith}
 use lib.ListN.{length}
 use Rattle.checker.specs.Test.{Marked, row-keeps}
 use Rattle.checker.proofs.Laws.{Held, held-none, held-more, found, none-found}
-use Rattle.checker.proofs.Items.{rest-inside}
+use Rattle.checker.proofs.Cutting.{rest-inside}
 use Rattle.checker.proofs.Holding.{answers, marked-later, marked-none}
 use Rattle.checker.proofs.keep.first.Statement.{statement}
 use Rattle.checker.proofs.keep.first.Tie as tie

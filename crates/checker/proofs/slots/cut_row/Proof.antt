@@ -1,7 +1,7 @@
 -- `cut_row` meets its contract: what the table has for a row's kind stands in the table, and the places that it names stand in the row.
 use borrow.Author.Needs.{needs}
 use native.Mathlib.Omega.{arith}
-use Rattle.checker.proofs.Items.{at-table, in-table, at-second, at-third, at-rest, cut-made}
+use Rattle.checker.proofs.Cutting.{at-table, in-table, at-second, at-third, at-rest, cut-made}
 use Rattle.checker.proofs.slots.cut_row.Statement.{statement}
 use Rattle.checker.proofs.slots.cut_row.Tie as tie
 use Rattle.checker.proofs.slots.cut_row.Reads as reads
