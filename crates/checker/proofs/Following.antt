@@ -5,17 +5,17 @@ use mathlib.Core.Bool.{Bool, true, false, cond, _&&_}
 use mathlib.Core.List.{List, [], _∷_, _++_, append-nil}
 use mathlib.Core.Path.{_≡_, refl, sym, ap, _∙_}
 use lib.Dec.{eqb, ltb}
-use borrow.Author.Tests.{eqb-true, ne-eqb, eq-eqb, lt-ltb, le-ltb}
+use borrow.Author.Tests.{eqb-true, ne-eqb, eq-eqb, lt-ltb}
 use lib.ListN.{getD, drop}
 use Rattle.grammar.specs.Room.{node-width, own-width, link-width}
 use Rattle.grammar.specs.Edition.{Edition}
 use Rattle.foreign.specs.Check.{Item, lists, counted, Consecutive, covered, Follows}
-use Rattle.checker.specs.Follow.{consecutive, followed, Goes-on, in-slots, covered-by, row-follows, Follows-all}
+use Rattle.checker.specs.Follow.{consecutive, Goes-on, in-slots, covered-by, row-follows, Follows-all}
 use Rattle.checker.specs.Slots.{rows, table, cut-of, link-items, linked-items, held, spared, held-in}
 use Rattle.checker.specs.Test.{All-standing}
 use Rattle.checker.specs.declared.slots.Cut.{Cut}
 use Rattle.checker.specs.declared.slots.Slot.{Slot}
-use Rattle.checker.proofs.Items.{cut-items, lists-append, lists-spared}
+use Rattle.checker.proofs.Items.{cut-items, list-held, number-held, lists-append, lists-spared}
 use Rattle.checker.proofs.Laws.{and-assoc, both-true, true-both, Held, held-none, held-more, found, none-found}
 use Rattle.checker.proofs.Passes.{Tests}
 
@@ -43,12 +43,10 @@ module _ (ls : List ℕ) (s : Slot) where
       pick false false false = rw (lt-ltb (s .code) 5 h) refl
 
   high-listless : 7 < s .code → lists (held ls s) ≡ []
-  unfolding held
-  high-listless h = rw (ne-eqb (s .code) 0 (λ e. omega arith), ne-eqb (s .code) 1 (λ e. omega arith), ne-eqb (s .code) 2 (λ e. omega arith), le-ltb (s .code) 5 (omega arith), le-ltb (s .code) 8 (omega arith)) refl
+  high-listless h = ap lists (number-held ls s (omega arith))
 
   one-list : 5 ≤ s .code → s .code < 8 → lists (held ls s) ≡ (s .x, s .y) ∷ []
-  unfolding held
-  one-list h l = rw (ne-eqb (s .code) 0 (λ e. omega arith), ne-eqb (s .code) 1 (λ e. omega arith), ne-eqb (s .code) 2 (λ e. omega arith), le-ltb (s .code) 5 h, lt-ltb (s .code) 8 l, links-listless (s .code) (s .y) (drop (link-width * s .x) ls)) refl
+  one-list h l = ap lists (list-held ls s h l) ∙ rw (links-listless (s .code) (s .y) (drop (link-width * s .x) ls)) refl
 
 -- after a slot
 module _ (s : Slot) (from : ℕ) (few : from ≤ 8589934590) where
