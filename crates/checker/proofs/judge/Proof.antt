@@ -1,10 +1,6 @@
 -- `judge` meets its contract: rules 1 to 3, each by a pass, and then the others.
 use borrow.Author.Needs.{needs}
 use native.Mathlib.Omega.{arith}
-use mathlib.Core.Bool.{true}
-use mathlib.Core.Path.{_≡_}
-use Prim.Native.Nat.{ℕ, _<_}
-use Rattle.checker.specs.Test.{known-kind}
 use Rattle.checker.proofs.Judging.{judgeable-in, passes-all, all-standing, judged-kinds, judged-ranges, judged-earlier}
 use Rattle.checker.proofs.judge.Statement.{statement}
 use Rattle.checker.proofs.judge.Tie as tie

@@ -1,7 +1,6 @@
 -- `judge_items` meets its contract: two passes, and what was found of the parents.
 use borrow.Author.Needs.{needs}
 use native.Mathlib.Omega.{arith}
-use Rattle.checker.specs.Verdict.{Judgeable, Tree-kept}
 use Rattle.checker.proofs.Judging.{passes-all, all-standing, judged-present, judged-clean, judged-parents, judged-passed}
 use Rattle.checker.proofs.judge_items.Statement.{statement}
 use Rattle.checker.proofs.judge_items.Tie as tie

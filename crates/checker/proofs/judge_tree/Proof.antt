@@ -2,11 +2,8 @@
 use borrow.Author.Needs.{needs}
 use borrow.Author.Tests.{not-true, not-false}
 use native.Mathlib.Omega.{arith}
-use mathlib.Core.Bool.{true}
 use mathlib.Core.Path.{_≡_, refl, sym, _∙_}
-use Prim.Native.Nat.{ℕ, _-_, _<_}
-use Rattle.checker.specs.Named.{is-once}
-use Rattle.checker.specs.Verdict.{Judgeable, Earlier-kept}
+use Prim.Native.Nat.{_-_}
 use Rattle.checker.proofs.Judging.{judgeable-in, passes-all, all-standing, nameable, judged-once, judged-rooted, judged-follows, judged-left-over, tree-kept}
 use Rattle.checker.proofs.judge_tree.Statement.{statement}
 use Rattle.checker.proofs.judge_tree.Tie as tie

@@ -1,8 +1,5 @@
 -- `after_row` meets its contract: one slot after another.
 use borrow.Author.Needs.{needs}
-use mathlib.Core.List.{_++_}
-use native.Mathlib.Omega.{arith}
-use Rattle.checker.specs.Slots.{held}
 use Rattle.checker.proofs.Following.{goes-nowhere, goes-further}
 use Rattle.checker.proofs.follow.after_row.Statement.{statement}
 use Rattle.checker.proofs.follow.after_row.Tie as tie

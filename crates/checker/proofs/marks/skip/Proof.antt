@@ -1,8 +1,7 @@
 -- `skip` meets its contract: a jump after another, until one stays or the last link is passed.
-use Prim.Native.Nat.{_-_, _≤_}
+use Prim.Native.Nat.{_-_}
 use borrow.Author.Needs.{needs}
 use mathlib.Core.Path.{_≡_}
-use native.Mathlib.Omega.{arith}
 use lib.ListN.{length}
 use Rattle.checker.specs.Marks.{Skips}
 use Rattle.checker.proofs.Skipping.{stopped, skips-on}
