@@ -14,12 +14,14 @@ use Rattle.diagnostics.proofs.Messages.{one-message as one-text}
 use Rattle.diagnostics.proofs.Reasons.{one-reason as one-whole}
 use Rattle.diagnostics.proofs.Places.{one-place as one-line}
 use Rattle.expected.proofs.Once.{one-told}
+use Rattle.foreign.specs.Check.{Given}
+use Rattle.foreign.proofs.Checking.{one-check as one-verdict}
 use Rattle.grammar.specs.Builtin.{Builtins}
 use Rattle.grammar.specs.Profile.{Profile}
 use Rattle.grammar.specs.Room.{Rooms}
 use Rattle.naming.proofs.Telling.{one-place as one-name-place}
 use Rattle.reader.proofs.Texts.{one-read as one-answer}
-use Rattle.station.specs.Exports.{listed, placed, name-placed, told, put, Parses, Reads-text, Places, Writes, Writes-reason, Names-place, Tells-expected, Has-child, Has-places}
+use Rattle.station.specs.Exports.{listed, placed, name-placed, told, put, Parses, Reads-text, Places, Writes, Writes-reason, Names-place, Tells-expected, Has-child, Has-places, Checks-rows}
 use Rattle.syntax.proofs.Promises.{one-parse as one-tree}
 
 pub one-parse : {p : Profile} {names : Builtins} {text ts : List ℕ} {edition limit : ℕ} {before after after′ : Rooms} {room out out′ : List ℕ} {r r′ : ℕ} → Parses p names text ts edition limit before room after out r → Parses p names text ts edition limit before room after′ out′ r′ → (r ≡ r′) × (out ≡ out′) × (after ≡ after′)
@@ -90,3 +92,10 @@ one-places {r′ = r′} (Has-places.places {b = b} h p) (Has-places.places i q)
 pub past-places : {nodes links : List ℕ} {row place n r : ℕ} → Has-places nodes row n → n ≤ place → Has-child nodes links row place r → r ≡ absent
 past-places {links = links} {place = place} {r = r} (Has-places.places {b = b} h p) l (Has-child.child i q) =
     subst (λ b. Child links b place r) (one-below i h) q .one ∙ List·getD-eq-default (children links b) absent {n = place} (omega (arith, places-length links b, p .0))
+
+-- rows that another build wrote
+pub one-check : {g : Given} {room out out′ : List ℕ} {after after′ : Rooms} {r r′ : ℕ} → Checks-rows g room after out r → Checks-rows g room after′ out′ r′ → (r ≡ r′) × (out ≡ out′) × (after ≡ after′)
+one-check (Checks-rows.short h) (Checks-rows.short i) = (refl, refl, refl)
+one-check (Checks-rows.short h) (Checks-rows.checked i q) = absurd (omega arith)
+one-check (Checks-rows.checked h p) (Checks-rows.short i) = absurd (omega arith)
+one-check {room = room} (Checks-rows.checked h p) (Checks-rows.checked i q) = let (c, x, y, e) = one-verdict p q in (c, rw (c, x, y) refl, e)

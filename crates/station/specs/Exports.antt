@@ -1,4 +1,4 @@
--- What the exported functions answer: what `parse_as`, `read_as`, `message`, `reason`, `expected`, the two `place` and, of what stands below a row, `child` and `places` answer. C gets an answer of more than one number at the start of a lent room, the
+-- What the exported functions answer: what `parse_as`, `read_as`, `message`, `reason`, `expected`, the two `place`, `check` and, of what stands below a row, `child` and `places` answer. C gets an answer of more than one number at the start of a lent room, the
 -- numbers in document 01's order, and its code once more as the value of the call. Where that room is too short the code is 13, and nothing else is done. Of what could have stood at a token the
 -- value of the call is the set of kinds, which stands in no room and is answered in any.
 use Prim.Native.Nat.{ℕ, _≤_, _<_}
@@ -14,6 +14,7 @@ use Rattle.diagnostics.specs.declared.Place.{Place}
 use Rattle.expected.specs.Tells.{Tells}
 use Rattle.expected.specs.declared.Opening.{Opening}
 use Rattle.expected.specs.declared.Told.{Told}
+use Rattle.foreign.specs.Check.{Given, Checks}
 use Rattle.grammar.specs.Builtin.{Builtins}
 use Rattle.grammar.specs.Profile.{Profile}
 use Rattle.grammar.specs.Room.{Rooms}
@@ -82,3 +83,8 @@ pub data Has-child (nodes links : List ℕ) (row place r : ℕ) : Type 0 where
 
 pub data Has-places (nodes : List ℕ) (row r : ℕ) : Type 0 where
   places : {b : Children} → Below nodes row b → Places-below b r → Has-places nodes row r
+
+-- of rows that another build wrote: the rooms and the room for the answer, and the code
+pub data Checks-rows (g : Given) (room : List ℕ) : Rooms → List ℕ → ℕ → Type 0 where
+  short : length room < 3 → Checks-rows g room (g .rooms) room 13
+  checked : {code rule row : ℕ} {after : Rooms} → 3 ≤ length room → Checks g code rule row after → Checks-rows g room after (put (code ∷ rule ∷ row ∷ []) room) code

@@ -1,6 +1,7 @@
 // What a station links: `parse_with`, `read_with` and the same of guards, those of scripts of edition 1 beside no names too, the message of a refusal and the text of any, what could have stood there, the
-// line of a place, the place of a name and what stands below a row, for C and Rust to call, over numbers and slices alone. None has a `requires`. A slice is a pointer and a
-// length to C, in this order.
+// line of a place, the place of a name, what stands below a row and whether rows that another build wrote keep the rules, for C and Rust to call, over numbers and slices alone.
+// None has a `requires`. A slice is a pointer and a length to C, in this order.
+use checker::check;
 use children::below;
 use children::child;
 use children::places;
@@ -21,7 +22,8 @@ ghost use lib.ListN.{length};
 ghost use Rattle.grammar.specs.Builtin.{builtins as names-in, none};
 ghost use Rattle.grammar.specs.Profile.{script as a-script, guard as a-guard};
 ghost use Rattle.ast.specs.Written.{Written};
-ghost use Rattle.station.specs.Exports.{listed, put, pairs, told, Parses, Reads-text, Places, Writes, Writes-reason, Names-place, Tells-expected, Has-child, Has-places};
+ghost use Rattle.checker.specs.Verdict.{given};
+ghost use Rattle.station.specs.Exports.{listed, put, pairs, told, Parses, Reads-text, Places, Writes, Writes-reason, Names-place, Tells-expected, Has-child, Has-places, Checks-rows};
 ghost use Rattle.syntax.specs.Parsed.{rooms};
 ghost use Rattle.token.specs.Profiled.{profiled};
 
@@ -468,4 +470,33 @@ pub extern "C" fn kaori_expected(
     }
     put_told(t, told);
     t.kinds
+}
+
+// The numbers of a verdict.
+const VERDICT: usize = 3;
+
+// Whether rows that another build wrote keep the rules, in an edition: `checker::check`.
+// Ruled out: the rule and the row in each other's place; the count of links in the place of the symbols'; marks that are made where the answer has no room.
+#[no_mangle]
+pub extern "C" fn kaori_check(
+    nodes: &[u32],
+    links: &[u32],
+    symbols: &[u32],
+    n: u32,
+    m: u32,
+    s: u32,
+    edition: u32,
+    scratch: &mut [u32],
+    answer: &mut [u32],
+) -> u32
+    ensures { λ r. ⌜ Checks-rows (given edition n m s (rooms (now (nodes .entry)) (now (links .entry)) (now (symbols .entry)) (now (scratch .entry)))) (now (answer .entry)) (rooms (now (nodes .entry)) (now (links .entry)) (now (symbols .entry)) (now (scratch .exit))) (now (answer .exit)) r ⌝ }
+{
+    if answer.len() < VERDICT {
+        return 13;
+    }
+    let v = check(nodes, links, symbols, n, m, s, edition, scratch);
+    answer[0] = v.code;
+    answer[1] = v.rule;
+    answer[2] = v.row;
+    v.code
 }
