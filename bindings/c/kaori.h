@@ -37,12 +37,13 @@ enum { KAORI_TOKENS_MAX = 4096, KAORI_TEXT_MAX = 65536, KAORI_LIMIT_MAX = 64, KA
    may follow a `)` that closes an expression. */
 enum { KAORI_FIRST_EDITION = 1, KAORI_SECOND_EDITION = 2 };
 
-/* The least room for an answer of the six functions that read, for one of kaori_place, for one of kaori_name, for a text of
-   kaori_message or kaori_reason, and for what kaori_expected tells. */
+/* The least room for an answer of the six functions that read, for one of kaori_place, for one of kaori_name, for one of
+   kaori_check, for a text of kaori_message or kaori_reason, and for what kaori_expected tells. */
 enum {
     KAORI_ANSWER_ROOM = 8,
     KAORI_PLACE_ROOM = 3,
     KAORI_NAME_ROOM = 3,
+    KAORI_CHECK_ROOM = 3,
     KAORI_MESSAGE_ROOM = 52,
     KAORI_TOLD_ROOM = 131
 };
@@ -62,9 +63,10 @@ enum {
     KAORI_EXPECTED
 };
 
-/* And in an answer of kaori_place and of kaori_name, after its code. */
+/* And in an answer of kaori_place, of kaori_name and of kaori_check, after its code. */
 enum { KAORI_LINE = 1, KAORI_COLUMN };
 enum { KAORI_NAME_START = 1, KAORI_NAME_END };
+enum { KAORI_RULE = 1, KAORI_ROW };
 
 /* And in what kaori_expected tells: how many kinds could have stood there, the lowest of them (KAORI_NO_KIND where there is
    none), how many constructs are open, and from KAORI_TOLD_CHAIN on two numbers for each of these, the outermost first: its
@@ -96,11 +98,26 @@ enum {
     KAORI_SMALL_ANSWER = 13,   /* too little room for the answer: nothing was done */
     KAORI_PAST_TEXT = 14,      /* of kaori_place: the offset is past the text */
     KAORI_NO_NAME = 15,        /* of kaori_name: the symbol is not below the count, or its row does not fit its text */
+    KAORI_NOT_LENT = 15,       /* of kaori_check: a count of rows passes what was lent */
     KAORI_NO_TOKEN = 16,       /* of kaori_read: no token starts at a byte */
     KAORI_OUTSIDE = 17,        /* of a guard: a token that no guard has, `{`, `if`, `|` or `#`. After 7, before reading */
     KAORI_BAD_NAMES = 18,      /* the built-in names: their text is over 65,536 bytes, they are over 64, a span is wrong, one
                                   is no identifier, or two are the same. After a 4 for scratch, before any other 4 */
-    KAORI_BAD_EDITION = 21     /* the edition is neither 1 nor 2. After 3, before any 4 */
+    KAORI_BAD_EDITION = 21,    /* the edition is neither 1 nor 2. After 3, before any 4; of kaori_check after 15 */
+    KAORI_BAD_ROWS = 22        /* of kaori_check: the rows break a rule */
+};
+
+/* The rules that kaori_check holds rows to, in their order. */
+enum {
+    KAORI_RULE_KINDS = 1, /* each kind is one of 1 to 26 */
+    KAORI_RULE_RANGES,    /* operators, Booleans and symbols are below their number, and lists within the link rows */
+    KAORI_RULE_EARLIER,   /* a row that is named, as a child or in a list, is an earlier one, or absent */
+    KAORI_RULE_ONCE,      /* every row but the last is named once */
+    KAORI_RULE_ROOT,      /* the last row is a block with no tail */
+    KAORI_RULE_LISTS,     /* in the order of the rows each list starts where the last one ends, and they have all links */
+    KAORI_RULE_ABSENT,    /* absent is at most a tail, an `else`, a map entry's value, in edition 2 a `return`'s child */
+    KAORI_RULE_UNUSED,    /* unused numbers are 0, of link rows too */
+    KAORI_RULE_PARENTS    /* the parent is the row that names this one, and the last row's is absent */
 };
 
 /* `expected` where no certain kind was required. */
@@ -360,6 +377,25 @@ uint32_t kaori_child(const uint32_t *nodes, size_t nodes_len, const uint32_t *li
    Answers: the number of places: 3 also for a row that has no child or is not in the room.
    Leaves: nothing is written. */
 size_t kaori_children(const uint32_t *nodes, size_t nodes_len, uint32_t row);
+
+/* Whether rows that another build wrote hold a tree, in the edition that is named: the nine rules above.
+   Takes: the node, link and symbol rooms, and how many rows of each are in use; the edition, which matters for `return`
+   alone; scratch, whatever it holds, with a number for each node row and two for each link row; and a room of 3 numbers or
+   more for the answer.
+   Answers: the code: 0, 13, 15, 21 or 22; 13, 15 and 21 come first, in this order. After 0 all rules hold: from the last
+   row, child by child, each row is met once, and from each row, parent by parent, the last. What the functions that read a
+   script leave after 0 passes, in its edition. A guard's rows do not: their last row is no block.
+   What has no rule: spans, and the numbers of symbol rows, so hold them to a text before it is read there, as kaori_name
+   does; and which kinds stand below which, so a function's block may be of any kind.
+   Leaves: in the answer's room code, rule and row, and the rest as it was. After 22 the rule is the first that does not
+   hold, and the row the first that breaks it, itself or in its links: of rule 4 the first that is not named once, of rule
+   5 the last, or 0 where there are no rows, of rule 6 the last where links are left over. After any other code both are 0.
+   After 0 and 22 scratch is all zeros, to its end; after 15 and 21 it is as it was; after 13 everything is as it was.
+   Nothing else is written. */
+uint32_t kaori_check(const uint32_t *nodes, size_t nodes_len, const uint32_t *links, size_t links_len,
+                     const uint32_t *symbols, size_t symbols_len, uint32_t node_count, uint32_t link_count,
+                     uint32_t symbol_count, uint32_t edition, uint32_t *scratch, size_t scratch_len, uint32_t *answer,
+                     size_t answer_len);
 
 /* A name as a part of the text that has it, with the code 0; or 15 and no bytes. */
 struct kaori_part {

@@ -825,6 +825,230 @@ static void below(void) {
     }
 }
 
+/* The rows of a room, as the check takes them: so many numbers of each room, and so many rows of them. */
+typedef struct {
+    size_t nodes, links, symbols, scratch;
+    uint32_t counts[3], edition;
+} handed;
+
+static handed hand(const rooms *r, uint32_t edition) {
+    handed h = {LENGTH(r->nodes), LENGTH(r->links), LENGTH(r->symbols), LENGTH(r->scratch),
+                {r->answer[KAORI_NODES], r->answer[KAORI_LINKS], r->answer[KAORI_SYMBOLS]}, edition};
+    return h;
+}
+
+/* A verdict, which is also its code's value; what is read stays as it was, and scratch is as the header says: OLD before the
+   call, and after it the zeros of all that was lent, or as it was. */
+static int verdict(rooms *r, const handed *h, uint32_t code, uint32_t rule, uint32_t row) {
+    uint32_t answer[] = {OLD, OLD, OLD, OLD};
+    const uint32_t numbers[] = {code, rule, row, OLD};
+    rooms before;
+    memset(r->scratch, 7, sizeof r->scratch);
+    before = *r;
+    uint32_t value = kaori_check(r->nodes, h->nodes, r->links, h->links, r->symbols, h->symbols, h->counts[0],
+                                 h->counts[1], h->counts[2], h->edition, r->scratch, h->scratch, answer, 3);
+    int cleared = code == KAORI_OK || code == KAORI_BAD_ROWS;
+    size_t zeros_upto = cleared ? h->scratch : 0;
+    int right = all(r->scratch, zeros_upto, 0) && all(r->scratch + zeros_upto, LENGTH(r->scratch) - zeros_upto, OLD);
+    memcpy(r->scratch, before.scratch, sizeof r->scratch);
+    return value == code && memcmp(answer, numbers, sizeof answer) == 0 && right && memcmp(r, &before, sizeof before) == 0;
+}
+
+/* From a row, child by child: how often each is met. */
+static void meet(const rooms *r, uint32_t row, uint32_t *times) {
+    size_t nodes = KAORI_NODE_WIDTH * r->answer[KAORI_NODES], links = KAORI_LINK_WIDTH * r->answer[KAORI_LINKS];
+    times[row]++;
+    for (size_t place = 0; place < kaori_children(r->nodes, nodes, row); place++) {
+        uint32_t child = kaori_child(r->nodes, nodes, r->links, links, row, place);
+        if (child != KAORI_ABSENT) meet(r, child, times);
+    }
+}
+
+/* Scripts, whose rows pass in their edition; in rooms that have more, and in rooms of just the rows. */
+static void own_rows(void) {
+    static const char *const texts[] = {"",
+                                        "a;",
+                                        "f(-a);",
+                                        "a.x+b;",
+                                        "a=not b;",
+                                        "\"s\";true;",
+                                        "1;nil;",
+                                        "let x=a;",
+                                        "#{a:b};",
+                                        "{a;b}",
+                                        "if a{}",
+                                        "while a{}",
+                                        "|x|x;",
+                                        "fun f(){}",
+                                        "import a:b;",
+                                        "return a;",
+                                        "return;",
+                                        "(f)(x);"};
+    for (size_t i = 0; i < LENGTH(texts); i++) {
+        for (uint32_t edition = 1; edition <= 2; edition++) {
+            rooms r = fresh();
+            uint32_t code = in_edition(&r, texts[i], edition, 64, LENGTH(r.scratch));
+            /* the last two are scripts of the second edition alone */
+            EXPECT(code == KAORI_OK || (edition == 1 && i + 2 >= LENGTH(texts)));
+            if (code != KAORI_OK) continue;
+            handed h = hand(&r, edition);
+            EXPECT(verdict(&r, &h, KAORI_OK, 0, 0));
+            h.nodes = KAORI_NODE_WIDTH * h.counts[0];
+            h.links = KAORI_LINK_WIDTH * h.counts[1];
+            h.symbols = KAORI_SYMBOL_WIDTH * h.counts[2];
+            h.scratch = h.counts[0] + 2 * h.counts[1];
+            EXPECT(verdict(&r, &h, KAORI_OK, 0, 0));
+            uint32_t times[ROWS] = {0};
+            meet(&r, h.counts[0] - 1, times);
+            EXPECT(all(times, h.counts[0], 1) && all(times + h.counts[0], ROWS - h.counts[0], 0));
+            /* a number less in any room, and a row more */
+            size_t *lent[] = {&h.nodes, &h.links, &h.symbols, &h.scratch};
+            for (size_t j = 0; j < LENGTH(lent); j++) {
+                if (*lent[j] == 0) continue;
+                --*lent[j];
+                EXPECT(verdict(&r, &h, KAORI_NOT_LENT, 0, 0));
+                ++*lent[j];
+            }
+            for (size_t j = 0; j < LENGTH(h.counts); j++) {
+                h.counts[j]++;
+                EXPECT(verdict(&r, &h, KAORI_NOT_LENT, 0, 0));
+                h.counts[j] += KAORI_ABSENT - h.counts[j];
+                EXPECT(verdict(&r, &h, KAORI_NOT_LENT, 0, 0));
+                h.counts[j] = r.answer[KAORI_NODES + j];
+            }
+        }
+    }
+}
+
+/* A script of an edition, up to three numbers of its rows that are changed, and the first rule that does not hold then, with
+   the first row that breaks it. */
+typedef struct {
+    const char *text;
+    uint32_t edition;
+    struct {
+        uint32_t room, at, number;
+    } changes[3];
+    uint32_t rule, row;
+} breach;
+
+/* The room and the place in it of number i of a node row, and of a link row. */
+#define NODE(r, i) 0, KAORI_NODE_WIDTH *(r) + (i)
+#define LINK(r, i) 1, KAORI_LINK_WIDTH *(r) + (i)
+static const breach breaches[] = {
+    /* f, a, -a, the call, which has a link, the root, which has the other */
+    {"f(-a);", 1, {{NODE(2, 0), 0}}, KAORI_RULE_KINDS, 2},
+    {"f(-a);", 1, {{NODE(4, 0), 27}}, KAORI_RULE_KINDS, 4},
+    {"f(-a);", 1, {{NODE(1, 3), 2}}, KAORI_RULE_RANGES, 1},
+    {"f(-a);", 1, {{NODE(2, 3), 2}}, KAORI_RULE_RANGES, 2},
+    {"f(-a);", 1, {{NODE(3, 5), 3}}, KAORI_RULE_RANGES, 3},
+    {"f(-a);", 1, {{NODE(4, 3), KAORI_ABSENT}}, KAORI_RULE_RANGES, 4},
+    {"f(-a);", 1, {{NODE(2, 4), 2}}, KAORI_RULE_EARLIER, 2},
+    {"f(-a);", 1, {{LINK(0, 0), 3}}, KAORI_RULE_EARLIER, 3},
+    {"f(-a);", 1, {{LINK(0, 0), 0}}, KAORI_RULE_ONCE, 0},
+    {"f(-a);", 1, {{LINK(0, 0), 1}}, KAORI_RULE_ONCE, 1},
+    {"f(-a);", 1, {{NODE(2, 4), KAORI_ABSENT}}, KAORI_RULE_ONCE, 1},
+    {"f(-a);", 1, {{NODE(4, 4), 0}, {NODE(4, 5), 3}}, KAORI_RULE_ROOT, 4},
+    {"f(-a);", 1, {{NODE(3, 6), 1}}, KAORI_RULE_UNUSED, 3},
+    {"f(-a);", 1, {{NODE(0, 8), KAORI_ABSENT}}, KAORI_RULE_UNUSED, 0},
+    {"f(-a);", 1, {{LINK(0, 2), 1}}, KAORI_RULE_UNUSED, 3},
+    {"f(-a);", 1, {{NODE(0, 9), 4}}, KAORI_RULE_PARENTS, 0},
+    {"f(-a);", 1, {{NODE(4, 9), 0}}, KAORI_RULE_PARENTS, 4},
+    /* the first rule, though an earlier row breaks a later one; and the first row that breaks it */
+    {"f(-a);", 1, {{NODE(0, 8), 1}, {NODE(4, 0), 27}}, KAORI_RULE_KINDS, 4},
+    {"f(-a);", 1, {{NODE(0, 9), 0}, {LINK(0, 1), 1}, {NODE(3, 5), 9}}, KAORI_RULE_RANGES, 3},
+    {"f(-a);", 1, {{NODE(2, 9), 4}, {NODE(1, 9), 3}}, KAORI_RULE_PARENTS, 1},
+    /* a list that starts elsewhere: an empty one, and the second of an import */
+    {"f();", 1, {{NODE(1, 4), 1}}, KAORI_RULE_LISTS, 1},
+    {"import a:b;", 1, {{NODE(0, 5), 0}}, KAORI_RULE_LISTS, 0},
+    /* the symbol of a name in a list and of a string, a Boolean */
+    {"import a:b;", 1, {{LINK(1, 0), 2}}, KAORI_RULE_RANGES, 0},
+    {"\"s\";true;", 1, {{NODE(0, 3), 1}}, KAORI_RULE_RANGES, 0},
+    {"\"s\";true;", 1, {{NODE(1, 3), 2}}, KAORI_RULE_RANGES, 1},
+    /* what may be absent leaves a row that nobody names; a key may not be: here `b` is made a `not` of `a` */
+    {"return a;", 2, {{NODE(1, 3), KAORI_ABSENT}}, KAORI_RULE_ONCE, 0},
+    {"{a;b}", 1, {{NODE(2, 5), KAORI_ABSENT}}, KAORI_RULE_ONCE, 1},
+    {"#{a:b};", 1, {{LINK(0, 0), KAORI_ABSENT}, {NODE(1, 0), KAORI_NODE_NOT}, {NODE(1, 3), 0}}, KAORI_RULE_ABSENT, 2},
+};
+
+static void broken_rows(void) {
+    for (size_t i = 0; i < LENGTH(breaches); i++) {
+        const breach *b = breaches + i;
+        rooms r = fresh();
+        EXPECT(in_edition(&r, b->text, b->edition, 64, LENGTH(r.scratch)) == KAORI_OK);
+        handed h = hand(&r, b->edition);
+        /* no change is of the first number of all, so three zeros are none */
+        for (size_t j = 0; j < LENGTH(b->changes) && b->changes[j].room + b->changes[j].at != 0; j++)
+            (b->changes[j].room == 0 ? r.nodes : r.links)[b->changes[j].at] = b->changes[j].number;
+        if (!verdict(&r, &h, KAORI_BAD_ROWS, b->rule, b->row)) failed = printf("bindings/c/test.c: breach %zu\n", i);
+        /* in rooms of just the rows it is the same */
+        h.nodes = KAORI_NODE_WIDTH * h.counts[0];
+        h.links = KAORI_LINK_WIDTH * h.counts[1];
+        h.symbols = KAORI_SYMBOL_WIDTH * h.counts[2];
+        h.scratch = h.counts[0] + 2 * h.counts[1];
+        EXPECT(verdict(&r, &h, KAORI_BAD_ROWS, b->rule, b->row));
+    }
+}
+
+/* What depends on the counts, on the edition and on the room for the answer. */
+static void handed_over(void) {
+    static const uint32_t none[] = {0, 3, 258, KAORI_ABSENT};
+    rooms r = fresh();
+    EXPECT(in_edition(&r, "f(-a);", 1, 64, LENGTH(r.scratch)) == KAORI_OK);
+    handed whole = hand(&r, 1), h = whole;
+    /* no rows; all but the root; a link more, which no list has, and one less */
+    h.counts[0] = 0;
+    EXPECT(verdict(&r, &h, KAORI_BAD_ROWS, KAORI_RULE_ROOT, 0));
+    h.counts[1] = h.counts[2] = 0;
+    h.nodes = h.links = h.symbols = h.scratch = 0;
+    EXPECT(verdict(&r, &h, KAORI_BAD_ROWS, KAORI_RULE_ROOT, 0));
+    h = whole;
+    h.counts[0] = 4;
+    EXPECT(verdict(&r, &h, KAORI_BAD_ROWS, KAORI_RULE_ROOT, 3));
+    h = whole;
+    h.counts[1] = 3;
+    EXPECT(verdict(&r, &h, KAORI_BAD_ROWS, KAORI_RULE_LISTS, 4));
+    h.counts[1] = 1;
+    EXPECT(verdict(&r, &h, KAORI_BAD_ROWS, KAORI_RULE_RANGES, 4));
+    /* too few symbols; more of them, and their numbers, do not matter */
+    h = whole;
+    h.counts[2] = 1;
+    EXPECT(verdict(&r, &h, KAORI_BAD_ROWS, KAORI_RULE_RANGES, 1));
+    h.counts[2] = ROWS;
+    memset(r.symbols, 0xff, sizeof r.symbols);
+    EXPECT(verdict(&r, &h, KAORI_OK, 0, 0));
+    /* nor do spans, of rows and of names */
+    for (uint32_t row = 0; row < whole.counts[0]; row++) memset(r.nodes + KAORI_NODE_WIDTH * row + 1, 0xff, 2 * sizeof *r.nodes);
+    for (uint32_t row = 0; row < 2; row++) memset(r.nodes + KAORI_NODE_WIDTH * row + 4, 0xff, 2 * sizeof *r.nodes);
+    EXPECT(verdict(&r, &whole, KAORI_OK, 0, 0));
+    /* no edition: after what was not lent, before any rule */
+    r.nodes[0] = 0;
+    for (size_t i = 0; i < LENGTH(none); i++) {
+        h = whole;
+        h.edition = none[i];
+        EXPECT(verdict(&r, &h, KAORI_BAD_EDITION, 0, 0));
+        h.counts[1] = ROWS + 1;
+        EXPECT(verdict(&r, &h, KAORI_NOT_LENT, 0, 0));
+    }
+    /* a `return` without a child, by either edition */
+    EXPECT(in_edition(&r, "return;", 2, 64, LENGTH(r.scratch)) == KAORI_OK);
+    h = hand(&r, 2);
+    EXPECT(verdict(&r, &h, KAORI_OK, 0, 0));
+    h.edition = 1;
+    EXPECT(verdict(&r, &h, KAORI_BAD_ROWS, KAORI_RULE_ABSENT, 0));
+    /* a guard's rows have no block */
+    EXPECT(guard(&r, "f(a)", 1, 64) == KAORI_OK);
+    h = hand(&r, 1);
+    EXPECT(verdict(&r, &h, KAORI_BAD_ROWS, KAORI_RULE_ROOT, 2));
+    /* too little room for the answer, before all else */
+    for (size_t room = 0; room < KAORI_CHECK_ROOM; room++) {
+        uint32_t answer[] = {OLD, OLD, OLD};
+        rooms before = r;
+        EXPECT(kaori_check(r.nodes, 0, r.links, 0, r.symbols, 0, 1, 0, 0, 3, r.scratch, LENGTH(r.scratch), answer, room) ==
+               KAORI_SMALL_ANSWER);
+        EXPECT(all(answer, 3, OLD) && memcmp(&r, &before, sizeof r) == 0);
+    }
+}
+
 /* The kinds, each by the name that a message has for it. */
 static void kinds(void) {
     static const struct {
@@ -866,6 +1090,9 @@ int main(void) {
     telling();
     reasons();
     below();
+    own_rows();
+    broken_rows();
+    handed_over();
     kinds();
     return failed != 0;
 }
