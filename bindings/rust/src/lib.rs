@@ -152,6 +152,26 @@
 //! # Ok::<(), kaori_syntax::Refusal>(())
 //! ```
 //!
+//! Rows that another build wrote become a tree only if they pass a check, so that a tree over them is as safe to walk as one
+//! that was read here: [`Tree::from_rows`].
+//!
+//! ```
+//! use kaori_syntax::{Edition, Rooms, Tree};
+//!
+//! let mut rooms = Rooms::for_tokens(16);
+//! let sent = rooms.read(b"show(price * 2);", 64)?; // six rows, two links, two symbols
+//! let [mut nodes, links, symbols] = [sent.node_rows().concat(), sent.link_rows().concat(), sent.symbol_rows().concat()];
+//!
+//! let mut scratch = [0; 10];
+//! let tree = Tree::from_rows(&nodes, &links, &symbols, [6, 2, 2], Edition::FIRST, &mut scratch).unwrap();
+//! assert!(tree.children(4).map(|row| row.number).eq([0, 3]));
+//!
+//! nodes[34] = 3; // the product's left side is the product itself
+//! let why = Tree::from_rows(&nodes, &links, &symbols, [6, 2, 2], Edition::FIRST, &mut scratch).unwrap_err();
+//! assert_eq!(why.to_string(), "row 3 breaks rule 3: a row that is named is an earlier one");
+//! # Ok::<(), kaori_syntax::Refusal>(())
+//! ```
+//!
 //! A refusal has a code, a place and a text:
 //!
 //! ```
@@ -190,6 +210,7 @@ use core::fmt;
 mod builtins;
 mod cover;
 mod expected;
+mod foreign;
 mod node;
 mod numbered;
 mod raw;
@@ -200,11 +221,12 @@ mod rooms;
 pub use builtins::OwnedBuiltins;
 pub use builtins::{Builtins, name};
 pub use expected::{Expected, Opening, Sort, expected};
+pub use foreign::RowsRefusal;
 pub use node::{
     BinaryOp, Children, Entries, Items, Name, Names, Node, Nodes, Outward, Row, Rows, Span, Token, Tokens,
     Tree, UnaryOp,
 };
-pub use numbered::{Code, Kind};
+pub use numbered::{Code, Kind, Rule};
 #[cfg(feature = "alloc")]
 pub use rooms::Rooms;
 
@@ -607,7 +629,7 @@ fn tree<'a>(
 ) -> Result<Tree<'a>, Refusal> {
     if code == 0 {
         let (nodes, links, symbols) = ((&*nodes, node_rows), (&*links, link_rows), (&*symbols, symbol_rows));
-        return Ok(Tree::new(builtins, text, tokens, nodes, links, symbols));
+        return Ok(Tree::new(builtins, Some(text), tokens, nodes, links, symbols));
     }
     // the reader has no other codes
     let code = Code::from_u32(code).unwrap_or(Code::SmallAnswer);

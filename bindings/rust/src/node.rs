@@ -7,11 +7,14 @@ const ABSENT: u32 = u32::MAX;
 
 /// A script or a guard that was read: its rows, in the rooms that were lent, with its text and its tokens. A copy of it is seven
 /// slices. Its last row is the [`root`](Tree::root), which encloses all others: a script's block, or a guard's expression.
+///
+/// Or rows that another build wrote and that passed a check ([`Tree::from_rows`]): these have no tokens, and a text and
+/// built-in names only if they are given.
 #[derive(Clone, Copy, Debug)]
 pub struct Tree<'a> {
     builtins: Builtins<'a>,
-    text: &'a [u8],
-    /// Three numbers each; after the Eof there may be zeros.
+    text: Option<&'a [u8]>,
+    /// Three numbers each; after the Eof there may be zeros. None at all for rows that another build wrote.
     list: &'a [u32],
     nodes: &'a [[u32; NODE_WIDTH]],
     links: &'a [[u32; LINK_WIDTH]],
@@ -47,7 +50,7 @@ pub struct Row<'a> {
     /// By which other rows name it.
     pub number: u32,
     /// Its place in the text; 0, 0 for a script's root. A row made of children may start later than its text, as in ast.rs: the
-    /// sum in `f(x) + 1` starts at `(`. [`Tree::cover`] has the whole.
+    /// sum in `f(x) + 1` starts at `(`. [`Tree::cover`] has the whole. Of a row that another build wrote it is any two numbers.
     pub span: Span,
     /// The row that has it as a child, which is a later one; none for the root.
     pub parent: Option<u32>,
@@ -90,7 +93,7 @@ pub enum UnaryOp {
 }
 
 /// A node, as ast.rs's `Node` has it. A child is the number of its row, which is an earlier one; a number has no value
-/// here, its text is its row's span.
+/// here, its text is its row's span. Of rows that another build wrote a child may be any node.
 #[allow(missing_docs)]
 #[derive(Clone, Copy, PartialEq, Eq, Debug)]
 pub enum Node<'a> {
@@ -422,7 +425,7 @@ fn used<const N: usize>((room, count): (&[u32], u32)) -> &[[u32; N]] {
 impl<'a> Tree<'a> {
     pub(crate) fn new(
         builtins: Builtins<'a>,
-        text: &'a [u8],
+        text: Option<&'a [u8]>,
         list: &'a [u32],
         nodes: (&'a [u32], u32),
         links: (&'a [u32], u32),
@@ -452,7 +455,7 @@ impl<'a> Tree<'a> {
         Rows { tree: *self, next: 0, end: self.nodes.len() as u32 }
     }
 
-    /// The tokens, the Eof last.
+    /// The tokens, the Eof last. There are none for rows that another build wrote.
     ///
     /// ```
     /// use kaori_syntax::{Kind, Rooms};
@@ -467,9 +470,46 @@ impl<'a> Tree<'a> {
         Tokens(upto_eof(self.list))
     }
 
-    /// The text.
+    /// The text. It is empty for rows that another build wrote, until they are given one.
     pub fn text(&self) -> &'a [u8] {
-        self.text
+        self.text.unwrap_or_default()
+    }
+
+    /// The same rows over this text. It is for rows that another build wrote, which come without: then [`Tree::symbol`] has the
+    /// names that stand in it. Nothing is asked of the text; there are no bytes for a place that is not in it.
+    ///
+    /// ```
+    /// use kaori_syntax::{Edition, Node, Span, Tree};
+    ///
+    /// // a string, and its symbol's place; the text may have it, or not
+    /// let nodes = [11, 0, 5, 0, 0, 0, 0, 0, 0, 1, 20, 0, 0, 0, 1, u32::MAX, 0, 0, 0, u32::MAX];
+    /// let tree = Tree::from_rows(&nodes, &[0, 0, 0], &[1, 4], [2, 1, 1], Edition::FIRST, &mut [0; 4]).unwrap();
+    /// assert_eq!((tree.text(), tree.symbol(0)), (&b""[..], None));
+    /// assert_eq!(tree.with_text(b"\"abc\";").symbol(0), Some(&b"abc"[..]));
+    /// assert_eq!(tree.with_text(b"abc").symbol(0), None);
+    /// ```
+    pub fn with_text(self, text: &'a [u8]) -> Tree<'a> {
+        Tree { text: Some(text), ..self }
+    }
+
+    /// The same rows beside these built-in names, which then name the first symbols, also where there is no text. The rows of
+    /// these symbols are places in the names' text: it is the one that the other build had, or [`Tree::symbol`] is wrong.
+    ///
+    /// ```
+    /// use kaori_syntax::{Edition, OwnedBuiltins, Rooms, Tree};
+    ///
+    /// let station = OwnedBuiltins::new(&["show", "print"]);
+    /// let mut rooms = Rooms::for_tokens_with(station.lend(), 8);
+    /// let read = rooms.read_with(station.lend(), b"print(a);", Edition::FIRST, 64)?;
+    /// let [nodes, links, symbols] = [read.node_rows().concat(), read.link_rows().concat(), read.symbol_rows().concat()];
+    ///
+    /// let tree = Tree::from_rows(&nodes, &links, &symbols, [4, 2, 3], Edition::FIRST, &mut [0; 8]).unwrap();
+    /// let tree = tree.with_builtins(station.lend());
+    /// assert_eq!([0, 1, 2].map(|symbol| tree.symbol(symbol)), [Some(&b"show"[..]), Some(b"print"), None]);
+    /// # Ok::<(), kaori_syntax::Refusal>(())
+    /// ```
+    pub fn with_builtins(self, builtins: Builtins<'a>) -> Tree<'a> {
+        Tree { builtins, ..self }
     }
 
     /// What stands below a row, in the order of the text, whatever the row is. Nothing, if there are not so many rows.
@@ -491,7 +531,8 @@ impl<'a> Tree<'a> {
 
     /// The whole text that a row covers: from the leftmost start to the rightmost end of the row and of all that stands below
     /// it, with the counterparts of parentheses that are alone in that. So it is balanced, and parentheses around the row itself
-    /// are not in it. A script's root covers the script from its start on. None: there are not so many rows.
+    /// are not in it. A script's root covers the script from its start on. None: there are not so many rows, or they were written
+    /// by another build, so that there are no tokens.
     ///
     /// It is one pass over what stands below the row and one over the tokens.
     ///
@@ -511,7 +552,9 @@ impl<'a> Tree<'a> {
     /// ```
     pub fn cover(&self, number: u32) -> Option<Span> {
         let rows = self.nodes.get(..=number as usize)?;
-        Some(cover::balanced(upto_eof(self.list), cover::reach(rows)))
+        // what was read has an Eof at least; only there stands all that is below a row right before it
+        let tokens = Some(upto_eof(self.list)).filter(|tokens| !tokens.is_empty())?;
+        Some(cover::balanced(tokens, cover::reach(rows)))
     }
 
     /// The row of this number and what encloses it, from the inside out: the row itself, its parent, and so on to the root.
@@ -553,9 +596,11 @@ impl<'a> Tree<'a> {
         self.row(self.nodes.len().checked_sub(1)? as u32)
     }
 
-    /// The bytes of a symbol: a built-in name, a name, or what stands between a string's quotes. None: there are not so many.
+    /// The bytes of a symbol: a built-in name, a name, or what stands between a string's quotes. None: there are not so many; or,
+    /// of rows that another build wrote, the symbol's place is not in its text, or there is no text.
     pub fn symbol(&self, symbol: u32) -> Option<&'a [u8]> {
-        name(self.builtins, self.text, self.symbols.as_flattened(), self.symbols.len() as u32, symbol)
+        let text = if symbol < self.builtins.count() { self.text() } else { self.text? };
+        name(self.builtins, text, self.symbols.as_flattened(), self.symbols.len() as u32, symbol)
     }
 
     /// The row of this number. None: there are not so many.
@@ -622,7 +667,7 @@ mod tests {
     fn outward(kinds: [u32; 3], parents: [u32; 3], from: u32) -> Vec<u32> {
         let row = |i: usize| [kinds[i], 0, 0, 0, 0, 0, 0, 0, 0, parents[i]];
         let nodes = [row(0), row(1), row(2), [14; NODE_WIDTH]].concat(); // the room has a row more
-        let tree = Tree::new(Builtins::NONE, b"", &[], (&nodes, 3), (&[], 0), (&[], 0));
+        let tree = Tree::new(Builtins::NONE, None, &[], (&nodes, 3), (&[], 0), (&[], 0));
         tree.outward(from).map(|row| row.number).collect()
     }
 

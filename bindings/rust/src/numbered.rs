@@ -1,4 +1,4 @@
-//! Kinds of tokens and codes of refusals, by name.
+//! Kinds of tokens, codes of refusals and rules of rows, by name.
 
 /// An enum whose variants have the reader's numbers.
 macro_rules! numbered {
@@ -174,7 +174,8 @@ numbered! {
     SmallAnswer = 13,
     /// An offset past the text, where [`place`](crate::place) gives none.
     PastText = 14,
-    /// A symbol without a name, where [`name`](crate::name) gives none.
+    /// A symbol without a name, where [`name`](crate::name) gives none. Of rows that another build wrote it is
+    /// [`Code::NOT_LENT`].
     NoName = 15,
     /// By [`read`](crate::read): no token starts at a byte.
     NoToken = 16,
@@ -183,6 +184,45 @@ numbered! {
     /// The built-in names' text is over 65,536 bytes, they are over 64, a span is wrong, one is no identifier, or two are the
     /// same; after a 4 for `scratch`.
     BadNames = 18,
-    /// The edition is neither 1 nor 2; after 3, before any 4.
+    /// The edition is neither 1 nor 2; after 3, before any 4. Of rows that another build wrote: after 15.
     BadEdition = 21,
+    /// Rows that another build wrote break a [`Rule`].
+    BadRows = 22,
+}
+
+impl Code {
+    /// 15 of [`Tree::from_rows`](crate::Tree::from_rows): a count of rows passes what was lent, or there is too little scratch
+    /// for them.
+    pub const NOT_LENT: Code = Code::NoName;
+}
+
+numbered! {
+    /// What has to hold of rows that another build wrote, in the order in which they are held to it.
+    /// [`Tree::from_rows`](crate::Tree::from_rows) takes them for a tree if all nine do.
+    ///
+    /// ```
+    /// use kaori_syntax::Rule;
+    ///
+    /// assert_eq!((Rule::Once as u32, Rule::from_u32(4)), (4, Some(Rule::Once)));
+    /// assert_eq!(Rule::Once.to_string(), "every row but the last is named once");
+    /// ```
+    Rule, "rule":
+    /// Each kind is one of 1 to 26.
+    Kinds = 1,
+    /// Operators, Booleans and symbols are below their number, and lists within the link rows.
+    Ranges = 2,
+    /// A row that is named, as a child or in a list, is an earlier one, or absent.
+    Earlier = 3,
+    /// Every row but the last is named once.
+    Once = 4,
+    /// The last row is a block with no tail.
+    Root = 5,
+    /// In the order of the rows each list starts where the last one ends, and they have all links.
+    Lists = 6,
+    /// Absent is at most a block's tail, an `else`, a map entry's value, in edition 2 a `return`'s child.
+    Absent = 7,
+    /// Unused numbers are 0, of link rows too.
+    Unused = 8,
+    /// The parent is the row that names this one, and the last row's is absent.
+    Parents = 9,
 }

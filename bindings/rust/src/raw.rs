@@ -58,6 +58,11 @@ unsafe extern "C" {
         nodes: *const u32, nodes_len: usize, links: *const u32, links_len: usize, row: u32, place: usize,
     ) -> u32;
     fn kaori_children(nodes: *const u32, nodes_len: usize, row: u32) -> usize;
+    fn kaori_check(
+        nodes: *const u32, nodes_len: usize, links: *const u32, links_len: usize, symbols: *const u32, symbols_len: usize,
+        node_count: u32, link_count: u32, symbol_count: u32, edition: u32,
+        scratch: *mut u32, scratch_len: usize, answer: *mut u32, answer_len: usize,
+    ) -> u32;
     fn kaori_message(code: u32, expected: u32, found: u32, room: *mut u8, room_len: usize) -> usize;
     fn kaori_expected(
         tokens: *const u32, tokens_len: usize, edition: u32, limit: u32, code: u32, at: u32,
@@ -199,6 +204,21 @@ pub fn child(nodes: &[u32], links: &[u32], row: u32, place: usize) -> u32 {
 pub fn children(nodes: &[u32], row: u32) -> usize {
     // SAFETY: as the module says.
     unsafe { kaori_children(nodes.as_ptr(), nodes.len(), row) }
+}
+
+#[rustfmt::skip]
+pub fn check(
+    nodes: &[u32], links: &[u32], symbols: &[u32], [node_count, link_count, symbol_count]: [u32; 3], edition: u32,
+    scratch: &mut [u32], answer: &mut [u32; 3],
+) -> u32 {
+    // SAFETY: as the module says.
+    unsafe {
+        kaori_check(
+            nodes.as_ptr(), nodes.len(), links.as_ptr(), links.len(), symbols.as_ptr(), symbols.len(),
+            node_count, link_count, symbol_count, edition,
+            scratch.as_mut_ptr(), scratch.len(), answer.as_mut_ptr(), answer.len(),
+        )
+    }
 }
 
 pub fn expected(tokens: &[u32], edition: u32, limit: u32, code: u32, at: u32, told: &mut [u32; 131]) -> u64 {

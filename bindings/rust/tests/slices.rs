@@ -1,8 +1,8 @@
 //! What there is without `alloc`: everything over slices of the caller's. This file uses nothing else, and is also built and run
 //! without features.
 use kaori_syntax::{
-    Builtins, Code, Edition, Kind, Lent, Node, Span, expected, guard_with, name, parse, place, read,
-    read_guard_with, read_with,
+    Builtins, Code, Edition, Kind, Lent, Node, Rule, Span, Tree, expected, guard_with, name, parse, place,
+    read, read_guard_with, read_with,
 };
 
 #[test]
@@ -52,4 +52,27 @@ fn a_guard_in_arrays() {
     let why = read_guard_with(Builtins::NONE, b"a or |", &mut list, Edition::FIRST, 64, lent).unwrap_err();
     assert_eq!((why.code, why.at, why.found), (Code::Outside, 2, Some(Kind::Pipe)));
     assert_eq!((nodes[29], symbols), (u32::MAX, [0, 1, 5, 6]));
+}
+
+#[test]
+fn rows_of_another_build_in_arrays() {
+    let text = b"f(-a);";
+    let (mut list, mut nodes, mut links, mut symbols, mut scratch) =
+        ([0; 21], [0; 50], [0; 6], [0; 4], [0; 21]);
+    let lent = Lent { nodes: &mut nodes, links: &mut links, symbols: &mut symbols, scratch: &mut scratch };
+    assert_eq!(read(text, &mut list, 64, lent).map(|tree| tree.rows().count()), Ok(5));
+    // the room that it was read in is enough to check it
+    let tree = Tree::from_rows(&nodes, &links, &symbols, [5, 2, 2], Edition::FIRST, &mut scratch).unwrap();
+    assert!(tree.children(3).map(|row| row.number).eq([0, 2]));
+    assert_eq!((tree.symbol(1), tree.with_text(text).symbol(1)), (None, Some(&b"a"[..])));
+
+    nodes[8] = 1;
+    let why = Tree::from_rows(&nodes, &links, &symbols, [5, 2, 2], Edition::FIRST, &mut scratch).unwrap_err();
+    assert_eq!((why.code, why.rule, why.row), (Code::BadRows, Some(Rule::Unused), 0));
+    let why =
+        Tree::from_rows(&nodes, &links, &symbols, [5, 2, 2], Edition(0), &mut scratch[..9]).unwrap_err();
+    assert_eq!((why.code, why.rule, why.row), (Code::BadEdition, None, 0));
+    let why =
+        Tree::from_rows(&nodes, &links, &symbols, [5, 2, 2], Edition(0), &mut scratch[..8]).unwrap_err();
+    assert_eq!((why.code, why.rule, why.row), (Code::NOT_LENT, None, 0));
 }
