@@ -385,8 +385,9 @@ size_t kaori_children(const uint32_t *nodes, size_t nodes_len, uint32_t row);
    Answers: the code: 0, 13, 15, 21 or 22; 13, 15 and 21 come first, in this order. After 0 all rules hold: from the last
    row, child by child, each row is met once, and from each row, parent by parent, the last. What the functions that read a
    script leave after 0 passes, in its edition. A guard's rows do not: their last row is no block.
-   What has no rule: spans, and the numbers of symbol rows, so hold them to a text before it is read there, as kaori_name
-   does; and which kinds stand below which, so a function's block may be of any kind.
+   What has no rule: spans and the numbers of symbol rows, so hold them to a text before it is read there, as kaori_name
+   does; which kinds stand below which, and in which order of the text; and how deep rows nest: up to as many as there are,
+   so that a walk that calls itself may run out of stack. From the first row to the last children come before parents.
    Leaves: in the answer's room code, rule and row, and the rest as it was. After 22 the rule is the first that does not
    hold, and the row the first that breaks it, itself or in its links: of rule 4 the first that is not named once, of rule
    5 the last, or 0 where there are no rows, of rule 6 the last where links are left over. After any other code both are 0.

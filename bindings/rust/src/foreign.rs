@@ -66,9 +66,10 @@ impl<'a> Tree<'a> {
     /// anything:
     /// - spans: [`Span::of`](crate::Span::of) is none for one that is not in a text;
     /// - symbol rows: [`Tree::symbol`] is none for one that is not in a text;
-    /// - which nodes stand below which: a function's block need not be a [`Node::Block`](crate::Node::Block);
-    /// - how deep it is, up to as many as there are rows: rather than by a function that calls itself it is walked row by row,
-    ///   children first, by [`Tree::rows`].
+    /// - which nodes stand below which, and in which order of the text: a function's block need not be a
+    ///   [`Node::Block`](crate::Node::Block);
+    /// - how deep it is: up to as many as there are rows, so that a walk that calls itself may run out of stack.
+    ///   [`Tree::rows`] has children before parents.
     ///
     /// Such a tree has no tokens, so that there is no [`Tree::cover`]; and no text and no built-in names, until it is given them
     /// by [`Tree::with_text`] and [`Tree::with_builtins`].

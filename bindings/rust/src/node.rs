@@ -493,7 +493,7 @@ impl<'a> Tree<'a> {
     }
 
     /// The same rows beside these built-in names, which then name the first symbols, also where there is no text. The rows of
-    /// these symbols are places in the names' text: it is the one that the other build had, or [`Tree::symbol`] is wrong.
+    /// these symbols are places in the names' text, so that it has to be the one that the other build had.
     ///
     /// ```
     /// use kaori_syntax::{Edition, OwnedBuiltins, Rooms, Tree};
