@@ -10,6 +10,8 @@ use kaori_syntax::{
 use rows::{decode, frame};
 
 const LIST: &[u8] = include_bytes!("../../../crates/replay/stdin");
+const SETS: &[u8] = include_bytes!("../../../crates/verdicts/stdin");
+const VERDICTS: &[u8] = include_bytes!("../../../crates/verdicts/stdout");
 const ABSENT: u32 = u32::MAX;
 const BLOCK: u32 = 20;
 const PARENT: usize = 9;
@@ -309,6 +311,33 @@ fn each_script_of_the_list() {
         }
     }
     assert!(scripts > 500 && other > 0, "{scripts} scripts, {other} of edition 2 alone");
+}
+
+/// The fixed list of row sets that the program `verdicts` answers, in the same rooms: verdict and scratch are the stored ones.
+#[test]
+fn each_set_of_the_list() {
+    let numbers = |frame: &[u8]| -> Vec<u32> {
+        frame.as_chunks().0.iter().map(|bytes| u32::from_le_bytes(*bytes)).collect()
+    };
+    let (mut sets, mut verdicts, mut seen) = (SETS, VERDICTS, 0);
+    while let Some((set, verdict)) = frame(&mut sets).zip(frame(&mut verdicts)) {
+        let (set, verdict) = (numbers(set), numbers(verdict));
+        // the edition, the counts, the rooms' lengths, and the rows
+        let (head, rest) = set.split_at(8);
+        let (nodes, rest) = rest.split_at(head[4] as usize);
+        let (links, symbols) = rest.split_at(head[5] as usize);
+        let mut scratch = vec![7; head[7] as usize];
+        let counts = [head[1], head[2], head[3]];
+        let taken = Tree::from_rows(nodes, links, symbols, counts, Edition(head[0]), &mut scratch);
+        let told =
+            taken.err().map_or([0; 3], |why| [why.code as u32, why.rule.map_or(0, u32::from), why.row]);
+        assert_eq!([&told[..], &scratch].concat(), verdict, "set {seen}");
+        if let Ok(tree) = taken {
+            walk(&tree);
+        }
+        seen += 1;
+    }
+    assert!(seen > 300, "{seen} sets");
 }
 
 #[test]
