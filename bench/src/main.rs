@@ -12,7 +12,9 @@
 //! each call, in its time; the Rust's interner is given them before the clock starts.
 //!
 //! A second table has scripts that are refused at their end: what reading them up to there takes, and what it takes to tell
-//! what could have stood there. The Rust has nothing to compare with.
+//! what could have stood there. The Rust has nothing to compare with. A third has rows that are checked as if another build had
+//! written them, good ones and hostile ones.
+mod foreign;
 mod inputs;
 mod lexer;
 
@@ -134,6 +136,7 @@ fn bench(time: Duration) {
         "64 names: this reader looks the names over in each call; the Rust's interner has them before the clock starts"
     );
     refusals(time);
+    checks(time);
     println!("typical {typical:.2}, worst {worst:.2}");
 }
 
@@ -168,6 +171,32 @@ fn refusals(time: Duration) {
         );
     }
     println!("read: tokens to the refusal; told: what could have stood there; ratio: both by the first");
+}
+
+/// What it takes to check rows.
+fn checks(time: Duration) {
+    println!("rows of another build; median nanoseconds a row or link");
+    println!(
+        "{:<22}{:>7}{:>7}{:>6}{:>6}{:>6}{:>8}{:>8}",
+        "input", "rows", "links", "code", "rule", "row", "check", "runs"
+    );
+    for mut rows in foreign::all() {
+        let (code, rule, row) = match rows.check() {
+            Ok(_) => (0, 0, 0),
+            Err(why) => (why.code as u32, why.rule.map_or(0, |rule| rule as u32), why.row),
+        };
+        let mut times = Vec::new();
+        let end = Instant::now() + time;
+        while times.is_empty() || Instant::now() < end {
+            times.push(second(|| clock(|| rows.check().is_ok())));
+        }
+        let (runs, [nodes, links, _]) = (times.len(), rows.counts());
+        println!(
+            "{:<22}{nodes:>7}{links:>7}{code:>6}{rule:>6}{row:>6}{:>8.1}{runs:>8}",
+            rows.name,
+            median(times) / f64::from(nodes + links)
+        );
+    }
 }
 
 fn measure(input: &Input, time: Duration) -> Times {
