@@ -28,15 +28,23 @@ impl Rows {
     fn read(input: &Input) -> Rows {
         let mut rooms = input.rooms();
         let tree = input.parse(&mut rooms, &input.tokens, crate::LIMIT).expect("a script that is read");
-        let [nodes, links, symbols] =
-            [tree.node_rows().as_flattened(), tree.link_rows().as_flattened(), tree.symbol_rows().as_flattened()];
+        let [nodes, links, symbols] = [
+            tree.node_rows().as_flattened(),
+            tree.link_rows().as_flattened(),
+            tree.symbol_rows().as_flattened(),
+        ];
         Rows::new(input.name, nodes.to_vec(), links.to_vec(), symbols.to_vec())
     }
 
     /// A `nil`, and then rows whose lists are these, over links that are all alike.
     fn listed(name: &'static str, links: u32, link: [u32; 3], rows: impl Iterator<Item = [u32; 10]>) -> Rows {
         let nil = [NIL, 0, 0, 0, 0, 0, 0, 0, 0, 0];
-        Rows::new(name, [nil].into_iter().chain(rows).flatten().collect(), link.repeat(links as usize), vec![0, 0])
+        Rows::new(
+            name,
+            [nil].into_iter().chain(rows).flatten().collect(),
+            link.repeat(links as usize),
+            vec![0, 0],
+        )
     }
 
     pub fn counts(&self) -> [u32; 3] {
@@ -54,8 +62,9 @@ fn block(first: u32, count: u32) -> [u32; 10] {
 }
 
 pub fn all() -> Vec<Rows> {
-    let n = 4095;
-    let half = move |size: u32| (0..n / size).map(move |k| block(k * size, size));
+    let (n, large) = (4095, 65535);
+    // links alone, then in twos, in fours: long ways over marks
+    let halves = |n: u32| (0..n.ilog2()).flat_map(move |k| (0..n >> k).map(move |i| block(i << k, 1 << k)));
     let mut rows: Vec<Rows> = inputs::all().iter().filter(|input| input.typical).map(Rows::read).collect();
     rows.extend([
         // every row has all links
@@ -63,11 +72,13 @@ pub fn all() -> Vec<Rows> {
         // each starts one further on, or one before
         Rows::listed("each one further on", n, [0; 3], (0..n).map(|i| block(i, n - i))),
         Rows::listed("each one before", n, [0; 3], (0..n).map(|i| block(n - 1 - i, i + 1))),
-        // links alone, then in twos, in fours: long ways over marks
-        Rows::listed("by halves", n, [0; 3], (0..12).flat_map(|k| half(1 << k))),
+        Rows::listed("by halves", n, [0; 3], halves(n)),
         // keys with absent values, and names
         Rows::listed("one map for all", n, [0, ABSENT, 0], (0..n).map(|_| [MAP, 0, 0, 0, n, 0, 0, 0, 0, 0])),
         Rows::listed("one import for all", n, [0; 3], (0..n).map(|_| [IMPORT, 0, 0, 0, n, 0, n, 0, 0, 0])),
+        // sixteen times as many
+        Rows::listed("one list for all, 16", large, [0; 3], (0..large).map(|_| block(0, large))),
+        Rows::listed("by halves, 16", large, [0; 3], halves(large)),
     ]);
     rows
 }

@@ -6,7 +6,7 @@ use mathlib.Core.Bool.{Bool, true, false, cond, _&&_, not}
 use mathlib.Core.List.{List, [], _∷_, _++_}
 use mathlib.Core.Path.{_≡_, refl, sym, ap, _∙_}
 use lib.Dec.{eqb}
-use borrow.Author.Tests.{eqb-true}
+use borrow.Author.Tests.{ne-eqb, eqb-true}
 use lib.ListN.{length, getD, drop, set}
 use lib.Seq.{getD-drop, drop-drop}
 use Rattle.foreign.specs.Check.{Item}
@@ -47,6 +47,12 @@ module _ {a : Asked} {ns : List ℕ} {from upto i : ℕ} (s : Sparing a ns from 
   pub spare-ended : i ≡ upto → true ≡ all a 0 (spared (upto - from) (drop from ns))
   unfolding spared
   spare-ended e = let z : upto - i ≡ 0 = omega arith in sym (s .rest ∙ rw z refl)
+
+-- no rule but 8 asks anything of them
+pub spare-any : (a : Asked) (n : ℕ) (xs : List ℕ) → (a .rule ≡ 8 → ⊥) → true ≡ all a 0 (spared n xs)
+unfolding spared
+spare-any a zero xs h = refl
+spare-any a (suc n) xs h = rw (ne-eqb (a .rule) 8 h) (spare-any a n (drop 1 xs) h)
 
 abbrev pub many : (links : List ℕ) → ℕ
 many ls = length ls / link-width

@@ -202,12 +202,15 @@ fn slot(a: Asked, s: Slot, links: &[u32], marks: &mut [u32]) -> bool
     }
 }
 
-// Numbers that are left over, up to a place.
+// Numbers that are left over, up to a place: rule 8.
 // Ruled out: the last of them left out.
 fn spare(a: Asked, nodes: &[u32], from: usize, upto: usize) -> bool
     requires { ⌜ (from ≤ upto) × (upto ≤ length (now nodes)) ⌝ }
     ensures { λ r. ⌜ r ≡ keep-all (a .rule) (a .row) (a .symbols) 0 (spared (upto - from) (drop from (now (nodes .entry)))) ⌝ }
 {
+    if a.rule != CLEAN {
+        return true;
+    }
     let mut at = from;
     while at < upto {
         if !unused(a, nodes[at]) {
