@@ -315,7 +315,7 @@ size_t kaori_message(uint32_t code, uint32_t expected, uint32_t found, uint8_t *
    Takes: the script's text; the refusal's code, start and `expected`; the kind of the token at its place; and a room of 52
    bytes or more. The script's text matters for 16 alone, which has two: `a string that is not closed` where the byte at
    the start is a quote, and else `no token starts here`. The kinds matter for 8 and 9 alone, and may else be any numbers.
-   Answers: the text's length, at most 52. It is 0 for a number that is no code (0, 12, 19, 20, and over 21), where the
+   Answers: the text's length, at most 52. It is 0 for a number that is no code (0, 12, 19, 20, and over 22), where the
    text needs a kind over 44, and for a room under 52 bytes.
    Leaves: the text at the room's start, all bytes past it as they were. */
 size_t kaori_reason(const uint8_t *text, size_t text_len, uint32_t code, uint32_t start, uint32_t expected,

@@ -738,7 +738,7 @@ static void reasons(void) {
                                         "",
                                         "",
                                         "the edition is neither 1 nor 2",
-                                        "",
+                                        "the rows are not those of a tree",
                                         ""};
     static const uint8_t text[] = {'a', '@', '"'};
     uint8_t room[54], message[54];

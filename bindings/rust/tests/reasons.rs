@@ -71,7 +71,7 @@ fn by_hand() {
         match code {
             Code::Required => assert_eq!(text, "refusal 8 at 1..2"),
             Code::Operand => assert_eq!(text, "refusal 9 at 1..2"),
-            Code::BadRows => assert_eq!(text, "refusal 22 at 1..2"),
+            Code::BadRows => assert_eq!(text, "the rows are not those of a tree"),
             Code::SmallAnswer => assert_eq!(text, "too little room for the answer"),
             Code::PastText => assert_eq!(text, "a place past the end of the text"),
             Code::NoName => assert_eq!(text, "no such row or name"),

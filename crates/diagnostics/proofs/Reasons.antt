@@ -54,16 +54,16 @@ one-reason {before = before} p q =
     ]
 
 -- where the text of a code stands in the table: nowhere past the last code, and else at its number, but for a string
-past-last : (code : ℕ) → 21 < code → getD texts code "" ≡ ""
+past-last : (code : ℕ) → 22 < code → getD texts code "" ≡ ""
 past-last code h = List·getD-eq-default texts "" {n = code} (omega arith)
 
-pub past : {text : List ℕ} {code start : ℕ} → 21 < code → Placed-at text code start 0
+pub past : {text : List ℕ} {code start : ℕ} → 22 < code → Placed-at text code start 0
 unfolding tabled own
 past {text} {code} {start} h = record { inside = omega arith; has = simp (ne-eqb code 16 (λ e. omega arith), past-last code h) }
 
-pub at-code : {text : List ℕ} {code start : ℕ} → code ≤ 21 → (code ≡ 16 → ⊥) → Placed-at text code start code
+pub at-code : {text : List ℕ} {code start : ℕ} → code ≤ 22 → (code ≡ 16 → ⊥) → Placed-at text code start code
 unfolding tabled own
-at-code {text} {code} {start} h n = record { inside = omega arith; has = simp (ne-eqb code 22 (λ e. omega arith), ne-eqb code 16 n) }
+at-code {text} {code} {start} h n = record { inside = omega arith; has = simp (ne-eqb code 23 (λ e. omega arith), ne-eqb code 16 n) }
 
 pub at-byte : {text : List ℕ} {code start : ℕ} → code ≡ 16 → (getD text start 0 ≡ Quote → ⊥) → Placed-at text code start code
 unfolding tabled own
@@ -88,10 +88,10 @@ of-table : (i : ℕ) → i ≤ last → Entry table i (begins i) (begins (i + 1)
 unfolding table begins tabled same
 of-table i h =
     record {
-      ordered = leb→le _ _ (within (λ k. leb (begins k) (begins (k + 1))) 0 23 i tt (omega arith) (omega arith));
-      inside = leb→le _ _ (within (λ k. leb (begins (k + 1)) (length table)) 0 23 i tt (omega arith) (omega arith));
-      has = same-means _ _ (within (λ k. same (take (begins (k + 1) - begins k) (drop (begins k) table)) (tabled k)) 0 23 i tt (omega arith) (omega arith));
-      short = leb→le _ _ (within (λ k. leb (length (tabled k)) 52) 0 23 i tt (omega arith) (omega arith));
+      ordered = leb→le _ _ (within (λ k. leb (begins k) (begins (k + 1))) 0 24 i tt (omega arith) (omega arith));
+      inside = leb→le _ _ (within (λ k. leb (begins (k + 1)) (length table)) 0 24 i tt (omega arith) (omega arith));
+      has = same-means _ _ (within (λ k. same (take (begins (k + 1) - begins k) (drop (begins k) table)) (tabled k)) 0 24 i tt (omega arith) (omega arith));
+      short = leb→le _ _ (within (λ k. leb (length (tabled k)) 52) 0 24 i tt (omega arith) (omega arith));
     }
 
 pub entry : {ws : List ℕ} {from upto : ℕ} (i : ℕ) → i ≤ last → ws ≡ table → from ≡ begins i → upto ≡ begins (i + 1) → Entry ws i from upto
@@ -103,8 +103,8 @@ unfolding own
 own-fits text code start = either (eqb code 16) _ _ (either (eqb (getD text start 0) Quote) _ _ (omega arith) (omega arith)) (plain code)
   where
     plain : (code : ℕ) → length (bytes (getD texts code "")) ≤ 52
-    plain code = elim (decLe code 21) [
-      | yes h ↦ leb→le _ _ (within (λ k. leb (length (bytes (getD texts k ""))) 52) 0 22 code tt (omega arith) (omega arith))
+    plain code = elim (decLe code 22) [
+      | yes h ↦ leb→le _ _ (within (λ k. leb (length (bytes (getD texts k ""))) 52) 0 23 code tt (omega arith) (omega arith))
       | no h ↦ rw (past-last code (omega arith)) (omega arith)
     ]
 

@@ -30,7 +30,8 @@ texts =
     "a guard has no {, if, | or #" ∷
     "the built-in names are wrong" ∷
     "" ∷ "" ∷
-    "the edition is neither 1 nor 2" ∷ []
+    "the edition is neither 1 nor 2" ∷
+    "the rows are not those of a tree" ∷ []
 
 -- 16: no token starts at a byte, which may be the quote of a string that goes on to the text's end
 abbrev pub Quote : ℕ
@@ -57,9 +58,9 @@ pub record Reason-given (text : List ℕ) (code start expected found : ℕ) (bef
   pub answer : 52 ≤ length before → r ≡ record { code = 0; length = length (reason-of text code start expected found) }
   pub room : 52 ≤ length before → after ≡ reason-of text code start expected found ++ drop (length (reason-of text code start expected found)) before
 
--- the texts at the places of the code's table: by code, at 16 that of a byte, and at 22 that of a string
+-- the texts at the places of the code's table: by code, at 16 that of a byte, and at 23 that of a string
 abbrev pub last : ℕ
-last = 22
+last = 23
 
 unfoldable pub tabled : ℕ → List ℕ
 tabled i = cond (eqb i last) unclosed (cond (eqb i 16) no-token (bytes (getD texts i "")))

@@ -11,7 +11,7 @@ ghost use Rattle.diagnostics.specs.Reason.{last, tabled, table, begins, 
 
 // The texts one after the other: those of the codes, and then that of a string that is not closed. One table is checked faster than an arm with bytes of its own for each
 // code.
-const TEXTS: [u8; 482] = *b"\
+const TEXTS: [u8; 514] = *b"\
     too many tokens: a script has at most 4,095\
     file too large: a script has at most 65,536 bytes\
     the depth limit is not from 1 to 64\
@@ -26,10 +26,11 @@ const TEXTS: [u8; 482] = *b"\
     a guard has no {, if, | or #\
     the built-in names are wrong\
     the edition is neither 1 nor 2\
+    the rows are not those of a tree\
     a string that is not closed";
 
-// Where the text of each code up to 21 starts, and then that of a string; and where they end. That of a code without one starts where the next does.
-const STARTS: [u16; 24] = [
+// Where the text of each code up to 22 starts, and then that of a string; and where they end. That of a code without one starts where the next does.
+const STARTS: [u16; 25] = [
     0,
     0,
     43,
@@ -53,15 +54,16 @@ const STARTS: [u16; 24] = [
     425,
     425,
     455,
-    482,
+    487,
+    514,
 ];
 
 // The place of the string's text in the table, and of no text.
-const STRING: usize = 22;
+const STRING: usize = 23;
 
 const NONE: usize = 0;
 
-const LAST_CODE: u32 = 21;
+const LAST_CODE: u32 = 22;
 
 const NO_TOKEN: u32 = 16;
 
@@ -126,7 +128,7 @@ fn which(text: &[u8], code: u32, start: u32) -> usize
 }
 
 // The texts, to be lent: to name a constant array copies it.
-fn texts() -> [u8; 482]
+fn texts() -> [u8; 514]
     ensures { λ r. ⌜ r ≡ table ⌝ }
 {
     TEXTS
