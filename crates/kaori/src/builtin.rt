@@ -1,7 +1,7 @@
 // The built-in names that a file lists: a name a line, and empty lines between them. The file's text is their text, and a name's row is where its line starts and
 // ends. What a name is, and that no two are the same, is for crate builtins to say.
 use crate::load::end_error;
-use crate::load::put_error;
+use crate::load::put_error_at;
 use builtins::INDEX;
 use builtins::MOST;
 use builtins::NAME_WIDTH;
@@ -9,7 +9,6 @@ use builtins::right;
 use diagnostics::line::place;
 use diagnostics::line::writing_end;
 use page::put;
-use page::put_number;
 ghost use Prim.Native.Nat.{_+_, _*_, _≤_};
 ghost use mathlib.Core.Path.{_≡_};
 ghost use lib.ListN.{length};
@@ -24,10 +23,8 @@ const WRONG: usize = MOST + 1;
 fn complain_at(path: &[u8], text: &[u8], offset: usize, why: &[u8]) {
     let here = place(text, offset);
     let mut out = io::buffer();
-    let named = put_error(path, &mut out);
-    let colon = put(b":", &mut out, named);
-    let line = put_number(here.line, &mut out, colon);
-    let all = put(why, &mut out, line);
+    let placed = put_error_at(path, here.line, &mut out);
+    let all = put(why, &mut out, placed);
     end_error(&mut out, all);
 }
 

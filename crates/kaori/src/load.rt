@@ -4,6 +4,7 @@ use libc::STDERR_FILENO;
 use libc::STDIN_FILENO;
 use page::put;
 use page::put_byte;
+use page::put_number;
 use page::visible::put_path;
 use page::words::least;
 ghost use Prim.Native.Nat.{_≤_};
@@ -31,6 +32,15 @@ pub(crate) fn put_error(what: &[u8], out: &mut [u8; 4096]) -> usize
     let led = put(b"kaori: ", out, 0);
     let n = least(what.len(), LONGEST);
     put_path(&what[..n], out, led)
+}
+
+// The same for a line of a file.
+pub(crate) fn put_error_at(path: &[u8], line: u32, out: &mut [u8; 4096]) -> usize
+    ensures { λ r. ⌜ r ≤ 4096 ⌝ }
+{
+    let named = put_error(path, out);
+    let colon = put_byte(b':', out, named);
+    put_number(line, out, colon)
 }
 
 // Writes the first n bytes of a room to standard error; as a line with the system's reason, where that is wanted.

@@ -1,5 +1,7 @@
-// The command `kaori`, for those who write scripts: what a script reads as, what is wrong with it, what stands at a place of it, what the editions group differently, and what a guard reads as.
+// The command `kaori`, for those who write scripts: what a script reads as, what is wrong with it, what stands at a place of it, what the editions group differently, and what a guard reads as. And for
+// those who write rows: whether they are those of a tree.
 mod builtin;
+mod checked;
 mod compare;
 mod digits;
 mod guard;
@@ -11,6 +13,7 @@ use builtin::list;
 use builtins::MOST;
 use builtins::NAME_WIDTH;
 use check::same;
+use checked::check_rows;
 use compare::compare;
 use digits::decimal;
 use guard::guard;
@@ -25,7 +28,7 @@ ghost use Prim.Native.Nat.{_≤_, _<_};
 ghost use lib.ListN.{length};
 
 // The text of `help`. It is one string, since each one is checked by itself.
-const HELP: [u8; 1606] = *b"\
+const HELP: [u8; 1859] = *b"\
     kaori shows how Kaori reads a script.\n\
     \n\
     \x20 kaori check FILE ..         says what is wrong with a script, and where, and warns of what may not be meant\n\
@@ -35,6 +38,7 @@ const HELP: [u8; 1606] = *b"\
     \x20 kaori at FILE LINE COLUMN   shows what stands at a place, from the innermost node outward\n\
     \x20 kaori compare FILE ..       shows what editions 1 and 2 of Kaori group differently\n\
     \x20 kaori guard TEXT ..         shows what a guard reads as: one expression, with no ;\n\
+    \x20 kaori check-rows FILE ..    says whether rows that another build wrote are those of a tree; FILE is one listing\n\
     \x20 kaori .. then ..            one after the other\n\
     \x20 kaori help                  this text; so do --help and -h\n\
     \x20 kaori --version             which kaori this is\n\
@@ -43,12 +47,13 @@ const HELP: [u8; 1606] = *b"\
     \n\
     \x20 --edition 2                 edition 2 of Kaori; without it, edition 1\n\
     \x20 --names FILE                built-in names, a line each in FILE; the tree marks them\n\
-    \x20 --json                      of check and tree: an object of JSON a line, for programs\n\
+    \x20 --json                      of check, check-rows and tree: an object of JSON a line, for programs\n\
     \x20 --strict                    of check: a warning makes the exit status 1\n\
     \n\
     A script has at most 65,536 bytes and 4,095 tokens, and is nested at most 64 deep. There are at most 64 built-in names.\n\
+    A listing is what rows prints of one script; it has at most 4,096 rows, 4,096 links and 4,160 symbols.\n\
     A byte that is no printed sign of ASCII is shown as \\x and two digits.\n\
-    Exit status: 0 if all scripts are good, 1 if one is not or the editions differ, 2 if a file cannot be read, has no such place or lists no right names, or if what is shown cannot be written.\n";
+    Exit status: 0 if all scripts and rows are good, 1 if one is not or the editions differ, 2 if a file cannot be read, has no such place, is no listing or lists no right names, or if what is shown cannot be written.\n";
 
 const VERSION_LINE: [u8; 51] = *b"kaori 1.0.0: the syntax of Kaori, editions 1 and 2\n";
 
@@ -61,12 +66,12 @@ const UNDONE: u32 = 2;
 
 const STOPPED: u32 = 3;
 
-// The words that a command may have: a cell of 10 bytes each.
-const WORDS: [u8; 150] = *b"\
-    check     compare   at        guard     tree      all       rows      help      --help    -h        \
-    --version --edition --names   --json    --strict  ";
+// The words that a command may have: a cell of 11 bytes each.
+const WORDS: [u8; 176] = *b"\
+    check      compare    at         guard      check-rows tree       all        rows       help       --help     -h         \
+    --version  --edition  --names    --json     --strict   ";
 
-const CELL: usize = 10;
+const CELL: usize = 11;
 
 const CHECK: usize = 0;
 
@@ -76,26 +81,28 @@ const AT: usize = 2;
 
 const GUARD: usize = 3;
 
-const TREE: usize = 4;
+const CHECK_ROWS: usize = 4;
 
-const ROWS_WORD: usize = 6;
+const TREE: usize = 5;
 
-const HELP_WORD: usize = 7;
+const ROWS_WORD: usize = 7;
 
-const VERSION: usize = 10;
+const HELP_WORD: usize = 8;
 
-const EDITION: usize = 11;
+const VERSION: usize = 11;
 
-const NAMES: usize = 12;
+const EDITION: usize = 12;
 
-const JSON: usize = 13;
+const NAMES: usize = 13;
 
-const STRICT: usize = 14;
+const JSON: usize = 14;
 
-const NO_WORD: usize = 15;
+const STRICT: usize = 15;
+
+const NO_WORD: usize = 16;
 
 // The number of a word that blanks fill up.
-fn cell_of(word: &[u8; 10]) -> usize {
+fn cell_of(word: &[u8; 11]) -> usize {
     let table = WORDS;
     let mut i = 0;
     while i < NO_WORD {
@@ -111,7 +118,7 @@ fn cell_of(word: &[u8; 10]) -> usize {
 
 // The number of the word that argument i is.
 fn word_at(i: usize) -> usize {
-    let mut room = [b' '; 10];
+    let mut room = [b' '; 11];
     let n = os::arg(i, &mut room);
     if n == 0 {
         return NO_WORD;
@@ -164,7 +171,23 @@ fn show(
     script(names, rows, wish, path, text, out)
 }
 
-// The script in a file. The system's last error is none when this starts, and a file that is read leaves it so: if there is one in the end, it is that of a write.
+// The status, once something is shown. The system's last error is none before a file or an argument is read, and a read that succeeds leaves it so: if there is one in the end,
+// it is that of a write.
+fn written(status: u32) -> u32
+    requires { ⌜ status ≤ 3 ⌝ }
+    ensures { λ r. ⌜ r ≤ 3 ⌝ }
+{
+    if status == UNDONE {
+        return UNDONE;
+    }
+    if os::errno() != 0 {
+        fail(b"standard output");
+        return STOPPED;
+    }
+    status
+}
+
+// The script in a file.
 fn file(names: &[u8], rows: &[u32], wish: Wish, path: &[u8], out: &mut [u8; 4096]) -> u32
     ensures { λ r. ⌜ r ≤ 3 ⌝ }
 {
@@ -178,15 +201,29 @@ fn file(names: &[u8], rows: &[u32], wish: Wish, path: &[u8], out: &mut [u8; 4096
         return UNDONE;
     }
     let n = loaded.size;
-    let status = show(names, rows, wish, path, &text[..n], out);
-    if status == UNDONE {
+    written(show(names, rows, wish, path, &text[..n], out))
+}
+
+// A room for a listing: more bytes than one has that fits in the rooms of rows.
+fn listing_room() -> [u8; 1048576] {
+    [0; 1048576]
+}
+
+// The listing in a file.
+fn listing(wish: Wish, path: &[u8], out: &mut [u8; 4096]) -> u32
+    ensures { λ r. ⌜ r ≤ 3 ⌝ }
+{
+    let mut text = listing_room();
+    let loaded = load(
+        path,
+        b": file too large: a listing has at most 1,048,576 bytes",
+        &mut text,
+    );
+    if !loaded.whole {
         return UNDONE;
     }
-    if os::errno() != 0 {
-        fail(b"standard output");
-        return STOPPED;
-    }
-    status
+    let n = loaded.size;
+    written(check_rows(wish.edition, wish.json, path, &text[..n], out))
 }
 
 // What is said of argument i, where it has no place.
@@ -206,7 +243,7 @@ fn refuse(i: usize, why: &[u8]) -> u32
 // Whether a word is an option.
 fn is_option(word: usize) -> bool {
     match word {
-        11..=14 => true,
+        12..=15 => true,
         _ => false,
     }
 }
@@ -224,12 +261,7 @@ fn guarded(names: &[u8], rows: &[u32], edition: u32, i: usize, out: &mut [u8; 40
         );
         return UNDONE;
     }
-    let status = guard(names, rows, edition, &text[..n], out);
-    if os::errno() != 0 {
-        fail(b"standard output");
-        return STOPPED;
-    }
-    status
+    written(guard(names, rows, edition, &text[..n], out))
 }
 
 // The file that an argument names, or the guard that it is.
@@ -247,6 +279,9 @@ fn argument(names: &[u8], rows: &[u32], wish: Wish, i: usize, out: &mut [u8; 409
     if os::errno() != 0 {
         fail(b"file name");
         return UNDONE;
+    }
+    if wish.listing {
+        return listing(wish, &path[..n], out);
     }
     file(names, rows, wish, &path[..n], out)
 }
@@ -344,7 +379,7 @@ struct Choice {
 // Whether a command shows trees.
 fn is_tree(word: usize) -> bool {
     match word {
-        4..=5 => true,
+        5..=6 => true,
         _ => false,
     }
 }
@@ -359,6 +394,7 @@ fn wish_of(word: usize, choice: Choice, many: usize) -> Wish {
         heads: false,
         compare: word == COMPARE,
         guard: word == GUARD,
+        listing: word == CHECK_ROWS,
         json: choice.json,
         strict: choice.strict,
         line: 0,
@@ -502,14 +538,29 @@ fn run_beside(word: usize, choice: Choice, end: usize) -> u32
     run_named(&path[..n], &text[..size], word, choice, end)
 }
 
+// Whether a command shows objects of JSON.
+fn has_objects(word: usize) -> bool {
+    match word {
+        CHECK | CHECK_ROWS | TREE => true,
+        _ => false,
+    }
+}
+
 // Whether a command has its options, with a complaint where it has not.
 fn takes(word: usize, choice: Choice) -> bool {
     if choice.json {
-        if word != CHECK {
-            if word != TREE {
-                complain(b"--json", b" goes with check or tree; see kaori help");
-                return false;
-            }
+        if !has_objects(word) {
+            complain(
+                b"--json",
+                b" goes with check, check-rows or tree; see kaori help",
+            );
+            return false;
+        }
+    }
+    if choice.names != 0 {
+        if word == CHECK_ROWS {
+            complain(b"--names", b" goes with scripts; see kaori help");
+            return false;
         }
     }
     if choice.strict {

@@ -22,7 +22,7 @@ use warning::warn;
 ghost use Prim.Native.Nat.{_≤_};
 
 // What is asked for: the edition; the report of a refusal, the statements with their trees, the rows; the names of files above them; both editions side by side; guards and no
-// files; all of it for a program to read; that a warning counts; and what stands at a line and a column, unless the line is 0.
+// files; listings and no scripts; all of it for a program to read; that a warning counts; and what stands at a line and a column, unless the line is 0.
 pub struct Wish {
     pub edition: u32,
     pub report: bool,
@@ -31,6 +31,7 @@ pub struct Wish {
     pub heads: bool,
     pub compare: bool,
     pub guard: bool,
+    pub listing: bool,
     pub json: bool,
     pub strict: bool,
     pub line: u32,

@@ -1,5 +1,6 @@
-//! places COMMAND: what `COMMAND at screen.kaori ..` and `COMMAND --names names.txt ..` print, what its other options do, and
-//! their status, against runs that are written down here. COMMAND is the script `kaori` of the project: the program alone has no status.
+//! places COMMAND: what `COMMAND at screen.kaori ..` and `COMMAND --names names.txt ..` print, what its other options do, what
+//! `COMMAND check-rows ..` says of listings, and their status, against runs that are written down here. COMMAND is the script
+//! `kaori` of the project: the program alone has no status.
 use std::{
     fs::{self, File},
     io::Result,
@@ -218,6 +219,42 @@ const NOT_BYTES: &[&str] = &[
     "        ^^^^^^^^^^ in edition 2",
     "screen.kaori: 1 difference between the editions",
 ];
+/// `beep(a);` as rows; and with the script itself as the argument of the call.
+const BEEP: &[u8] = b"ok 4 2 2\n0 10 0 4 0 0 4 0 0 0 2\n1 10 5 6 1 5 6 0 0 0 2\n2 15 4 7 0 0 1 0 0 0 3\n\
+    3 20 0 0 1 1 4294967295 0 0 0 4294967295\nlink 0 1 0 0\nlink 1 2 0 0\nsym 0 0 4\nsym 1 5 6\n";
+const BEEP_LATE: &[u8] =
+    b"ok 4 2 2\n0 10 0 4 0 0 4 0 0 0 2\n1 10 5 6 1 5 6 0 0 0 2\n2 15 4 7 0 0 1 0 0 0 3\n\
+    3 20 0 0 1 1 4294967295 0 0 0 4294967295\nlink 0 3 0 0\nlink 1 2 0 0\nsym 0 0 4\nsym 1 5 6\n";
+const LATE: &[&str] = &[
+    "screen.kaori: row 2 breaks rule 3: a row names only rows before it, in its links too",
+    "2 15 4 7 0 0 1 0 0 0 3",
+];
+/// `return;` of edition 2.
+const RETURN: &[u8] = b"ok 2 1 0\r\n0 23 0 6 4294967295 0 0 0 0 0 1\r\n1 20 0 0 0 1 4294967295 0 0 0 4294967295\r\nlink 0 0 0 0\r\n";
+const RETURNED: &[&str] = &[
+    "screen.kaori: row 0 breaks rule 7: a row is absent, 4294967295, only where its kind allows that, in its links too",
+    "0 23 0 6 4294967295 0 0 0 0 0 1",
+];
+/// No statements, and a link: in no list; and passed over by the list of the root.
+const LEFT: &[u8] = b"ok 1 1 0\n0 20 0 0 0 0 4294967295 0 0 0 4294967295\nlink 0 7 0 0\n";
+const LEFT_OVER: &[&str] = &[
+    "screen.kaori: row 0 breaks rule 6: lists of links hold all links, and none holds this one",
+    "link 0 7 0 0",
+];
+const PASSED: &[u8] = b"ok 1 1 0\n0 20 0 0 1 0 4294967295 0 0 0 4294967295\nlink 0 7 0 0\n";
+const PASSED_OVER: &[&str] = &[
+    "screen.kaori: row 0 breaks rule 6: lists of links follow each other, in the order of the rows",
+    "0 20 0 0 1 0 4294967295 0 0 0 4294967295",
+];
+const NO_ROWS: &[&str] = &[
+    "screen.kaori: row 0 breaks rule 5: the last row is a Block with no tail, and there is no row",
+    "ok 0 0 0",
+];
+const NO_HEAD: &str = "screen.kaori:1: not the first line of a listing: ok, three counts and a newline";
+const TOO_MANY: &str = "screen.kaori:1: more than 4,096 rows, 4,096 links or 4,160 symbols";
+const NO_ROW: &str = "screen.kaori:2: not row 0: its number, ten numbers and a newline";
+const NO_LINK: &str = "screen.kaori:3: not link 0: link, its number, three numbers and a newline";
+const NO_SYMBOL: &str = "screen.kaori:3: not symbol 0: sym, its number, two numbers and a newline";
 const A: &[&str] =
     &["", "line 1: a", "  reads as", "    a;", "  tree", "    1:1      Identifier                       a"];
 const GUARD: &[&str] =
@@ -250,7 +287,7 @@ const WIDE: &[Wide] = &[
     (b"a;", &["check", "--edition"], &[], "--edition takes 1 or 2; see kaori help", 2),
     (b"a;", &["check", "--names"], &[], "--names takes a file; see kaori help", 2),
     (b"a;", &["tree", "--strict", "screen.kaori"], &[], "--strict goes with check; see kaori help", 2),
-    (b"a;", &["rows", "--json", "screen.kaori"], &[], "--json goes with check or tree; see kaori help", 2),
+    (b"a;", &["rows", "--json", "screen.kaori"], &[], "--json goes with check, check-rows or tree; see kaori help", 2),
     (b"a;", &["--colour", "tree", "screen.kaori"], &[], "--colour: no such command; see kaori help", 2),
     (b"a;", &["check ", "screen.kaori"], &[], "check : no such command; see kaori help", 2),
     (b"a;", &["check", "screen.kaori", "--json"], &[], "--json: options stand before the files; see kaori help", 2),
@@ -271,8 +308,52 @@ const WIDE: &[Wide] = &[
     (b"a", &["--names", "screen.kaori", "guard", "a"], &[GUARD[0], GUARD[1], GUARD[2], GUARD[3], "    1:1      Identifier (built-in)            a"], "", 0),
     (b"", &["guard"], &[], "guard takes a text; see kaori help", 2),
     (b"", &["guard", "a", "--strict"], GUARD, "--strict: options stand before the files; see kaori help", 2),
-    (b"", &["--json", "guard", "a"], &[], "--json goes with check or tree; see kaori help", 2),
+    (b"", &["--json", "guard", "a"], &[], "--json goes with check, check-rows or tree; see kaori help", 2),
     (b"", &["guard", "--strict", "a"], &[], "--strict goes with check; see kaori help", 2),
+    // rows of another build: those of a tree, or the first rule that is broken and the line of the row
+    (BEEP, &["check-rows", "screen.kaori", "-"], &[], "", 0),
+    (BEEP, &["--edition", "2", "check-rows", "screen.kaori"], &[], "", 0),
+    (BEEP, &["check-rows", "--json", "screen.kaori", "-"], &[r#"{"file":"screen.kaori","ok":true}"#, r#"{"file":"-","ok":true}"#], "", 0),
+    (BEEP_LATE, &["check-rows", "screen.kaori"], LATE, "", 1),
+    (BEEP_LATE, &["--json", "check-rows", "screen.kaori"], &[r#"{"file":"screen.kaori","ok":false,"rule":3,"row":2}"#], "", 1),
+    (BEEP_LATE, &["check-rows", "screen.kaori", "empty.kaori"], LATE, "empty.kaori:1: not the first line of a listing: ok, three counts and a newline", 2),
+    (RETURN, &["check-rows", "screen.kaori"], RETURNED, "", 1),
+    (RETURN, &["check-rows", "--edition", "2", "screen.kaori"], &[], "", 0),
+    (LEFT, &["check-rows", "screen.kaori"], LEFT_OVER, "", 1),
+    (PASSED, &["check-rows", "screen.kaori"], PASSED_OVER, "", 1),
+    (b"ok 0 0 0\n", &["check-rows", "screen.kaori"], NO_ROWS, "", 1),
+    (b"ok 0 0 0\n", &["check-rows", "--json", "screen.kaori"], &[r#"{"file":"screen.kaori","ok":false,"rule":5,"row":0}"#], "", 1),
+    // files that are no listing
+    (b"", &["check-rows", "--json", "screen.kaori"], &[], NO_HEAD, 2),
+    (b"ok 0 0\n", &["check-rows", "screen.kaori"], &[], NO_HEAD, 2),
+    (b"ok 0 0 0", &["check-rows", "screen.kaori"], &[], NO_HEAD, 2),
+    (b"ok 0 0 0 \n", &["check-rows", "screen.kaori"], &[], NO_HEAD, 2),
+    (b"ok  0 0 0\n", &["check-rows", "screen.kaori"], &[], NO_HEAD, 2),
+    (b"ok 0 0 4294967296\n", &["check-rows", "screen.kaori"], &[], NO_HEAD, 2),
+    (b"ok 0 0 18446744073709551616\n", &["check-rows", "screen.kaori"], &[], NO_HEAD, 2),
+    (b"== screen.kaori\nok 0 0 0\n", &["check-rows", "screen.kaori"], &[], NO_HEAD, 2),
+    (b"refused 8 1 4 5 2\n", &["check-rows", "screen.kaori"], &[], NO_HEAD, 2),
+    (b"ok 4097 0 0\n", &["check-rows", "screen.kaori"], &[], TOO_MANY, 2),
+    (b"ok 0 4097 0\n", &["check-rows", "screen.kaori"], &[], TOO_MANY, 2),
+    (b"ok 0 0 4161\n", &["check-rows", "screen.kaori"], &[], TOO_MANY, 2),
+    (b"ok 0 0 4160\n", &["check-rows", "screen.kaori"], &[], "screen.kaori:2: the file ends before symbol 0", 2),
+    (b"ok 1 0 0\n", &["check-rows", "screen.kaori"], &[], "screen.kaori:2: the file ends before row 0", 2),
+    (b"ok 1 0 0\n\n", &["check-rows", "screen.kaori"], &[], NO_ROW, 2),
+    (b"ok 1 0 0\n1 20 0 0 0 0 4294967295 0 0 0 4294967295\n", &["check-rows", "screen.kaori"], &[], NO_ROW, 2),
+    (b"ok 1 0 0\n0 20 0 0 0 0 4294967296 0 0 0 4294967295\n", &["check-rows", "screen.kaori"], &[], NO_ROW, 2),
+    (b"ok 1 0 0\n0 20 0 0 0 0 4294967295 0 0 0\n", &["check-rows", "screen.kaori"], &[], NO_ROW, 2),
+    (b"ok 1 0 0\n0 20 0 0 0 0 4294967295 0 0 0 4294967295", &["check-rows", "screen.kaori"], &[], NO_ROW, 2),
+    (b"ok 1 0 0\n0 20 0 0 0 0 4294967295 0 0 0 4294967295\r", &["check-rows", "screen.kaori"], &[], NO_ROW, 2),
+    (b"ok 1 1 0\n0 20 0 0 0 0 4294967295 0 0 0 4294967295\nlink 0 0 0 -1\n", &["check-rows", "screen.kaori"], &[], NO_LINK, 2),
+    (b"ok 1 1 0\n0 20 0 0 0 0 4294967295 0 0 0 4294967295\nsym 0 0 0\n", &["check-rows", "screen.kaori"], &[], NO_LINK, 2),
+    (b"ok 1 0 1\n0 20 0 0 0 0 4294967295 0 0 0 4294967295\nsym 0 0\n", &["check-rows", "screen.kaori"], &[], NO_SYMBOL, 2),
+    (b"ok 1 0 0\n0 20 0 0 0 0 4294967295 0 0 0 4294967295\n\n", &["check-rows", "screen.kaori"], &[], "screen.kaori:3: a line after the last one of the listing", 2),
+    // words and options that do not go with it
+    (BEEP, &["check-rows"], &[], "no file is named; see kaori help", 2),
+    (BEEP, &["check-rows", "gone.rows"], &[], "gone.rows: No such file or directory", 2),
+    (BEEP, &["check-rows", "--strict", "screen.kaori"], &[], "--strict goes with check; see kaori help", 2),
+    (BEEP, &["check-rows", "--names", "empty.kaori", "screen.kaori"], &[], "--names goes with scripts; see kaori help", 2),
+    (BEEP, &["check-rowss", "screen.kaori"], &[], "check-rowss: no such command; see kaori help", 2),
     // bytes that are not printed
     (CONTROL, &["tree", "screen.kaori"], CONTROL_TREE, "", 0),
     (BYTES, &["check", "screen.kaori"], BYTES_LINES, "", 1),
@@ -291,10 +372,31 @@ const FULL: &[(&[&str], &str, i32)] = &[
     (&["rows", "screen.kaori"], "standard output: No space left on device", 2),
     (&["compare", "screen.kaori"], "standard output: No space left on device", 2),
     (&["guard", "a", "b"], "standard output: No space left on device", 2),
+    (&["check-rows", "none.rows", "none.rows"], "standard output: No space left on device", 2),
     (&["help"], "standard output: No space left on device", 2),
     (&["--version"], "standard output: No space left on device", 2),
     (&["check", "screen.kaori", "empty.kaori"], "", 0),
 ];
+
+/// Files of so many blanks, and what `check-rows` says of them.
+const BLANKS: &[(usize, &str)] = &[
+    (1_048_576, NO_HEAD),
+    (1_048_577, "screen.kaori: file too large: a listing has at most 1,048,576 bytes"),
+];
+
+/// Scripts whose rows, as they are listed, are those of a tree, in both editions, without names and beside some.
+const LISTED: &[&str] = &[
+    "",
+    ADVANCE,
+    ENDS,
+    SPELLED,
+    "import a.b: c; while -a { break; continue } if a {} else if b { return nil } else { x = ^y }",
+    "let m = #{\"k\": 1 * 2 + 3, b}; |p, q| {}; a.b(c, d).e; not true or x != y;",
+];
+
+const LISTINGS: &[&[&str]] =
+    &[&["--edition", "1"], &["--edition", "2"], &["--edition", "1", "--names", "names.txt"]];
+const PASSES: &str = r#"{"file":"screen.rows","ok":true}"#;
 
 /// Texts of names.txt, and the line that is wrong: a keyword, blanks, a digit first, a byte past ASCII, two words; a name that
 /// stands above it; and lines that end as they may. The script is refused too, but nothing is said of it.
@@ -384,13 +486,31 @@ fn run(program: &str, folder: &Path) -> Result<ExitCode> {
         differences += differs(wide, &what, lines, error, *status)? as usize;
     }
     fs::write(folder.join("screen.kaori"), "a;")?;
+    fs::write(folder.join("none.rows"), "ok 0 0 0\n")?;
     for (words, error, status) in FULL {
         let mut full = command(words);
         full.stdout(File::create("/dev/full")?);
         differences +=
             differs(full, &format!("{} > /dev/full", words.join(" ")), &[], error, *status)? as usize;
     }
-    let runs = RUNS.len() + NAMED.len() + WRONG.len() + COUNTED.len() + WIDE.len() + FULL.len();
+    for (count, error) in BLANKS {
+        fs::write(folder.join("screen.kaori"), " ".repeat(*count))?;
+        let what = format!("{count} blanks, check-rows");
+        differences += differs(command(&["check-rows", "screen.kaori"]), &what, &[], error, 2)? as usize;
+    }
+    fs::write(folder.join("names.txt"), STATION)?;
+    for script in LISTED {
+        fs::write(folder.join("screen.kaori"), script)?;
+        for options in LISTINGS {
+            let rows = command(&[*options, &["rows", "screen.kaori"]].concat()).output()?.stdout;
+            fs::write(folder.join("screen.rows"), rows)?;
+            let what = format!("\"{}\" {} rows, and check-rows", script.escape_default(), options.join(" "));
+            let edition = ["--edition", options[1], "--json", "check-rows", "screen.rows"];
+            differences += differs(command(&edition), &what, &[PASSES], "", 0)? as usize;
+        }
+    }
+    let listed = BLANKS.len() + LISTED.len() * LISTINGS.len();
+    let runs = RUNS.len() + NAMED.len() + WRONG.len() + COUNTED.len() + WIDE.len() + FULL.len() + listed;
     println!("{runs} runs, {differences} differences");
     Ok(ExitCode::from((differences > 0) as u8))
 }

@@ -5,10 +5,10 @@ use Rattle.kaori.proofs.cell_of.Statement.{statement}
 use Rattle.kaori.proofs.cell_of.Tie as tie
 
 abbrev Inv-loop : tie.InvT-loop
-Inv-loop word table i₀ i = i ≤ 15
+Inv-loop word table i₀ i = i ≤ 16
 
 abbrev μ-loop : tie.MeasureT-loop
-μ-loop word table i₀ i = 15 - i
+μ-loop word table i₀ i = 16 - i
 
 pub cell-of-spec : {M : Type 1} → statement M
 cell-of-spec =
