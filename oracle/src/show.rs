@@ -3,7 +3,9 @@ use crate::{
     case::Case,
     kinds::name,
     rooms::{Lent, WIDTHS},
+    rows::NODE_WIDTH,
     told::Question,
+    verdicts::RowSet,
 };
 
 pub fn case(input: &[u8]) -> String {
@@ -34,6 +36,40 @@ pub fn case(input: &[u8]) -> String {
 pub fn answer(output: &[u8]) -> String {
     let text = String::from_utf8_lossy(output);
     text.lines().map(|line| format!("         {line}\n")).collect()
+}
+
+/// A row set: what is lent, and then its rows. A row past the count has no number.
+pub fn row_set(set: &RowSet) -> String {
+    let RowSet { edition, counts, rooms, scratch } = set;
+    let [nodes, links, symbols] = rooms;
+    let sizes = [nodes.len(), links.len(), symbols.len(), *scratch as usize];
+    let mut text = format!("edition  {edition}\ncounts   {counts:?}\nrooms    {sizes:?} numbers\n");
+    let widths = [NODE_WIDTH, 3, 2];
+    for (((room, width), count), lead) in rooms.iter().zip(widths).zip(counts).zip(["", "link ", "sym "]) {
+        for (number, row) in room.chunks(width).enumerate() {
+            let is_counted = row.len() == width && number < *count as usize;
+            let lead = if is_counted { format!("{lead}{number}") } else { format!("{lead}-") };
+            text += &format!("{lead:<9}{}\n", numbers(row));
+        }
+    }
+    text
+}
+
+/// The verdict on a row set, and scratch as it was left.
+pub fn verdict(answer: &[u32]) -> String {
+    let (verdict, scratch) = answer.split_at(answer.len().min(3));
+    let left = match scratch.first() {
+        None => "empty".to_string(),
+        Some(first) if scratch.iter().all(|number| number == first) => {
+            format!("{} times {first}", scratch.len())
+        }
+        _ => numbers(scratch),
+    };
+    format!("         {}\nscratch  {left}\n", numbers(verdict))
+}
+
+fn numbers(numbers: &[u32]) -> String {
+    numbers.iter().map(u32::to_string).collect::<Vec<_>>().join(" ")
 }
 
 fn hex(bytes: &[u8]) -> String {

@@ -1,5 +1,13 @@
-//! Makes an input, or the built-in names beside it, smaller for as long as something stays true of it.
-use crate::{builtins::Builtins, case::Case};
+//! Makes an input, or the built-in names beside it, or a row set, smaller for as long as something stays true of it.
+use std::collections::BTreeSet;
+
+use crate::{
+    builtins::Builtins,
+    case::Case,
+    rows::{PARENT, Rows},
+    slots::{drop_link, places, renumber, row},
+    verdicts::RowSet,
+};
 
 /// The tries after which it is taken as it is.
 const TRIES: usize = 3_000;
@@ -27,6 +35,55 @@ pub fn shrunk_names(names: Builtins, stays: impl FnMut(&Builtins) -> bool) -> Bu
         Some(names)
     });
     search.least
+}
+
+/// Rows are dropped, with their links and without, then links, symbols and numbers that are left over; and then numbers become 0.
+pub fn shrunk_set(set: RowSet, stays: impl FnMut(&RowSet) -> bool) -> RowSet {
+    let mut search = Search { least: set, stays, tries: 0 };
+    loop {
+        let before = search.least.encode().len();
+        search.drop_rows(0, without_nodes);
+        search.drop_rows(0, |rows, from, count| {
+            rows.nodes.drain(from..from + count);
+            move_down(rows, from, count);
+        });
+        search.drop_rows(1, |rows, from, count| {
+            (from..from + count).rev().for_each(|link| drop_link(rows, link));
+        });
+        search.drop_rows(2, |rows, from, count| drop(rows.symbols.drain(from..from + count)));
+        search.drop_left_over();
+        if search.least.encode().len() == before {
+            break;
+        }
+    }
+    search.clear();
+    search.least
+}
+
+/// Without these rows, their links and the links that name them; a row that names one of them itself becomes a Nil.
+fn without_nodes(rows: &mut Rows, from: usize, count: usize) {
+    let dropped = from..from + count;
+    let mut links = BTreeSet::new();
+    for place in places(rows) {
+        let names = place.names_a_row() && dropped.contains(&(place.get(rows) as usize));
+        match place.link {
+            Some(link) if names || dropped.contains(&place.row) => drop(links.insert(link)),
+            None if names => {
+                let parent = rows.nodes[place.row][PARENT];
+                rows.nodes[place.row] = row(14, &[]);
+                rows.nodes[place.row][PARENT] = parent;
+            }
+            _ => {}
+        }
+    }
+    links.into_iter().rev().for_each(|link| drop_link(rows, link));
+    rows.nodes.drain(dropped);
+    move_down(rows, from, count);
+}
+
+/// The rows behind those that were dropped have other numbers.
+fn move_down(rows: &mut Rows, from: usize, count: usize) {
+    renumber(rows, |number| number - if number as usize >= from + count { count as u32 } else { 0 });
 }
 
 struct Search<T, F> {
@@ -76,6 +133,54 @@ impl<T, F: FnMut(&T) -> bool> Search<T, F> {
                 }
             }
             count /= 2;
+        }
+    }
+}
+
+impl<F: FnMut(&RowSet) -> bool> Search<RowSet, F> {
+    /// Drops rows of this room, where the rooms have all that are counted. What is left over stays.
+    fn drop_rows(&mut self, room: usize, without: impl Fn(&mut Rows, usize, usize)) {
+        self.drop_parts(self.least.counts[room] as usize, |set, from, count| {
+            let mut rows = set.rows()?;
+            let need = RowSet::of(set.edition, &rows);
+            without(&mut rows, from, count);
+            let mut smaller = RowSet::of(set.edition, &rows);
+            for room in 0..3 {
+                smaller.rooms[room].extend(&set.rooms[room][need.rooms[room].len()..]);
+            }
+            smaller.scratch = (smaller.scratch + set.scratch).saturating_sub(need.scratch);
+            Some(smaller)
+        });
+    }
+
+    /// Drops numbers at the end of each room.
+    fn drop_left_over(&mut self) {
+        for room in 0..3 {
+            self.drop_parts(self.least.rooms[room].len(), |set, from, count| {
+                let mut set = set.clone();
+                let is_end = from + count == set.rooms[room].len();
+                set.rooms[room].truncate(from);
+                is_end.then_some(set)
+            });
+        }
+        self.drop_parts(self.least.scratch as usize, |set, _, count| {
+            Some(RowSet { scratch: set.scratch - count as u32, ..set.clone() })
+        });
+    }
+
+    /// Makes each number 0 that can be.
+    fn clear(&mut self) {
+        for room in 0..3 {
+            for place in 0..self.least.rooms[room].len() {
+                let mut cleared = self.least.clone();
+                cleared.rooms[room][place] = 0;
+                if cleared != self.least && self.tries < TRIES {
+                    self.tries += 1;
+                    if (self.stays)(&cleared) {
+                        self.least = cleared;
+                    }
+                }
+            }
         }
     }
 }

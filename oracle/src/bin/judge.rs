@@ -1,16 +1,25 @@
 //! The original as a program: prints what `rows` must print for standard input; with `--batch`, answers a
-//! framed stream of such inputs. ORACLE_DAMAGE=TEXT spoils the answers that contain TEXT, so that a comparison
-//! can be tried.
+//! framed stream of such inputs. With `--verdicts` it is the checker of `verdicts.rs`, and answers a framed stream of row sets.
+//! ORACLE_DAMAGE=TEXT spoils the answers that contain TEXT, so that a comparison can be tried; of a row set's answer that text is
+//! the code, the rule and the row, each after a blank.
 use std::io::{self, BufReader, BufWriter, Read, Write};
 
-use oracle::{frame, rooms::Judge};
+use oracle::{frame, rooms::Judge, texts::encoded, verdicts::RowSet};
 
 fn main() -> io::Result<()> {
     let damage = std::env::var("ORACLE_DAMAGE").ok();
-    let batch = std::env::args().nth(1).is_some_and(|word| word == "--batch");
+    let mode = std::env::args().nth(1);
+    let batch = mode.as_deref() == Some("--batch");
+    if mode.as_deref() == Some("--verdicts") {
+        return verdicts(damage.as_deref());
+    }
     oracle::with_large_stack(move || {
         let mut judge = Judge::default();
-        let mut answered = |case: &[u8]| spoiled(judge.answer(case), damage.as_deref());
+        let mut answered = |case: &[u8]| {
+            let answer = judge.answer(case);
+            let text = String::from_utf8_lossy(&answer).into_owned();
+            spoiled(answer, &text, damage.as_deref())
+        };
         let mut input = BufReader::new(io::stdin().lock());
         let mut output = BufWriter::new(io::stdout().lock());
         if batch {
@@ -26,8 +35,20 @@ fn main() -> io::Result<()> {
     })
 }
 
-fn spoiled(mut answer: Vec<u8>, damage: Option<&str>) -> Vec<u8> {
-    let text = String::from_utf8_lossy(&answer);
+/// Ends at a frame that is broken.
+fn verdicts(damage: Option<&str>) -> io::Result<()> {
+    let mut input = BufReader::new(io::stdin().lock());
+    let mut output = BufWriter::new(io::stdout().lock());
+    while let Some(frame) = frame::read(&mut input)? {
+        let Some(set) = RowSet::decode(&frame) else { return Err(io::ErrorKind::InvalidData.into()) };
+        let answer = set.answer();
+        let text: String = answer[..3].iter().map(|number| format!(" {number}")).collect();
+        frame::write(&mut output, &spoiled(encoded(&answer), &text, damage))?;
+    }
+    output.flush()
+}
+
+fn spoiled(mut answer: Vec<u8>, text: &str, damage: Option<&str>) -> Vec<u8> {
     if damage.is_some_and(|damage| text.contains(damage)) {
         answer[0] = b'?';
     }
