@@ -117,6 +117,7 @@ const CHANGES: &[Changes] = &[
     (26, &[(3, 1 << 31), (4, 1 << 31)]), (26, &[(3, 0), (4, ABSENT)]), (26, &[(3, 2), (5, 0)]), (26, &[(5, 0), (6, 0)]),
 ];
 
+/// These, and a link that is left over.
 pub fn small_changes() -> Vec<(Sort, RowSet)> {
     let changed = |(kind, changes): &Changes| {
         let mut rows = least(if *kind == 0 { 14 } else { *kind }, None);
@@ -124,7 +125,12 @@ pub fn small_changes() -> Vec<(Sort, RowSet)> {
         changes.iter().for_each(|(column, value)| rows.nodes[row][*column] = *value);
         (Sort::Damaged, RowSet::of(SECOND, &rows))
     };
-    CHANGES.iter().map(changed).collect()
+    let left_over = [14, 26].map(|kind| {
+        let mut rows = least(kind, None);
+        rows.links.push([0, 0, 0]);
+        (Sort::Damaged, RowSet::of(SECOND, &rows))
+    });
+    CHANGES.iter().map(changed).chain(left_over).collect()
 }
 
 /// The least rows with each kind, right and with a number just out of range, and without each of its children in turn. Both editions
