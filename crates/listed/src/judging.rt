@@ -11,7 +11,7 @@ use page::put;
 use page::source::show_written;
 use page::visible::put_path;
 use page::words::put_cell;
-ghost use Prim.Native.Nat.{_*_, _≤_, _<_};
+ghost use Prim.Native.Nat.{_≤_, _<_};
 ghost use lib.ListN.{length};
 
 // Rule 6, that lists of links follow each other and hold all links.
@@ -42,7 +42,7 @@ const UNHELD: usize = 9;
 
 const NO_ROW: usize = 10;
 
-// What is shown below a rule: which of the words, and which line of the listing, from 0 on.
+// What is shown of a rule that is broken: which of the words, and which line of the listing, from 0 on.
 struct Told {
     words: usize,
     line: usize,
@@ -58,7 +58,7 @@ fn words_of(rule: u32) -> usize
     }
 }
 
-// What is shown where row `row` breaks a rule, and the lists hold so many links.
+// Where the lists hold so many links.
 fn choose(l: Listed, v: Verdict, held: u32) -> Told
     ensures { λ r. ⌜ r .words < 11 ⌝ }
 {
@@ -136,6 +136,7 @@ fn show_object(path: &[u8], v: Verdict, out: &mut [u8; 4096]) {
     end_line(out, all);
 }
 
+// A number of a row, for a sum.
 fn wide(x: u32) -> u64
     ensures { λ r. ⌜ r ≤ 4294967295 ⌝ }
 {
