@@ -1,5 +1,5 @@
-// Whether rows that another build wrote are those of a tree: nine rules, in their order. Each is a pass over the rows, and no pass looks at a link more than twice, also
-// where lists overlap.
+// Whether rows that another build wrote are those of a tree: nine rules, in their order. Each is a pass over the rows, and no pass looks at a link more than four times,
+// also where lists overlap.
 mod follow;
 mod keep;
 mod kinds;
