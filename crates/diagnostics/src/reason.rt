@@ -11,7 +11,7 @@ ghost use Rattle.diagnostics.specs.Reason.{last, tabled, table, begins, 
 
 // The texts one after the other: those of the codes, and then that of a string that is not closed. One table is checked faster than an arm with bytes of its own for each
 // code.
-const TEXTS: [u8; 514] = *b"\
+const TEXTS: [u8; 557] = *b"\
     too many tokens: a script has at most 4,095\
     file too large: a script has at most 65,536 bytes\
     the depth limit is not from 1 to 64\
@@ -25,6 +25,7 @@ const TEXTS: [u8; 514] = *b"\
     no token starts here\
     a guard has no {, if, | or #\
     the built-in names are wrong\
+    the scripts' count, cuts or rooms are wrong\
     the edition is neither 1 nor 2\
     the rows are not those of a tree\
     a string that is not closed";
@@ -51,11 +52,11 @@ const STARTS: [u16; 25] = [
     369,
     397,
     425,
-    425,
-    425,
-    455,
-    487,
-    514,
+    468,
+    468,
+    498,
+    530,
+    557,
 ];
 
 // The place of the string's text in the table, and of no text.
@@ -128,7 +129,7 @@ fn which(text: &[u8], code: u32, start: u32) -> usize
 }
 
 // The texts, to be lent: to name a constant array copies it.
-fn texts() -> [u8; 514]
+fn texts() -> [u8; 557]
     ensures { λ r. ⌜ r ≡ table ⌝ }
 {
     TEXTS
