@@ -41,9 +41,6 @@ is-true {b = true} e = rw e (holds refl)
 is-true {b = false} e = rw e (fails false≢true)
 
 -- an answer that decides, once its truth is known
-pub said : {P : Type 0} {r b : Bool} → Decides P r → r ≡ b → Decides P b
-said d e = rw (sym e) d
-
 -- ends of lines
 past-text : (text : List ℕ) (i : ℕ) → length text ≤ i → ends text i ≡ false
 unfolding ends

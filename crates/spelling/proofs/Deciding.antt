@@ -2,7 +2,7 @@
 use Prim.Native.Nat.{ℕ}
 use mathlib.Core.Bool.{Bool, true, false}
 use mathlib.Core.List.{List}
-use mathlib.Core.Path.{_≡_, refl}
+use mathlib.Core.Path.{_≡_, refl, sym}
 use lib.Dec.{T}
 use Rattle.grammar.specs.Derivative.{matches}
 use Rattle.grammar.specs.Pattern.{Pattern, Matches}
@@ -37,6 +37,10 @@ module _ {P : Type 0} where
   decided-once {r = true} {s = false} d e = absurd (failed e (held d))
   decided-once {r = false} {s = true} d e = absurd (failed d (held e))
   decided-once {r = false} {s = false} d e = refl
+
+-- an answer that decides, once the branch is known
+pub said : {P : Type 0} {r b : Bool} → Decides P r → r ≡ b → Decides P b
+said d e = rw (sym e) d
 
 pub carried : {P Q : Type 0} {r : Bool} → (P → Q) → (Q → P) → Decides P r → Decides Q r
 carried {r = true} f g d = holds (f (held d))

@@ -1,8 +1,8 @@
 -- `is_any` meets its contract: the first rule that is met, or the last.
 use borrow.Author.Needs.{needs}
-use Rattle.spelling.proofs.Deciding.{holds, held, failed}
+use Rattle.spelling.proofs.Deciding.{holds, held, failed, said}
 use Rattle.lint.specs.Rules.{Any}
-use Rattle.lint.proofs.Laws.{said, any-of}
+use Rattle.lint.proofs.Laws.{any-of}
 use Rattle.lint.proofs.is_any.Statement.{statement}
 use Rattle.lint.proofs.is_any.Tie as tie
 

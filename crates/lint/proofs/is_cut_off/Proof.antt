@@ -4,9 +4,9 @@ use borrow.Author.Tests.{not-true, not-false}
 use Prim.Native.Nat.{_-_, _≤_}
 use native.Mathlib.Omega.{arith}
 use Rattle.lint.specs.Rules.{Cut-at}
-use Rattle.spelling.proofs.Deciding.{held, failed}
+use Rattle.spelling.proofs.Deciding.{held, failed, said}
 use Rattle.children.proofs.Laws.{number-is}
-use Rattle.lint.proofs.Laws.{Passed, begun, one-more, not-closed, no-statement, cut-found, cut-nowhere, said}
+use Rattle.lint.proofs.Laws.{Passed, begun, one-more, not-closed, no-statement, cut-found, cut-nowhere}
 use Rattle.lint.proofs.is_cut_off.Statement.{statement}
 use Rattle.lint.proofs.is_cut_off.Tie as tie
 

@@ -3,9 +3,9 @@ use borrow.Author.Needs.{needs}
 use mathlib.Core.Path.{_≡_}
 use Rattle.lint.specs.Reach.{last}
 use Rattle.lint.specs.Rules.{Reached}
-use Rattle.spelling.proofs.Deciding.{held, failed}
+use Rattle.spelling.proofs.Deciding.{held, failed, said}
 use Rattle.children.proofs.Laws.{number-is}
-use Rattle.lint.proofs.Laws.{Walked, setting-out, a-step, reaching-from, reaching-nothing, no-not, said}
+use Rattle.lint.proofs.Laws.{Walked, setting-out, a-step, reaching-from, reaching-nothing, no-not}
 use Rattle.lint.proofs.is_reaching.Statement.{statement}
 use Rattle.lint.proofs.is_reaching.Tie as tie
 

@@ -1,9 +1,9 @@
 -- `next` meets its contract: one row after another.
 use borrow.Author.Needs.{needs}
 use Prim.Native.Nat.{_-_}
-use Rattle.spelling.proofs.Deciding.{held, failed}
+use Rattle.spelling.proofs.Deciding.{held, failed, said}
 use Rattle.lint.specs.Rules.{Meets}
-use Rattle.lint.proofs.Laws.{Passed, begun, one-more, next-found, next-none, said}
+use Rattle.lint.proofs.Laws.{Passed, begun, one-more, next-found, next-none}
 use Rattle.lint.proofs.next.Statement.{statement}
 use Rattle.lint.proofs.next.Tie as tie
 

@@ -3,8 +3,8 @@ use borrow.Author.Needs.{needs}
 use Prim.Native.Nat.{_-_}
 use mathlib.Core.Path.{refl}
 use Rattle.lint.specs.Reach.{Past}
-use Rattle.spelling.proofs.Deciding.{held, failed}
-use Rattle.lint.proofs.Laws.{Passed, begun, one-more, first-found, first-none, said}
+use Rattle.spelling.proofs.Deciding.{held, failed, said}
+use Rattle.lint.proofs.Laws.{Passed, begun, one-more, first-found, first-none}
 use Rattle.lint.proofs.reach.first_past.Statement.{statement}
 use Rattle.lint.proofs.reach.first_past.Tie as tie
 
