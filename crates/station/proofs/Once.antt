@@ -21,7 +21,8 @@ use Rattle.grammar.specs.Profile.{Profile}
 use Rattle.grammar.specs.Room.{Rooms}
 use Rattle.naming.proofs.Telling.{one-place as one-name-place}
 use Rattle.reader.proofs.Texts.{one-read as one-answer}
-use Rattle.station.specs.Exports.{listed, placed, name-placed, told, put, Parses, Reads-text, Places, Writes, Writes-reason, Names-place, Tells-expected, Has-child, Has-places, Checks-rows}
+use Rattle.scripts.specs.Joined.{listed}
+use Rattle.station.specs.Exports.{placed, name-placed, told, put, Parses, Reads-text, Places, Writes, Writes-reason, Names-place, Tells-expected, Has-child, Has-places, Checks-rows}
 use Rattle.syntax.proofs.Promises.{one-parse as one-tree}
 
 pub one-parse : {p : Profile} {names : Builtins} {text ts : List ℕ} {edition limit : ℕ} {before after after′ : Rooms} {room out out′ : List ℕ} {r r′ : ℕ} → Parses p names text ts edition limit before room after out r → Parses p names text ts edition limit before room after′ out′ r′ → (r ≡ r′) × (out ≡ out′) × (after ≡ after′)

@@ -1,6 +1,6 @@
 -- What the exported functions answer: what `parse_as`, `read_as`, `message`, `reason`, `expected`, the two `place`, `check` and, of what stands below a row, `child` and `places` answer. C gets an answer of more than one number at the start of a lent room, the
 -- numbers in document 01's order, and its code once more as the value of the call. Where that room is too short the code is 13, and nothing else is done. Of what could have stood at a token the
--- value of the call is the set of kinds, which stands in no room and is answered in any.
+-- value of the call is the set of kinds, which stands in no room and is answered in any. What `parse_scripts` and `read_scripts` answer is a code and rooms already: the two exports have their contract.
 use Prim.Native.Nat.{ℕ, _≤_, _<_}
 use mathlib.Core.List.{List, [], _∷_, _++_}
 use lib.ListN.{length, drop}
@@ -21,12 +21,9 @@ use Rattle.grammar.specs.Room.{Rooms}
 use Rattle.naming.specs.Name.{Place-told}
 use Rattle.naming.specs.declared.PlaceAnswer.{PlaceAnswer}
 use Rattle.reader.specs.Answered.{Read}
+use Rattle.scripts.specs.Joined.{listed}
 use Rattle.syntax.specs.Parsed.{Parsed}
 use Rattle.syntax.specs.declared.Numbers.{Numbers}
-
--- 'code, three row counts, at, start, end, expected'
-abbrev pub listed : Numbers → List ℕ
-listed a = a .code ∷ a .nodes ∷ a .links ∷ a .symbols ∷ a .at ∷ a .start ∷ a .end ∷ a .expected ∷ []
 
 abbrev pub placed : Place → List ℕ
 placed p = p .code ∷ p .line ∷ p .column ∷ []

@@ -1,5 +1,5 @@
-// What a station links: `parse_with`, `read_with` and the same of guards, those of scripts of edition 1 beside no names too, the message of a refusal and the text of any, what could have stood there, the
-// line of a place, the place of a name, what stands below a row and whether rows that another build wrote keep the rules, for C and Rust to call, over numbers and slices alone.
+// What a station links: `parse_with`, `read_with` and the same of guards, those of scripts of edition 1 beside no names too, a station's scripts in one call, the message of a refusal and the text of any, what could
+// have stood there, the line of a place, the place of a name, what stands below a row and whether rows that another build wrote keep the rules, for C and Rust to call, over numbers and slices alone.
 // None has a `requires`. A slice is a pointer and a length to C, in this order.
 use checker::check;
 use children::below;
@@ -12,7 +12,8 @@ use expected::Chain;
 use expected::Told;
 use expected::expected;
 use reader::read_as;
-use syntax::Numbers;
+use scripts::parse_scripts;
+use scripts::read_scripts;
 use syntax::parse_as;
 use token::editions;
 use token::profiles::Profile;
@@ -23,24 +24,10 @@ ghost use Rattle.grammar.specs.Builtin.{builtins as names-in, none};
 ghost use Rattle.grammar.specs.Profile.{script as a-script, guard as a-guard};
 ghost use Rattle.ast.specs.Written.{Written};
 ghost use Rattle.checker.specs.Verdict.{given};
-ghost use Rattle.station.specs.Exports.{listed, put, pairs, told, Parses, Reads-text, Places, Writes, Writes-reason, Names-place, Tells-expected, Has-child, Has-places, Checks-rows};
+ghost use Rattle.scripts.specs.Joined.{Source, Answers-all, lent, joined};
+ghost use Rattle.station.specs.Exports.{put, pairs, told, Parses, Reads-text, Places, Writes, Writes-reason, Names-place, Tells-expected, Has-child, Has-places, Checks-rows};
 ghost use Rattle.syntax.specs.Parsed.{rooms};
 ghost use Rattle.token.specs.Profiled.{profiled};
-
-// Puts the eight numbers of an answer at the start of a room.
-fn list(a: Numbers, room: &mut [u32])
-    requires { ⌜ 8 ≤ length (now room) ⌝ }
-    ensures { λ _. ⌜ now (room .exit) ≡ put (listed a) (now (room .entry)) ⌝ }
-{
-    room[0] = a.code;
-    room[1] = a.nodes;
-    room[2] = a.links;
-    room[3] = a.symbols;
-    room[4] = a.at;
-    room[5] = a.start;
-    room[6] = a.end;
-    room[7] = a.expected;
-}
 
 // Reads a script or a guard that is given as text and tokens: `parse_as`.
 fn parsed(
@@ -75,7 +62,7 @@ fn parsed(
         symbols,
         scratch,
     );
-    list(a, answer);
+    scripts::put(a, answer);
     a.code
 }
 
@@ -213,7 +200,7 @@ fn read_text(
         symbols,
         scratch,
     );
-    list(a, answer);
+    scripts::put(a, answer);
     a.code
 }
 
@@ -315,6 +302,81 @@ pub extern "C" fn kaori_read(
         symbols,
         scratch,
         answer,
+    )
+}
+
+// Reads up to 32 scripts that are given as one joined text and one joined list of tokens: `parse_scripts`. Its code is 0 or 19, and each script's own stands in `answers`. There is no 13: too little
+// room for the answers is 19, since they are among the rooms that document 02 has it for.
+// Ruled out: how many numbers a part has in the place of its rows; a refused script's code as the value of the call.
+#[no_mangle]
+pub extern "C" fn kaori_parse_scripts(
+    names: &[u8],
+    rows: &[u32],
+    text: &[u8],
+    tokens: &[u32],
+    cuts: &[u32],
+    edition: u32,
+    limit: u32,
+    part: u32,
+    nodes: &mut [u32],
+    links: &mut [u32],
+    symbols: &mut [u32],
+    scratch: &mut [u32],
+    answers: &mut [u32],
+) -> u32
+    ensures { λ r. ⌜ Answers-all Source.given (joined (names-in (now (names .entry)) (now (rows .entry))) (now (text .entry)) (now (cuts .entry)) edition limit part (lent (now (tokens .entry)) (now (nodes .entry)) (now (links .entry)) (now (symbols .entry)) (now (scratch .entry)) (now (answers .entry)))) r (lent (now (tokens .entry)) (now (nodes .exit)) (now (links .exit)) (now (symbols .exit)) (now (scratch .exit)) (now (answers .exit))) ⌝ }
+{
+    parse_scripts(
+        names,
+        rows,
+        text,
+        tokens,
+        cuts,
+        edition,
+        limit,
+        part,
+        nodes,
+        links,
+        symbols,
+        scratch,
+        answers,
+    )
+}
+
+// Reads up to 32 scripts that are given as one joined text; `list` takes each one's token list in its part: `read_scripts`. Its codes are those of `kaori_parse_scripts`.
+// Ruled out: a list in another script's part; the depth limit in the place of the edition.
+#[no_mangle]
+pub extern "C" fn kaori_read_scripts(
+    names: &[u8],
+    rows: &[u32],
+    text: &[u8],
+    list: &mut [u32],
+    cuts: &[u32],
+    edition: u32,
+    limit: u32,
+    part: u32,
+    nodes: &mut [u32],
+    links: &mut [u32],
+    symbols: &mut [u32],
+    scratch: &mut [u32],
+    answers: &mut [u32],
+) -> u32
+    ensures { λ r. ⌜ Answers-all Source.made (joined (names-in (now (names .entry)) (now (rows .entry))) (now (text .entry)) (now (cuts .entry)) edition limit part (lent (now (list .entry)) (now (nodes .entry)) (now (links .entry)) (now (symbols .entry)) (now (scratch .entry)) (now (answers .entry)))) r (lent (now (list .exit)) (now (nodes .exit)) (now (links .exit)) (now (symbols .exit)) (now (scratch .exit)) (now (answers .exit))) ⌝ }
+{
+    read_scripts(
+        names,
+        rows,
+        text,
+        list,
+        cuts,
+        edition,
+        limit,
+        part,
+        nodes,
+        links,
+        symbols,
+        scratch,
+        answers,
     )
 }
 

@@ -9,8 +9,8 @@ use Rattle.checker.specs.Verdict.{Tells}
 use Rattle.checker.specs.declared.Verdict.{Verdict}
 use Rattle.foreign.specs.Check.{Given}
 use Rattle.grammar.specs.Room.{Rooms}
+use Rattle.scripts.proofs.Stores.{three}
 use Rattle.station.specs.Exports.{put, Checks-rows}
-use Rattle.station.proofs.Stores.{three}
 use Rattle.station.proofs.kaori_check.Statement.{statement}
 use Rattle.station.proofs.kaori_check.Tie as tie
 

@@ -7,8 +7,8 @@ use mathlib.Core.Path.{_≡_}
 use lib.ListN.{length, length-set}
 use Rattle.naming.specs.Name.{Place-told}
 use Rattle.naming.specs.declared.PlaceAnswer.{PlaceAnswer}
+use Rattle.scripts.proofs.Stores.{three}
 use Rattle.station.specs.Exports.{name-placed, put, Names-place}
-use Rattle.station.proofs.Stores.{three}
 use Rattle.station.proofs.kaori_name.Statement.{statement}
 use Rattle.station.proofs.kaori_name.Tie as tie
 

@@ -7,8 +7,8 @@ use mathlib.Core.Path.{_≡_}
 use lib.ListN.{length, length-set}
 use Rattle.diagnostics.specs.Line.{Placed}
 use Rattle.diagnostics.specs.declared.Place.{Place}
+use Rattle.scripts.proofs.Stores.{three}
 use Rattle.station.specs.Exports.{placed, put, Places}
-use Rattle.station.proofs.Stores.{three}
 use Rattle.station.proofs.kaori_place.Statement.{statement}
 use Rattle.station.proofs.kaori_place.Tie as tie
 

@@ -9,7 +9,7 @@ returns : tie.Need-returns
 returns c = Parses.short (omega arith)
 
 returns-2 : tie.Need-returns-2
-returns-2 c = rw (c .before .before .list .ensures) (Parses.parsed (omega arith) (c .before .before .before .before .before .before .before .before .before .before .before .before .parse-as .ensures))
+returns-2 c = rw (c .before .before .put .ensures) (Parses.parsed (omega arith) (c .before .before .before .before .before .before .before .before .before .before .before .before .parse-as .ensures))
 
 pub parsed-spec : {M : Type 1} → statement M
 parsed-spec = tie.close (tie.spec returns (λ c κs. search needs) (λ c κs. search needs) (λ c. search needs) (λ c. search needs) (λ c. search needs) (λ c. search needs) (λ c. search needs) returns-2)

@@ -9,7 +9,7 @@ returns : tie.Need-returns
 returns c = Reads-text.short (omega arith)
 
 returns-2 : tie.Need-returns-2
-returns-2 c = rw (c .before .before .list .ensures) (Reads-text.read (omega arith) (c .before .before .before .before .before .before .before .before .before .before .before .before .before .before .read-as .ensures))
+returns-2 c = rw (c .before .before .put .ensures) (Reads-text.read (omega arith) (c .before .before .before .before .before .before .before .before .before .before .before .before .before .before .read-as .ensures))
 
 pub read-text-spec : {M : Type 1} → statement M
 read-text-spec = tie.close (tie.spec returns (λ c κs. search needs) (λ c κs. search needs) (λ c. search needs) (λ c. search needs) (λ c. search needs) (λ c. search needs) (λ c. search needs) (λ c. search needs) returns-2)
