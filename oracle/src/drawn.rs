@@ -280,7 +280,8 @@ enum Place {
     Expression,
 }
 
-fn nested(edition: u32, is_guard: bool, random: &mut Random) -> Vec<Word> {
+/// Constructs inside each other, around the limit.
+pub fn nested(edition: u32, is_guard: bool, random: &mut Random) -> Vec<Word> {
     let (mut front, mut back) = (Vec::new(), Vec::new());
     let mut place = if is_guard { Place::Expression } else { Place::Statement };
     for _ in 0..random.between(40, 66) {

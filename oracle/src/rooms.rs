@@ -27,7 +27,7 @@ pub const WIDTHS: Rooms = [NODE_WIDTH as u32, 3, 2, 3];
 /// The largest rooms that `batch` lends, where a frame asks for larger ones: 512 rows, and what can be left over.
 pub const LARGEST: Rooms = [5_129, 1_538, 1_025, 1_538];
 /// What each number of the rooms is before the call.
-const BEFORE: u32 = 7;
+pub const BEFORE: u32 = 7;
 
 const MARK: [u8; 2] = *b"RM";
 const NAMES_MARK: [u8; 2] = *b"RN";
@@ -195,14 +195,14 @@ impl Known {
         Outcome::Refused(Refusal { code: 4, at, start, end, expected: NO_KIND, message: String::new() })
     }
 
-    /// The call's eight numbers in a line, and then each room in a line, as the call leaves it.
-    pub fn answer(&self, rooms: Rooms) -> String {
+    /// The call's eight numbers, and each room as the call leaves it; none where they are as they were.
+    pub fn leaves(&self, rooms: Rooms) -> ([u32; 8], Option<[Vec<u32>; 4]>) {
         if let Some(refusal) = self.turned_away(rooms) {
-            return lines(refused(&refusal), rooms.map(|size| vec![BEFORE; size as usize]));
+            return (refused(&refusal), None);
         }
         let mut left = rooms.map(|size| vec![0; size as usize]);
         match self.comes(rooms) {
-            Outcome::Refused(refusal) => lines(refused(&refusal), left),
+            Outcome::Refused(refusal) => (refused(&refusal), Some(left)),
             Outcome::Accepted(rows) => {
                 let [nodes, links, symbols] = [rows.nodes.len(), rows.links.len(), rows.symbols.len()];
                 let written =
@@ -210,9 +210,15 @@ impl Known {
                 for (room, written) in left.iter_mut().zip(written) {
                     room[..written.len()].copy_from_slice(written);
                 }
-                lines([0, nodes as u32, links as u32, symbols as u32, 0, 0, 0, NO_KIND], left)
+                ([0, nodes as u32, links as u32, symbols as u32, 0, 0, 0, NO_KIND], Some(left))
             }
         }
+    }
+
+    /// The call's eight numbers in a line, and then each room in a line, as the call leaves it.
+    pub fn answer(&self, rooms: Rooms) -> String {
+        let (numbers, left) = self.leaves(rooms);
+        lines(numbers, left.unwrap_or_else(|| rooms.map(|size| vec![BEFORE; size as usize])))
     }
 }
 

@@ -2,6 +2,7 @@
 use crate::{
     case::Case,
     kinds::name,
+    loads::{Left, Load},
     rooms::{Lent, WIDTHS},
     rows::NODE_WIDTH,
     told::Question,
@@ -66,6 +67,35 @@ pub fn verdict(answer: &[u32]) -> String {
         _ => numbers(scratch),
     };
     format!("         {}\nscratch  {left}\n", numbers(verdict))
+}
+
+/// A station's call: its scripts where its cuts are right, and otherwise what is joined.
+pub fn load(load: &Load) -> String {
+    let Load { source, terms, part, names, text, list, cuts, rooms, answers } = load;
+    let mut shown = format!(
+        "lists    {source:?}\nedition  {}\nlimit    {}\npart     {part} rows\n",
+        terms.edition, terms.limit
+    );
+    shown += &format!("names    \"{}\" {:?}\n", names.text.escape_ascii(), names.rows);
+    shown += &format!("cuts     {cuts:?} of {} bytes and {} numbers\n", text.len(), list.len());
+    shown += &format!("rooms    {rooms:?} numbers, answers {answers}\n");
+    if !load.faults().is_empty() {
+        return shown + &format!("text     \"{}\"\nlist     {}\n", text.escape_ascii(), numbers(list));
+    }
+    for (script, [bytes, places]) in load.scripts().into_iter().enumerate() {
+        let (text, list) = (&text[bytes], &list[places]);
+        shown += &format!("{script:<9}\"{}\"\n         {}\n", text.escape_ascii(), numbers(list));
+    }
+    shown
+}
+
+/// What a call leaves.
+pub fn left(left: &Left) -> String {
+    let mut shown = format!("code     {}\n", left.code);
+    for (name, list) in left.lists() {
+        shown += &format!("{name:<9}{}\n", numbers(list));
+    }
+    shown
 }
 
 fn numbers(numbers: &[u32]) -> String {

@@ -1,9 +1,10 @@
-//! Makes an input, or the built-in names beside it, or a row set, smaller for as long as something stays true of it.
+//! Makes an input, or the built-in names beside it, a row set, or a station's call smaller for as long as something stays true of it.
 use std::collections::BTreeSet;
 
 use crate::{
     builtins::Builtins,
     case::Case,
+    loads::{ANSWER, Load},
     rows::{PARENT, Rows},
     slots::{drop_link, places, renumber, row},
     verdicts::RowSet,
@@ -58,6 +59,50 @@ pub fn shrunk_set(set: RowSet, stays: impl FnMut(&RowSet) -> bool) -> RowSet {
     }
     search.clear();
     search.least
+}
+
+/// Scripts are dropped, with their parts, and then the built-in names and what is left over.
+pub fn shrunk_load(load: Load, stays: impl FnMut(&Load) -> bool) -> Load {
+    let count = load.count();
+    let mut search = Search { least: load, stays, tries: 0 };
+    if search.least.faults().is_empty() {
+        search.drop_parts(count, |load, from, count| Some(without_scripts(load, from, count)));
+        search.drop_parts(1, |load, _, _| Some(without_left_over(load)));
+    }
+    search.drop_parts(1, |load, _, _| Some(Load { names: Builtins::default(), ..load.clone() }));
+    search.least
+}
+
+/// Without these scripts, their answers and their parts.
+fn without_scripts(load: &Load, from: usize, count: usize) -> Load {
+    let mut load = load.clone();
+    let scripts = load.scripts();
+    let [first_text, first_list] = scripts[from].clone();
+    let [last_text, last_list] = scripts[from + count - 1].clone();
+    load.text.drain(first_text.start..last_text.end);
+    load.list.drain(first_list.start..last_list.end);
+    load.cuts.drain(2 * from..2 * (from + count));
+    let dropped = [last_text.end - first_text.start, last_list.end - first_list.start];
+    for ends in load.cuts[2 * from..].as_chunks_mut::<2>().0 {
+        ends.iter_mut().zip(dropped).for_each(|(end, less)| *end -= less as u32);
+    }
+    let parts = load.parts();
+    load.rooms.iter_mut().zip(parts).for_each(|(room, part)| *room -= part * count as u32);
+    load.answers -= (ANSWER * count) as u32;
+    load
+}
+
+/// Without what stands behind the last cuts and behind the parts.
+fn without_left_over(load: &Load) -> Load {
+    let mut load = load.clone();
+    let count = load.count() as u32;
+    if let Some([text, list]) = load.scripts().pop() {
+        load.text.truncate(text.end);
+        load.list.truncate(list.end);
+    }
+    load.rooms = load.parts().map(|part| part * count);
+    load.answers = ANSWER as u32 * count;
+    load
 }
 
 /// Without these rows, their links and the links that name them; a row that names one of them itself becomes a Nil.

@@ -244,7 +244,8 @@ fn at_counts() -> Vec<Vec<u8>> {
     texts
 }
 
-fn random_text(random: &mut Random) -> Vec<u8> {
+/// A text of any sort.
+pub fn random_text(random: &mut Random) -> Vec<u8> {
     match random.below(400) {
         0 => return many(random),
         1 => return long(random),
@@ -323,7 +324,7 @@ fn byte(random: &mut Random) -> u8 {
 }
 
 /// A byte changed, put in or taken out, a part taken out or doubled, or the end cut off.
-fn damage(text: &mut Vec<u8>, random: &mut Random) {
+pub fn damage(text: &mut Vec<u8>, random: &mut Random) {
     if text.is_empty() {
         return text.push(byte(random));
     }

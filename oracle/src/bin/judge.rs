@@ -1,10 +1,11 @@
 //! The original as a program: prints what `rows` must print for standard input; with `--batch`, answers a
-//! framed stream of such inputs. With `--verdicts` it is the checker of `verdicts.rs`, and answers a framed stream of row sets.
+//! framed stream of such inputs. With `--verdicts` it is the checker of `verdicts.rs`, and answers a framed stream of row sets. With
+//! `--loads` it is the judge of `loads.rs`, and answers a framed stream of station's calls.
 //! ORACLE_DAMAGE=TEXT spoils the answers that contain TEXT, so that a comparison can be tried; of a row set's answer that text is
-//! the code, the rule and the row, each after a blank.
+//! the code, the rule and the row, each after a blank, and of a call's the code and the room for the answers.
 use std::io::{self, BufReader, BufWriter, Read, Write};
 
-use oracle::{frame, rooms::Judge, texts::encoded, verdicts::RowSet};
+use oracle::{frame, lexer::Lexer, loads::Load, rooms::Judge, texts::encoded, verdicts::RowSet};
 
 fn main() -> io::Result<()> {
     let damage = std::env::var("ORACLE_DAMAGE").ok();
@@ -12,6 +13,9 @@ fn main() -> io::Result<()> {
     let batch = mode.as_deref() == Some("--batch");
     if mode.as_deref() == Some("--verdicts") {
         return verdicts(damage.as_deref());
+    }
+    if mode.as_deref() == Some("--loads") {
+        return oracle::with_large_stack(move || loads(damage.as_deref()));
     }
     oracle::with_large_stack(move || {
         let mut judge = Judge::default();
@@ -44,6 +48,21 @@ fn verdicts(damage: Option<&str>) -> io::Result<()> {
         let answer = set.answer();
         let text: String = answer[..3].iter().map(|number| format!(" {number}")).collect();
         frame::write(&mut output, &spoiled(encoded(&answer), &text, damage))?;
+    }
+    output.flush()
+}
+
+/// Ends at a frame that is broken.
+fn loads(damage: Option<&str>) -> io::Result<()> {
+    let mut input = BufReader::new(io::stdin().lock());
+    let mut output = BufWriter::new(io::stdout().lock());
+    let lexer = Lexer::new();
+    while let Some(frame) = frame::read(&mut input)? {
+        let Some(load) = Load::decode(&frame) else { return Err(io::ErrorKind::InvalidData.into()) };
+        let (left, _) = load.left(&lexer);
+        let text: String =
+            [left.code].iter().chain(&left.answers).map(|number| format!(" {number}")).collect();
+        frame::write(&mut output, &spoiled(left.encode(), &text, damage))?;
     }
     output.flush()
 }
