@@ -13,10 +13,12 @@
 //!
 //! A second table has scripts that are refused at their end: what reading them up to there takes, and what it takes to tell
 //! what could have stood there. The Rust has nothing to compare with. A third has rows that are checked as if another build had
-//! written them, good ones and hostile ones.
+//! written them, good ones and hostile ones. A fourth has a script 32 times, as a station has its scripts: in one call, and in
+//! 32 calls, each into rooms of its own.
 mod foreign;
 mod inputs;
 mod lexer;
+mod station;
 
 use std::{
     env::consts::ARCH,
@@ -34,8 +36,9 @@ use kaori::{
         token::{Span, Token},
     },
 };
-use kaori_syntax::{Rooms, expected};
+use kaori_syntax::{MAX_SCRIPTS, Rooms, TurnedAway, expected};
 use oracle::lexer::Lexer;
+use station::Copies;
 
 const LIMIT: u32 = 64;
 
@@ -137,6 +140,7 @@ fn bench(time: Duration) {
     );
     refusals(time);
     checks(time);
+    scripts(time);
     println!("typical {typical:.2}, worst {worst:.2}");
 }
 
@@ -197,6 +201,70 @@ fn checks(time: Duration) {
             median(times) / f64::from(nodes + links)
         );
     }
+}
+
+/// What it takes to read a station's scripts together, and one by one.
+fn scripts(time: Duration) {
+    println!("a station's scripts: 32 of them; median nanoseconds a token");
+    println!(
+        "{:<22}{:>7}{:>8}{:>8}{:>9}{:>7}{:>7} |{:>8}{:>8}{:>9}{:>7}{:>7}{:>8}",
+        "input",
+        "tokens",
+        "32",
+        "joined",
+        "station",
+        "ratio",
+        "ratio",
+        "text",
+        "joined",
+        "station",
+        "ratio",
+        "ratio",
+        "runs"
+    );
+    for input in inputs::all().iter().filter(|input| input.typical || !input.names.is_empty()) {
+        let mut copies = Copies::of(input);
+        assert_eq!([copies.parse_calls(), copies.read_calls()], [MAX_SCRIPTS; 2], "{}", input.name);
+        let mut times: [Vec<u64>; 6] = Default::default();
+        let end = Instant::now() + time;
+        while times[0].is_empty() || Instant::now() < end {
+            times[0].push(second(|| clock(|| copies.parse_calls())));
+            times[1].push(second(|| whole(|| copies.parse_joined())));
+            times[2].push(second(|| whole(|| copies.parse_station())));
+            times[3].push(second(|| clock(|| copies.read_calls())));
+            times[4].push(second(|| whole(|| copies.read_joined())));
+            times[5].push(second(|| whole(|| copies.read_station())));
+        }
+        let (runs, tokens) = (times[0].len(), input.tokens.len() / 3 * MAX_SCRIPTS);
+        let per = |ns: f64| format!("{:.1}", ns / tokens as f64);
+        let [calls, joined, station, text, text_joined, text_station] = times.map(median);
+        println!(
+            "{:<22}{tokens:>7}{:>8}{:>8}{:>9}{:>7.2}{:>7.2} |{:>8}{:>8}{:>9}{:>7.2}{:>7.2}{runs:>8}",
+            input.name,
+            per(calls),
+            per(joined),
+            per(station),
+            calls / joined,
+            calls / station,
+            per(text),
+            per(text_joined),
+            per(text_station),
+            text / text_joined,
+            text / text_station,
+        );
+    }
+    println!("32: tokens to trees in 32 calls, each into rooms of its own; text: the same from the texts");
+    println!(
+        "joined: one call over texts and lists that are joined before; station: one that joins them, in its time"
+    );
+    println!(
+        "ratio: the time of 32 calls by that of one, of `joined` and of `station`; above 1 one call is faster"
+    );
+}
+
+/// The nanoseconds of a call that reads all scripts.
+fn whole(work: impl FnOnce() -> Result<usize, TurnedAway>) -> u64 {
+    clock(|| assert_eq!(work(), Ok(MAX_SCRIPTS)))
 }
 
 fn measure(input: &Input, time: Duration) -> Times {

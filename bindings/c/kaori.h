@@ -29,16 +29,23 @@ enum {
 };
 
 /* The most tokens of a script, the Eof counted, the most bytes of its text and of the built-in names' text, the greatest
-   depth limit, and the most built-in names. */
-enum { KAORI_TOKENS_MAX = 4096, KAORI_TEXT_MAX = 65536, KAORI_LIMIT_MAX = 64, KAORI_NAMES_MAX = 64 };
+   depth limit, the most built-in names, and the most scripts of one call. */
+enum {
+    KAORI_TOKENS_MAX = 4096,
+    KAORI_TEXT_MAX = 65536,
+    KAORI_LIMIT_MAX = 64,
+    KAORI_NAMES_MAX = 64,
+    KAORI_SCRIPTS_MAX = 32
+};
 
 /* The editions of the language. In the second `not` takes an operand as a sign does, its span runs to the operand's end,
    and it counts as an opening; `return` before `;` or `}` has an absent child and its own token's span; and calls and dots
    may follow a `)` that closes an expression. */
 enum { KAORI_FIRST_EDITION = 1, KAORI_SECOND_EDITION = 2 };
 
-/* The least room for an answer of the six functions that read, for one of kaori_place, for one of kaori_name, for one of
-   kaori_check, for a text of kaori_message or kaori_reason, and for what kaori_expected tells. */
+/* The least room for an answer of the six functions that read a script or a guard, which is also that for each script of the
+   two that read up to 32; for one of kaori_place, for one of kaori_name, for one of kaori_check, for a text of kaori_message
+   or kaori_reason, and for what kaori_expected tells. */
 enum {
     KAORI_ANSWER_ROOM = 8,
     KAORI_PLACE_ROOM = 3,
@@ -48,7 +55,7 @@ enum {
     KAORI_TOLD_ROOM = 131
 };
 
-/* What stands where in an answer of the six that read. After 0: code, three counts of rows, 0, 0, 0, 255. After a refusal:
+/* What stands where in an answer of those that read. After 0: code, three counts of rows, 0, 0, 0, 255. After a refusal:
    code, 0, 0, 0, the number of the token, where it starts and ends in the text, and the kind of token that was required
    there, or 255. Refusals 5 and 16 have no token but a byte, and 1, 2, 3, 18, 21 and a 4 that was not met in reading have no
    place: their numbers are then 0. */
@@ -103,6 +110,8 @@ enum {
     KAORI_OUTSIDE = 17,        /* of a guard: a token that no guard has, `{`, `if`, `|` or `#`. After 7, before reading */
     KAORI_BAD_NAMES = 18,      /* the built-in names: their text is over 65,536 bytes, they are over 64, a span is wrong, one
                                   is no identifier, or two are the same. After a 4 for scratch, before any other 4 */
+    KAORI_TURNED_AWAY = 19,    /* of kaori_parse_scripts and kaori_read_scripts: there are no scripts or over 32, the cuts
+                                  are wrong, or a room is too small for the parts. Before all else; no script's own code */
     KAORI_BAD_EDITION = 21,    /* the edition is neither 1 nor 2. After 3, before any 4; of kaori_check after 15 */
     KAORI_BAD_ROWS = 22        /* of kaori_check: the rows break a rule */
 };
@@ -304,6 +313,41 @@ uint32_t kaori_read_guard_with(const uint8_t *names, size_t names_len, const uin
                                size_t links_len, uint32_t *symbols, size_t symbols_len, uint32_t *scratch,
                                size_t scratch_len, uint32_t *answer, size_t answer_len);
 
+/* Reads up to 32 scripts in one call: one joined text, one joined list of tokens, and cuts. Each script is read by itself, as
+   kaori_parse_with reads it from its own text and tokens in its own parts of the rooms: a refused one changes nothing for
+   the others.
+   Cuts: two numbers for each script, where it ends in the text and where in the list's numbers. The first script starts at 0
+   in both, each other one where the one before it ends; the last need not reach the ends. A token's span counts within its
+   script, and so do the spans in rows and answers. Equal cuts are allowed: a script with no tokens is its own 1.
+   Parts: `part` is a number of rows, one for all scripts and all four rooms. Script i has rows part * i to part * (i + 1) of
+   each: its node rows start at nodes + KAORI_NODE_WIDTH * part * i, and so on for the links, the symbols and scratch. As many
+   rows as the longest list has tokens, and one more for each built-in name, are always enough.
+   Each script's answer: script i's eight numbers start at answers + KAORI_ANSWER_ROOM * i, its code first.
+   Takes: names, edition and limit, one for all; the rest as kaori_parse_with, with the cuts behind the list and `part` behind
+   the limit; and rooms of `part` rows or more for each script.
+   Answers: 0, whatever the scripts' own codes are; or 19, before all else, for
+   - no script, or more than 32;
+   - an odd number of cuts;
+   - a cut that goes back, or past the end of the text or the list;
+   - a room with fewer rows than the parts have, or too little room for the answers (there is no 13 here).
+   Leaves: after 0 each script's parts and answer as kaori_parse_with leaves them, and the numbers past the parts and past the
+   answers as they were; after 19 everything as it was. */
+uint32_t kaori_parse_scripts(const uint8_t *names, size_t names_len, const uint32_t *name_rows, size_t name_rows_len,
+                             const uint8_t *text, size_t text_len, const uint32_t *tokens, size_t tokens_len,
+                             const uint32_t *cuts, size_t cuts_len, uint32_t edition, uint32_t limit, uint32_t part,
+                             uint32_t *nodes, size_t nodes_len, uint32_t *links, size_t links_len, uint32_t *symbols,
+                             size_t symbols_len, uint32_t *scratch, size_t scratch_len, uint32_t *answers,
+                             size_t answers_len);
+
+/* And from the joined text alone, each script as kaori_read_with reads it: its part of `tokens`, from the cut before it to its
+   own, takes the tokens that are made of its text, so that the cuts give each script its room for tokens. */
+uint32_t kaori_read_scripts(const uint8_t *names, size_t names_len, const uint32_t *name_rows, size_t name_rows_len,
+                            const uint8_t *text, size_t text_len, uint32_t *tokens, size_t tokens_len,
+                            const uint32_t *cuts, size_t cuts_len, uint32_t edition, uint32_t limit, uint32_t part,
+                            uint32_t *nodes, size_t nodes_len, uint32_t *links, size_t links_len, uint32_t *symbols,
+                            size_t symbols_len, uint32_t *scratch, size_t scratch_len, uint32_t *answers,
+                            size_t answers_len);
+
 /* The text of a refusal, with no byte 0 at its end.
    Takes: the refusal's code and `expected`; the kind of the token at its place; and a room of 52 bytes or more.
    Answers: the text's length, at most 52. It is 0 for a code that is not 8 to 11, where the text needs a kind over 44,
@@ -315,7 +359,7 @@ size_t kaori_message(uint32_t code, uint32_t expected, uint32_t found, uint8_t *
    Takes: the script's text; the refusal's code, start and `expected`; the kind of the token at its place; and a room of 52
    bytes or more. The script's text matters for 16 alone, which has two: `a string that is not closed` where the byte at
    the start is a quote, and else `no token starts here`. The kinds matter for 8 and 9 alone, and may else be any numbers.
-   Answers: the text's length, at most 52. It is 0 for a number that is no code (0, 12, 19, 20, and over 22), where the
+   Answers: the text's length, at most 52. It is 0 for a number that is no code (0, 12, 20, and over 22), where the
    text needs a kind over 44, and for a room under 52 bytes.
    Leaves: the text at the room's start, all bytes past it as they were. */
 size_t kaori_reason(const uint8_t *text, size_t text_len, uint32_t code, uint32_t start, uint32_t expected,

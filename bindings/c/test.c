@@ -735,7 +735,7 @@ static void reasons(void) {
                                         "no token starts here",
                                         "a guard has no {, if, | or #",
                                         "the built-in names are wrong",
-                                        "",
+                                        "the scripts' count, cuts or rooms are wrong",
                                         "",
                                         "the edition is neither 1 nor 2",
                                         "the rows are not those of a tree",
@@ -1049,6 +1049,181 @@ static void handed_over(void) {
     }
 }
 
+/* A station's scripts in one call: good ones, and refused ones between them, beside `show` and `print`. */
+enum { SCRIPTS = 5, PAST = 4 };
+static const char *const station[SCRIPTS] = {"show(a);", "b c", "not x and x;", "", "d @"};
+
+/* The joined text and list, the rooms of SCRIPTS parts of ROWS rows, the answers, and numbers past each of them. */
+typedef struct {
+    uint8_t text[64];
+    uint32_t cuts[2 * SCRIPTS], tokens[KAORI_TOKEN_WIDTH * ROWS * SCRIPTS + PAST];
+    uint32_t nodes[KAORI_NODE_WIDTH * ROWS * SCRIPTS + PAST], links[KAORI_LINK_WIDTH * ROWS * SCRIPTS + PAST];
+    uint32_t symbols[KAORI_SYMBOL_WIDTH * ROWS * SCRIPTS + PAST], scratch[KAORI_SCRATCH_WIDTH * ROWS * SCRIPTS + PAST];
+    uint32_t answers[KAORI_ANSWER_ROOM * SCRIPTS + PAST];
+} joined;
+
+/* The texts one behind another, a room of ROWS tokens for each list, and rooms as they were. */
+static joined join(void) {
+    joined j;
+    memset(&j, 7, sizeof j);
+    for (uint32_t i = 0, end = 0; i < SCRIPTS; i++) {
+        memcpy(j.text + end, station[i], strlen(station[i]));
+        j.cuts[2 * i] = end += (uint32_t)strlen(station[i]);
+        j.cuts[2 * i + 1] = KAORI_TOKEN_WIDTH * ROWS * (i + 1);
+    }
+    return j;
+}
+
+/* What is handed over of it: so many numbers of each, nodes, links, symbols, scratch and answers last. */
+typedef struct {
+    size_t cuts, text, list, rooms[5];
+    uint32_t part;
+} lengths;
+
+static lengths all_of(const joined *j) {
+    lengths n = {LENGTH(j->cuts), j->cuts[2 * SCRIPTS - 2], LENGTH(j->tokens),
+                 {LENGTH(j->nodes), LENGTH(j->links), LENGTH(j->symbols), LENGTH(j->scratch), LENGTH(j->answers)}, ROWS};
+    return n;
+}
+
+static uint32_t parse_all(joined *j, const lengths *n, uint32_t edition) {
+    return kaori_parse_scripts((const uint8_t *)names, strlen(names), name_rows, 4, j->text, n->text, j->tokens, n->list,
+                               j->cuts, n->cuts, edition, 64, n->part, j->nodes, n->rooms[0], j->links, n->rooms[1],
+                               j->symbols, n->rooms[2], j->scratch, n->rooms[3], j->answers, n->rooms[4]);
+}
+
+static uint32_t read_all(joined *j, const lengths *n, uint32_t edition) {
+    return kaori_read_scripts((const uint8_t *)names, strlen(names), name_rows, 4, j->text, n->text, j->tokens, n->list,
+                              j->cuts, n->cuts, edition, 64, n->part, j->nodes, n->rooms[0], j->links, n->rooms[1],
+                              j->symbols, n->rooms[2], j->scratch, n->rooms[3], j->answers, n->rooms[4]);
+}
+
+/* Each script's list, parts and answer are those of a call on it alone, in rooms that are as long as a part. */
+static int as_alone(const joined *j, uint32_t edition) {
+    int right = 1;
+    for (size_t i = 0; i < SCRIPTS; i++) {
+        rooms r = fresh();
+        kaori_read_with((const uint8_t *)names, strlen(names), name_rows, 4, (const uint8_t *)station[i],
+                        strlen(station[i]), r.tokens, LENGTH(r.tokens), edition, 64, r.nodes, LENGTH(r.nodes), r.links,
+                        LENGTH(r.links), r.symbols, LENGTH(r.symbols), r.scratch, LENGTH(r.scratch), r.answer, 8);
+        right = right && memcmp(j->tokens + LENGTH(r.tokens) * i, r.tokens, sizeof r.tokens) == 0 &&
+                memcmp(j->nodes + LENGTH(r.nodes) * i, r.nodes, sizeof r.nodes) == 0 &&
+                memcmp(j->links + LENGTH(r.links) * i, r.links, sizeof r.links) == 0 &&
+                memcmp(j->symbols + LENGTH(r.symbols) * i, r.symbols, sizeof r.symbols) == 0 &&
+                memcmp(j->scratch + LENGTH(r.scratch) * i, r.scratch, sizeof r.scratch) == 0 &&
+                memcmp(j->answers + KAORI_ANSWER_ROOM * i, r.answer, KAORI_ANSWER_ROOM * sizeof *r.answer) == 0;
+    }
+    return right;
+}
+
+static int past_stays(const joined *j) {
+    return all(j->tokens + LENGTH(j->tokens) - PAST, PAST, OLD) && all(j->nodes + LENGTH(j->nodes) - PAST, PAST, OLD) &&
+           all(j->links + LENGTH(j->links) - PAST, PAST, OLD) &&
+           all(j->symbols + LENGTH(j->symbols) - PAST, PAST, OLD) &&
+           all(j->scratch + LENGTH(j->scratch) - PAST, PAST, OLD) &&
+           all(j->answers + LENGTH(j->answers) - PAST, PAST, OLD);
+}
+
+static void scripts_read(void) {
+    static const uint32_t codes[][SCRIPTS] = {{0, 8, 0, 0, 16}, {0, 8, 0, 0, 16}, {21, 21, 21, 21, 16}};
+    for (uint32_t edition = 1; edition <= LENGTH(codes); edition++) {
+        joined j = join(), lists = j, old = j;
+        lengths n = all_of(&j);
+        EXPECT(read_all(&j, &n, edition) == KAORI_OK && as_alone(&j, edition) && past_stays(&j));
+        EXPECT(memcmp(j.text, old.text, sizeof j.text) == 0 && memcmp(j.cuts, old.cuts, sizeof j.cuts) == 0);
+        for (size_t i = 0; i < SCRIPTS; i++) EXPECT(j.answers[KAORI_ANSWER_ROOM * i] == codes[edition - 1][i]);
+        /* the lists that were made, up to each Eof, are read as they are given; the one that was not is no list */
+        uint32_t end = 0;
+        for (size_t i = 0; i < SCRIPTS; i++) {
+            const uint32_t *made = j.tokens + KAORI_TOKEN_WIDTH * ROWS * i;
+            for (size_t at = 0; i + 1 < SCRIPTS && (at == 0 || made[at - KAORI_TOKEN_WIDTH] != KAORI_EOF); at += 3, end += 3)
+                memcpy(lists.tokens + end, made + at, KAORI_TOKEN_WIDTH * sizeof *made);
+            lists.cuts[2 * i + 1] = end;
+        }
+        EXPECT(parse_all(&lists, &n, edition) == KAORI_OK && past_stays(&lists));
+        EXPECT(lists.answers[KAORI_ANSWER_ROOM * (SCRIPTS - 1)] == KAORI_BAD_COUNT);
+        size_t nodes = KAORI_NODE_WIDTH * ROWS * (SCRIPTS - 1), answers = KAORI_ANSWER_ROOM * (SCRIPTS - 1);
+        EXPECT(memcmp(lists.nodes, j.nodes, nodes * sizeof *j.nodes) == 0 &&
+               all(lists.nodes + nodes, LENGTH(lists.nodes) - nodes, OLD));
+        EXPECT(memcmp(lists.answers, j.answers, answers * sizeof *j.answers) == 0);
+    }
+    /* spans are within the script: of `not x and x;` the `and`, and of `b c` the `c` */
+    joined j = join();
+    lengths n = all_of(&j);
+    EXPECT(read_all(&j, &n, 1) == KAORI_OK);
+    const uint32_t *both = j.nodes + KAORI_NODE_WIDTH * (2 * ROWS + 2), *refused = j.answers + KAORI_ANSWER_ROOM;
+    EXPECT(both[0] == KAORI_NODE_AND && both[1] == 4 && both[2] == 11);
+    EXPECT(refused[KAORI_AT] == 1 && refused[KAORI_START] == 2 && refused[KAORI_END] == 3 && refused[KAORI_EXPECTED] == KAORI_SEMICOLON);
+    /* `show` is a built-in name in each script; the first's own name follows them */
+    EXPECT(j.answers[KAORI_SYMBOLS] == 3 && j.symbols[4] == 5 && j.symbols[5] == 6);
+    /* the last cut need not reach the ends, and a script with no tokens is its own 1 */
+    j = join();
+    n.cuts = 2;
+    EXPECT(read_all(&j, &n, 1) == KAORI_OK && j.answers[KAORI_CODE] == KAORI_OK && j.answers[KAORI_ANSWER_ROOM] == OLD &&
+           j.nodes[KAORI_NODE_WIDTH * ROWS] == OLD && j.tokens[KAORI_TOKEN_WIDTH * ROWS] == OLD);
+    j.cuts[1] = 0;
+    EXPECT(parse_all(&j, &n, 1) == KAORI_OK && j.answers[KAORI_CODE] == KAORI_BAD_COUNT);
+}
+
+/* Every reason for 19, each by itself, and what is just enough. */
+static void scripts_turned_away(void) {
+    static const size_t widths[] = {KAORI_NODE_WIDTH, KAORI_LINK_WIDTH, KAORI_SYMBOL_WIDTH, KAORI_SCRATCH_WIDTH};
+    static const uint32_t parts[] = {ROWS + 1, 1000, UINT32_C(1) << 31, KAORI_ABSENT};
+    joined j = join(), old = j;
+    lengths whole = all_of(&j), n = whole;
+#define TURNED_AWAY(n) \
+    (parse_all(&j, &(n), 1) == KAORI_TURNED_AWAY && read_all(&j, &(n), 3) == KAORI_TURNED_AWAY && memcmp(&j, &old, sizeof j) == 0)
+    /* no script, an odd list, more than 32 */
+    n.cuts = 0;
+    EXPECT(TURNED_AWAY(n));
+    for (n.cuts = 1; n.cuts < 2 * SCRIPTS; n.cuts += 2) EXPECT(TURNED_AWAY(n));
+    static const uint32_t zeros[2 * (KAORI_SCRIPTS_MAX + 1)];
+    static uint32_t answers[KAORI_ANSWER_ROOM * (KAORI_SCRIPTS_MAX + 1)];
+    for (uint32_t count = KAORI_SCRIPTS_MAX; count <= KAORI_SCRIPTS_MAX + 1; count++) {
+        uint32_t code = kaori_parse_scripts((const uint8_t *)names, 0, name_rows, 0, j.text, 0, j.tokens, 0, zeros, 2 * count, 1,
+                                            64, 0, j.nodes, 0, j.links, 0, j.symbols, 0, j.scratch, 0, answers, LENGTH(answers));
+        EXPECT(code == (count == KAORI_SCRIPTS_MAX ? KAORI_OK : KAORI_TURNED_AWAY));
+        EXPECT(answers[KAORI_ANSWER_ROOM * (KAORI_SCRIPTS_MAX - 1)] == KAORI_BAD_COUNT &&
+               all(answers + KAORI_ANSWER_ROOM * KAORI_SCRIPTS_MAX, KAORI_ANSWER_ROOM, 0));
+    }
+    /* each cut by itself, back and past the end */
+    for (size_t i = 0; i < LENGTH(j.cuts); i++) {
+        uint32_t right = j.cuts[i];
+        if (i >= 2 && j.cuts[i - 2] != 0) {
+            j.cuts[i] = old.cuts[i] = j.cuts[i - 2] - 1;
+            EXPECT(TURNED_AWAY(whole));
+        }
+        j.cuts[i] = old.cuts[i] = (uint32_t)(i % 2 == 0 ? whole.text : whole.list) + 1;
+        EXPECT(TURNED_AWAY(whole));
+        j.cuts[i] = old.cuts[i] = KAORI_ABSENT;
+        EXPECT(TURNED_AWAY(whole));
+        j.cuts[i] = old.cuts[i] = right;
+    }
+    n = whole;
+    n.text--;
+    EXPECT(TURNED_AWAY(n));
+    n = whole;
+    n.list = KAORI_TOKEN_WIDTH * ROWS * SCRIPTS - 1;
+    EXPECT(TURNED_AWAY(n));
+    /* each room a number short, and parts that have more rows than there are */
+    for (size_t i = 0; i < LENGTH(whole.rooms); i++) {
+        n = whole;
+        n.rooms[i] = (i < LENGTH(widths) ? widths[i] * ROWS : KAORI_ANSWER_ROOM) * SCRIPTS - 1;
+        EXPECT(TURNED_AWAY(n));
+    }
+    n = whole;
+    for (size_t i = 0; i < LENGTH(parts); i++) {
+        n.part = parts[i];
+        EXPECT(TURNED_AWAY(n));
+    }
+    /* what is just enough */
+    n = whole;
+    n.list -= PAST;
+    for (size_t i = 0; i < LENGTH(whole.rooms); i++) n.rooms[i] -= PAST;
+    EXPECT(read_all(&j, &n, 1) == KAORI_OK && as_alone(&j, 1) && past_stays(&j));
+#undef TURNED_AWAY
+}
+
 /* The kinds, each by the name that a message has for it. */
 static void kinds(void) {
     static const struct {
@@ -1093,6 +1268,8 @@ int main(void) {
     own_rows();
     broken_rows();
     handed_over();
+    scripts_read();
+    scripts_turned_away();
     kinds();
     return failed != 0;
 }

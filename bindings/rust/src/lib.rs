@@ -115,6 +115,21 @@
 //! # Ok::<(), kaori_syntax::Refusal>(())
 //! ```
 //!
+//! A station's scripts are read in one call, up to 32 of them: each as it would be by itself, whatever the others are.
+//! [`Station`] has the rooms for that.
+//!
+//! ```
+//! use kaori_syntax::{Code, Station};
+//!
+//! let mut station = Station::for_tokens(32, 64); // 32 scripts of up to 64 tokens each
+//! let scripts = station.read(&["show(time);", "show(time", "let late = 5;"], 64)?;
+//! let rows: Vec<_> = scripts.iter().map(|script| script.map(|tree| tree.rows().count())).collect();
+//! assert_eq!((rows.len(), rows[0], rows[2]), (3, Ok(4), Ok(3)));
+//! let why = rows[1].unwrap_err();
+//! assert_eq!((why.code, why.span.start), (Code::Required, 9)); // in its own text
+//! # Ok::<(), kaori_syntax::TurnedAway>(())
+//! ```
+//!
 //! A guard is one expression and then the Eof, with no `;`. None of its tokens is `{`, `if`, `|` or `#`, and no block stands
 //! around it: its tree's last row is the expression's own. [`read_guard_with`] says what is refused.
 //!
@@ -199,7 +214,8 @@
 //! ```
 //!
 //! The crate has no dependencies. Without the feature `std` it is `no_std`; without `alloc`, which `std` brings, there are no
-//! [`Rooms`] and no [`OwnedBuiltins`], and everything else is there: the functions over slices of the caller's own.
+//! [`Rooms`], no [`Station`] and no [`OwnedBuiltins`], and everything else is there: the functions over slices of the
+//! caller's own.
 #![cfg_attr(not(any(feature = "std", test)), no_std)]
 #![deny(unsafe_code, missing_docs)]
 #[cfg(feature = "alloc")]
@@ -216,6 +232,9 @@ mod numbered;
 mod raw;
 #[cfg(feature = "alloc")]
 mod rooms;
+mod scripts;
+#[cfg(feature = "alloc")]
+mod station;
 
 #[cfg(feature = "alloc")]
 pub use builtins::OwnedBuiltins;
@@ -229,6 +248,9 @@ pub use node::{
 pub use numbered::{Code, Kind, Rule};
 #[cfg(feature = "alloc")]
 pub use rooms::Rooms;
+pub use scripts::{EachScript, Scripts, TurnedAway, parse_scripts, read_scripts};
+#[cfg(feature = "alloc")]
+pub use station::Station;
 
 /// The most tokens of a script, the Eof at its end counted.
 pub const MAX_TOKENS: usize = 4096;
@@ -238,6 +260,8 @@ pub const MAX_TEXT: usize = 65_536;
 pub const MAX_DEPTH: u32 = 64;
 /// The most built-in names.
 pub const MAX_NAMES: usize = 64;
+/// The most scripts of a call that reads a station's together.
+pub const MAX_SCRIPTS: usize = 32;
 
 /// The numbers of a token in a list.
 pub const TOKEN_WIDTH: usize = 3;
@@ -249,6 +273,10 @@ pub const LINK_WIDTH: usize = 3;
 pub const SYMBOL_WIDTH: usize = 2;
 /// The numbers of a scratch row.
 pub const SCRATCH_WIDTH: usize = 3;
+/// The numbers of a script's cuts: where it ends in the joined text, and where in the joined list.
+pub const CUT_WIDTH: usize = 2;
+/// The numbers of a script's answer.
+pub const ANSWER_WIDTH: usize = 8;
 
 const NO_KIND: u32 = 255;
 
@@ -463,7 +491,7 @@ pub fn read<'a>(
     let mut answer = [0; 8];
     let code = raw::read(text, list, limit, nodes, links, symbols, scratch, &mut answer);
     let read = (Edition::FIRST, limit, false);
-    tree(answer, read, Builtins::NONE, text, made(list, code), Lent { nodes, links, symbols, scratch })
+    tree(answer, read, Builtins::NONE, text, made(list, code), [nodes, links, symbols, scratch])
 }
 
 /// [`read`] beside built-in names, in an edition.
@@ -481,7 +509,7 @@ pub fn read_with<'a>(
     let code =
         raw::read_with(names, rows, text, list, edition, limit, nodes, links, symbols, scratch, &mut answer);
     let read = (Edition(edition), limit, false);
-    tree(answer, read, builtins, text, made(list, code), Lent { nodes, links, symbols, scratch })
+    tree(answer, read, builtins, text, made(list, code), [nodes, links, symbols, scratch])
 }
 
 /// Reads a guard's text beside built-in names, in an edition: one expression, and then the Eof, with no `;`. `list` and `limit`
@@ -529,7 +557,7 @@ pub fn read_guard_with<'a>(
         &mut answer,
     );
     let read = (Edition(edition), limit, true);
-    tree(answer, read, builtins, text, made(list, code), Lent { nodes, links, symbols, scratch })
+    tree(answer, read, builtins, text, made(list, code), [nodes, links, symbols, scratch])
 }
 
 /// The tokens of a list that was made. How many there are matters after a 4 alone.
@@ -567,7 +595,7 @@ pub fn parse<'a>(
     let mut answer = [0; 8];
     raw::parse(text, tokens, limit, nodes, links, symbols, scratch, &mut answer);
     let read = (Edition::FIRST, limit, false);
-    tree(answer, read, Builtins::NONE, text, tokens, Lent { nodes, links, symbols, scratch })
+    tree(answer, read, Builtins::NONE, text, tokens, [nodes, links, symbols, scratch])
 }
 
 /// [`parse`] beside built-in names, in an edition.
@@ -584,7 +612,7 @@ pub fn parse_with<'a>(
     let mut answer = [0; 8];
     raw::parse_with(names, rows, text, tokens, edition, limit, nodes, links, symbols, scratch, &mut answer);
     let read = (Edition(edition), limit, false);
-    tree(answer, read, builtins, text, tokens, Lent { nodes, links, symbols, scratch })
+    tree(answer, read, builtins, text, tokens, [nodes, links, symbols, scratch])
 }
 
 /// Reads a guard that is given as its text and its tokens, beside built-in names and in an edition: [`read_guard_with`] says what
@@ -615,20 +643,20 @@ pub fn guard_with<'a>(
     let mut answer = [0; 8];
     raw::guard_with(names, rows, text, tokens, edition, limit, nodes, links, symbols, scratch, &mut answer);
     let read = (Edition(edition), limit, true);
-    tree(answer, read, builtins, text, tokens, Lent { nodes, links, symbols, scratch })
+    tree(answer, read, builtins, text, tokens, [nodes, links, symbols, scratch])
 }
 
-/// What comes of an answer; `guard` tells whether a guard was read.
+/// What comes of an answer; `guard` tells whether a guard was read, and the rooms are as they were left.
 fn tree<'a>(
     [code, node_rows, link_rows, symbol_rows, at, start, end, expected]: [u32; 8],
     (edition, limit, guard): (Edition, u32, bool),
     builtins: Builtins<'a>,
     text: &'a [u8],
     tokens: &'a [u32],
-    Lent { nodes, links, symbols, scratch }: Lent<'a>,
+    [nodes, links, symbols, scratch]: [&'a [u32]; 4],
 ) -> Result<Tree<'a>, Refusal> {
     if code == 0 {
-        let (nodes, links, symbols) = ((&*nodes, node_rows), (&*links, link_rows), (&*symbols, symbol_rows));
+        let (nodes, links, symbols) = ((nodes, node_rows), (links, link_rows), (symbols, symbol_rows));
         return Ok(Tree::new(builtins, Some(text), tokens, nodes, links, symbols));
     }
     // the reader has no other codes

@@ -135,8 +135,8 @@ numbered! {
 }
 
 numbered! {
-    /// Why something was refused. The first that applies is given; in reading, from left to right, the first that is met. 12,
-    /// 19 and 20 are none.
+    /// Why something was refused. The first that applies is given; in reading, from left to right, the first that is met. 12
+    /// and 20 are none.
     ///
     /// ```
     /// use kaori_syntax::{Code, Rooms};
@@ -184,6 +184,9 @@ numbered! {
     /// The built-in names' text is over 65,536 bytes, they are over 64, a span is wrong, one is no identifier, or two are the
     /// same; after a 4 for `scratch`.
     BadNames = 18,
+    /// Of a station's scripts: there are none or over 32, their cuts are wrong, or the rooms are smaller than their parts;
+    /// before all else. It is no script's own: [`TurnedAway`](crate::TurnedAway) stands for it.
+    TurnedAway = 19,
     /// The edition is neither 1 nor 2; after 3, before any 4. Of rows that another build wrote: after 15.
     BadEdition = 21,
     /// Rows that another build wrote break a [`Rule`].

@@ -46,6 +46,20 @@ unsafe extern "C" {
         nodes: *mut u32, nodes_len: usize, links: *mut u32, links_len: usize, symbols: *mut u32, symbols_len: usize,
         scratch: *mut u32, scratch_len: usize, answer: *mut u32, answer_len: usize,
     ) -> u32;
+    fn kaori_parse_scripts(
+        names: *const u8, names_len: usize, name_rows: *const u32, name_rows_len: usize,
+        text: *const u8, text_len: usize, tokens: *const u32, tokens_len: usize, cuts: *const u32, cuts_len: usize,
+        edition: u32, limit: u32, part: u32,
+        nodes: *mut u32, nodes_len: usize, links: *mut u32, links_len: usize, symbols: *mut u32, symbols_len: usize,
+        scratch: *mut u32, scratch_len: usize, answers: *mut u32, answers_len: usize,
+    ) -> u32;
+    fn kaori_read_scripts(
+        names: *const u8, names_len: usize, name_rows: *const u32, name_rows_len: usize,
+        text: *const u8, text_len: usize, tokens: *mut u32, tokens_len: usize, cuts: *const u32, cuts_len: usize,
+        edition: u32, limit: u32, part: u32,
+        nodes: *mut u32, nodes_len: usize, links: *mut u32, links_len: usize, symbols: *mut u32, symbols_len: usize,
+        scratch: *mut u32, scratch_len: usize, answers: *mut u32, answers_len: usize,
+    ) -> u32;
     fn kaori_name(
         names: *const u8, names_len: usize, text: *const u8, text_len: usize, symbols: *const u32, symbols_len: usize,
         count: u32, built: u32, symbol: u32, answer: *mut u32, answer_len: usize,
@@ -167,6 +181,40 @@ pub fn read_guard_with(
             text.as_ptr(), text.len(), tokens.as_mut_ptr(), tokens.len(), edition, limit,
             nodes.as_mut_ptr(), nodes.len(), links.as_mut_ptr(), links.len(), symbols.as_mut_ptr(), symbols.len(),
             scratch.as_mut_ptr(), scratch.len(), answer.as_mut_ptr(), answer.len(),
+        )
+    }
+}
+
+#[rustfmt::skip]
+#[allow(clippy::too_many_arguments)]
+pub fn parse_scripts(
+    names: &[u8], name_rows: &[u32], text: &[u8], tokens: &[u32], cuts: &[u32], edition: u32, limit: u32, part: u32,
+    nodes: &mut [u32], links: &mut [u32], symbols: &mut [u32], scratch: &mut [u32], answers: &mut [u32],
+) -> u32 {
+    // SAFETY: as the module says.
+    unsafe {
+        kaori_parse_scripts(
+            names.as_ptr(), names.len(), name_rows.as_ptr(), name_rows.len(),
+            text.as_ptr(), text.len(), tokens.as_ptr(), tokens.len(), cuts.as_ptr(), cuts.len(), edition, limit, part,
+            nodes.as_mut_ptr(), nodes.len(), links.as_mut_ptr(), links.len(), symbols.as_mut_ptr(), symbols.len(),
+            scratch.as_mut_ptr(), scratch.len(), answers.as_mut_ptr(), answers.len(),
+        )
+    }
+}
+
+#[rustfmt::skip]
+#[allow(clippy::too_many_arguments)]
+pub fn read_scripts(
+    names: &[u8], name_rows: &[u32], text: &[u8], tokens: &mut [u32], cuts: &[u32], edition: u32, limit: u32, part: u32,
+    nodes: &mut [u32], links: &mut [u32], symbols: &mut [u32], scratch: &mut [u32], answers: &mut [u32],
+) -> u32 {
+    // SAFETY: as the module says.
+    unsafe {
+        kaori_read_scripts(
+            names.as_ptr(), names.len(), name_rows.as_ptr(), name_rows.len(),
+            text.as_ptr(), text.len(), tokens.as_mut_ptr(), tokens.len(), cuts.as_ptr(), cuts.len(), edition, limit, part,
+            nodes.as_mut_ptr(), nodes.len(), links.as_mut_ptr(), links.len(), symbols.as_mut_ptr(), symbols.len(),
+            scratch.as_mut_ptr(), scratch.len(), answers.as_mut_ptr(), answers.len(),
         )
     }
 }

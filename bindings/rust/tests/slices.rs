@@ -1,8 +1,8 @@
 //! What there is without `alloc`: everything over slices of the caller's. This file uses nothing else, and is also built and run
 //! without features.
 use kaori_syntax::{
-    Builtins, Code, Edition, Kind, Lent, Node, Rule, Span, Tree, expected, guard_with, name, parse, place,
-    read, read_guard_with, read_with,
+    Builtins, Code, Edition, Kind, Lent, Node, Rule, Span, Tree, TurnedAway, expected, guard_with, name,
+    parse, parse_scripts, place, read, read_guard_with, read_scripts, read_with,
 };
 
 #[test]
@@ -75,4 +75,38 @@ fn rows_of_another_build_in_arrays() {
     let why =
         Tree::from_rows(&nodes, &links, &symbols, [5, 2, 2], Edition(0), &mut scratch[..8]).unwrap_err();
     assert_eq!((why.code, why.rule, why.row), (Code::NOT_LENT, None, 0));
+}
+
+#[test]
+fn scripts_in_arrays() {
+    // `a;`, `b c` and `d;`, in parts of three rows
+    let (text, cuts) = (b"a;b cd;", [2, 9, 5, 18, 7, 27]);
+    let (mut list, mut nodes, mut links, mut symbols, mut scratch, mut answers) =
+        ([0; 27], [0; 90], [0; 27], [0; 18], [0; 27], [0; 24]);
+    let lent = Lent { nodes: &mut nodes, links: &mut links, symbols: &mut symbols, scratch: &mut scratch };
+    let scripts =
+        read_scripts(Builtins::NONE, text, &mut list, &cuts, Edition::FIRST, 64, 3, lent, &mut answers)
+            .unwrap();
+    let [one, two, three] = [0, 1, 2].map(|number| scripts.get(number).unwrap());
+    assert_eq!(one.map(|tree| tree.symbol(0)), Ok(Some(&b"a"[..])));
+    assert_eq!(
+        three.map(|tree| (tree.symbol(0), tree.cover(0))),
+        Ok((Some(&b"d"[..]), Some(Span { start: 0, end: 1 })))
+    );
+    let why = two.unwrap_err();
+    assert_eq!(
+        (why.code, why.at, why.span, why.found),
+        (Code::Required, 1, Span { start: 2, end: 3 }, Some(Kind::Identifier))
+    );
+    assert!(expected(scripts.tokens(1).unwrap(), why).contains(Kind::Semicolon));
+
+    let lent = Lent { nodes: &mut nodes, links: &mut links, symbols: &mut symbols, scratch: &mut scratch };
+    let scripts =
+        parse_scripts(Builtins::NONE, text, &list, &cuts, Edition::SECOND, 64, 3, lent, &mut answers)
+            .unwrap();
+    assert!(scripts.iter().map(|script| script.is_ok()).eq([true, false, true]));
+
+    let lent = Lent { nodes: &mut nodes, links: &mut links, symbols: &mut symbols, scratch: &mut scratch };
+    let why = parse_scripts(Builtins::NONE, text, &list, &cuts, Edition::SECOND, 64, 4, lent, &mut answers);
+    assert_eq!(why.unwrap_err(), TurnedAway::Rooms);
 }
