@@ -11,7 +11,7 @@ use Rattle.grammar.specs.Pattern.{bytes, from-to}
 use Rattle.diagnostics.specs.Message.{text-of}
 use Rattle.diagnostics.specs.declared.Message.{Message}
 
--- by code, from 0; none for 8 to 11, which have their message, for 16, which has two texts, and for 12 and 20, which no caller meets
+-- by code, from 0; none for 8 to 11, which have their message, for 16, which has two texts, and for 12, which no caller meets
 abbrev pub texts : List String
 texts =
     "" ∷
@@ -30,7 +30,7 @@ texts =
     "a guard has no {, if, | or #" ∷
     "the built-in names are wrong" ∷
     "the scripts' count, cuts or rooms are wrong" ∷
-    "" ∷
+    "the choice's length is not the statement count" ∷
     "the edition is neither 1 nor 2" ∷
     "the rows are not those of a tree" ∷ []
 

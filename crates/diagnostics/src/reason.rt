@@ -11,7 +11,7 @@ ghost use Rattle.diagnostics.specs.Reason.{last, tabled, table, begins, 
 
 // The texts one after the other: those of the codes, and then that of a string that is not closed. One table is checked faster than an arm with bytes of its own for each
 // code.
-const TEXTS: [u8; 557] = *b"\
+const TEXTS: [u8; 603] = *b"\
     too many tokens: a script has at most 4,095\
     file too large: a script has at most 65,536 bytes\
     the depth limit is not from 1 to 64\
@@ -26,6 +26,7 @@ const TEXTS: [u8; 557] = *b"\
     a guard has no {, if, | or #\
     the built-in names are wrong\
     the scripts' count, cuts or rooms are wrong\
+    the choice's length is not the statement count\
     the edition is neither 1 nor 2\
     the rows are not those of a tree\
     a string that is not closed";
@@ -53,10 +54,10 @@ const STARTS: [u16; 25] = [
     397,
     425,
     468,
-    468,
-    498,
-    530,
-    557,
+    514,
+    544,
+    576,
+    603,
 ];
 
 // The place of the string's text in the table, and of no text.
@@ -129,7 +130,7 @@ fn which(text: &[u8], code: u32, start: u32) -> usize
 }
 
 // The texts, to be lent: to name a constant array copies it.
-fn texts() -> [u8; 557]
+fn texts() -> [u8; 603]
     ensures { λ r. ⌜ r ≡ table ⌝ }
 {
     TEXTS

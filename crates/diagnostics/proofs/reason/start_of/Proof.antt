@@ -12,15 +12,15 @@ use Rattle.diagnostics.proofs.reason.start_of.Statement.{statement}
 use Rattle.diagnostics.proofs.reason.start_of.Tie as tie
 
 starts : List ℕ
-starts = 0 ∷ 0 ∷ 43 ∷ 92 ∷ 127 ∷ 155 ∷ 179 ∷ 221 ∷ 268 ∷ 268 ∷ 268 ∷ 268 ∷ 268 ∷ 268 ∷ 298 ∷ 330 ∷ 349 ∷ 369 ∷ 397 ∷ 425 ∷ 468 ∷ 468 ∷ 498 ∷ 530 ∷ 557 ∷ []
+starts = 0 ∷ 0 ∷ 43 ∷ 92 ∷ 127 ∷ 155 ∷ 179 ∷ 221 ∷ 268 ∷ 268 ∷ 268 ∷ 268 ∷ 268 ∷ 268 ∷ 298 ∷ 330 ∷ 349 ∷ 369 ∷ 397 ∷ 425 ∷ 468 ∷ 514 ∷ 544 ∷ 576 ∷ 603 ∷ []
 
 right : (i : ℕ) → i < 25 → getD starts i 0 ≡ begins i
 unfolding starts begins tabled
 right i h = eqb→eq _ _ (within (λ k. eqb (getD starts k 0) (begins k)) 0 25 i tt (omega arith) h)
 
-small : (i : ℕ) → i < 25 → getD starts i 0 ≤ 557
+small : (i : ℕ) → i < 25 → getD starts i 0 ≤ 603
 unfolding starts
-small i h = leb→le _ _ (within (λ k. leb (getD starts k 0) 557) 0 25 i tt (omega arith) h)
+small i h = leb→le _ _ (within (λ k. leb (getD starts k 0) 603) 0 25 i tt (omega arith) h)
 
 cast-result : tie.Need-cast-result
 unfolding starts
