@@ -1,0 +1,5 @@
+-- in the order of reading
+pub mod Moved
+pub mod Spoken
+pub mod Packed
+pub mod Dropped
