@@ -20,9 +20,11 @@ use Rattle.grammar.specs.Builtin.{Builtins}
 use Rattle.grammar.specs.Profile.{Profile}
 use Rattle.grammar.specs.Room.{Rooms}
 use Rattle.naming.proofs.Telling.{one-place as one-name-place}
+use Rattle.packing.specs.Answer.{Asked}
+use Rattle.packing.proofs.Outcomes.{one-packing}
 use Rattle.reader.proofs.Texts.{one-read as one-answer}
 use Rattle.scripts.specs.Joined.{listed}
-use Rattle.station.specs.Exports.{placed, name-placed, told, put, Parses, Reads-text, Places, Writes, Writes-reason, Names-place, Tells-expected, Has-child, Has-places, Checks-rows}
+use Rattle.station.specs.Exports.{placed, name-placed, told, put, packed, Parses, Reads-text, Places, Writes, Writes-reason, Names-place, Tells-expected, Has-child, Has-places, Checks-rows, Drops}
 use Rattle.syntax.proofs.Promises.{one-parse as one-tree}
 
 pub one-parse : {p : Profile} {names : Builtins} {text ts : List ℕ} {edition limit : ℕ} {before after after′ : Rooms} {room out out′ : List ℕ} {r r′ : ℕ} → Parses p names text ts edition limit before room after out r → Parses p names text ts edition limit before room after′ out′ r′ → (r ≡ r′) × (out ≡ out′) × (after ≡ after′)
@@ -100,3 +102,10 @@ one-check (Checks-rows.short h) (Checks-rows.short i) = (refl, refl, refl)
 one-check (Checks-rows.short h) (Checks-rows.checked i q) = absurd (omega arith)
 one-check (Checks-rows.checked h p) (Checks-rows.short i) = absurd (omega arith)
 one-check {room = room} (Checks-rows.checked h p) (Checks-rows.checked i q) = let (c, x, y, e) = one-verdict p q in (c, rw (c, x, y) refl, e)
+
+-- and rows without some statements
+pub one-drop : {a : Asked} {room out out′ : List ℕ} {after after′ : Rooms} {r r′ : ℕ} → Drops a room after out r → Drops a room after′ out′ r′ → (r ≡ r′) × (out ≡ out′) × (after ≡ after′)
+one-drop (Drops.short h) (Drops.short i) = (refl, refl, refl)
+one-drop (Drops.short h) (Drops.dropped i q) = absurd (omega arith)
+one-drop (Drops.dropped h p) (Drops.short i) = absurd (omega arith)
+one-drop {room = room} (Drops.dropped h p) (Drops.dropped i q) = let (e, f) = one-packing p q in (ap (λ a. a .code) e, ap (λ a. put (packed a) room) e, f)

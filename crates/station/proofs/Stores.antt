@@ -1,4 +1,4 @@
--- The numbers of what is told, stored one after another from a room's start.
+-- The numbers of what is told, and of an answer of six, stored one after another from a room's start.
 use Prim.Native.Nat.{ℕ, _+_, _*_, _≤_, _<_}
 use native.Mathlib.Omega.{arith}
 use mathlib.Core.List.{List, [], _∷_, _++_, append-assoc}
@@ -45,3 +45,7 @@ pub told-put : (l : List ℕ) {m : List ℕ} (t : Told) → 131 ≤ length l →
 told-put l t h k w =
     let n : length (told t) ≡ 131 = omega (arith, length-pairs (t .chain .entries)) in
     whole (joined (omega arith) (first-three l (t .count) (t .lowest) (t .chain .count) (omega arith)) w) ∙ ap (λ k. told t ++ drop k l) (sym n)
+
+-- six numbers
+pub six : (l : List ℕ) (x₀ x₁ x₂ x₃ x₄ x₅ : ℕ) → 6 ≤ length l → set (set (set (set (set (set l 0 x₀) 1 x₁) 2 x₂) 3 x₃) 4 x₄) 5 x₅ ≡ x₀ ∷ x₁ ∷ x₂ ∷ x₃ ∷ x₄ ∷ x₅ ∷ drop 6 l
+six l x₀ x₁ x₂ x₃ x₄ x₅ h = whole (more x₅ (omega arith) (more x₄ (omega arith) (more x₃ (omega arith) (first-three l x₀ x₁ x₂ (omega arith)))))

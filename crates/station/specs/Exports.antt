@@ -1,4 +1,4 @@
--- What the exported functions answer: what `parse_as`, `read_as`, `message`, `reason`, `expected`, the two `place`, `check` and, of what stands below a row, `child` and `places` answer. C gets an answer of more than one number at the start of a lent room, the
+-- What the exported functions answer: what `parse_as`, `read_as`, `message`, `reason`, `expected`, the two `place`, `check`, `drop` and, of what stands below a row, `child` and `places` answer. C gets an answer of more than one number at the start of a lent room, the
 -- numbers in document 01's order, and its code once more as the value of the call. Where that room is too short the code is 13, and nothing else is done. Of what could have stood at a token the
 -- value of the call is the set of kinds, which stands in no room and is answered in any. What `parse_scripts` and `read_scripts` answer is a code and rooms already: the two exports have their contract.
 use Prim.Native.Nat.{ℕ, _≤_, _<_}
@@ -20,6 +20,8 @@ use Rattle.grammar.specs.Profile.{Profile}
 use Rattle.grammar.specs.Room.{Rooms}
 use Rattle.naming.specs.Name.{Place-told}
 use Rattle.naming.specs.declared.PlaceAnswer.{PlaceAnswer}
+use Rattle.packing.specs.Answer.{Asked, Packs}
+use Rattle.packing.specs.declared.Packed.{Packed}
 use Rattle.reader.specs.Answered.{Read}
 use Rattle.scripts.specs.Joined.{listed}
 use Rattle.syntax.specs.Parsed.{Parsed}
@@ -85,3 +87,11 @@ pub data Has-places (nodes : List ℕ) (row r : ℕ) : Type 0 where
 pub data Checks-rows (g : Given) (room : List ℕ) : Rooms → List ℕ → ℕ → Type 0 where
   short : length room < 3 → Checks-rows g room (g .rooms) room 13
   checked : {code rule row : ℕ} {after : Rooms} → 3 ≤ length room → Checks g code rule row after → Checks-rows g room after (put (code ∷ rule ∷ row ∷ []) room) code
+
+-- of rows without some statements: what is left, or for 22 the rule and the row
+abbrev pub packed : Packed → List ℕ
+packed p = p .code ∷ p .nodes ∷ p .links ∷ p .symbols ∷ p .rule ∷ p .row ∷ []
+
+pub data Drops (a : Asked) (room : List ℕ) : Rooms → List ℕ → ℕ → Type 0 where
+  short : length room < 6 → Drops a room (a .given .rooms) room 13
+  dropped : {p : Packed} {after : Rooms} → 6 ≤ length room → Packs a p after → Drops a room after (put (packed p) room) (p .code)

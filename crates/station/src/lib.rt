@@ -1,5 +1,5 @@
 // What a station links: `parse_with`, `read_with` and the same of guards, those of scripts of edition 1 beside no names too, a station's scripts in one call, the message of a refusal and the text of any, what could
-// have stood there, the line of a place, the place of a name, what stands below a row and whether rows that another build wrote keep the rules, for C and Rust to call, over numbers and slices alone.
+// have stood there, the line of a place, the place of a name, what stands below a row, whether rows that another build wrote keep the rules, and rows without some statements, for C and Rust to call, over numbers and slices alone.
 // None has a `requires`. A slice is a pointer and a length to C, in this order.
 use checker::check;
 use children::below;
@@ -11,6 +11,8 @@ use diagnostics::text::message;
 use expected::Chain;
 use expected::Told;
 use expected::expected;
+use packing::Packed;
+use packing::drop;
 use reader::read_as;
 use scripts::parse_scripts;
 use scripts::read_scripts;
@@ -24,8 +26,9 @@ ghost use Rattle.grammar.specs.Builtin.{builtins as names-in, none};
 ghost use Rattle.grammar.specs.Profile.{script as a-script, guard as a-guard};
 ghost use Rattle.ast.specs.Written.{Written};
 ghost use Rattle.checker.specs.Verdict.{given};
+ghost use Rattle.packing.specs.Answer.{asked};
 ghost use Rattle.scripts.specs.Joined.{Source, Answers-all, lent, joined};
-ghost use Rattle.station.specs.Exports.{put, pairs, told, Parses, Reads-text, Places, Writes, Writes-reason, Names-place, Tells-expected, Has-child, Has-places, Checks-rows};
+ghost use Rattle.station.specs.Exports.{put, pairs, told, packed, Parses, Reads-text, Places, Writes, Writes-reason, Names-place, Tells-expected, Has-child, Has-places, Checks-rows, Drops};
 ghost use Rattle.syntax.specs.Parsed.{rooms};
 ghost use Rattle.token.specs.Profiled.{profiled};
 
@@ -561,4 +564,57 @@ pub extern "C" fn kaori_check(
     answer[1] = v.rule;
     answer[2] = v.row;
     v.code
+}
+
+// The numbers of what is told of packed rows.
+const PACKED: usize = 6;
+
+// Puts the six numbers of such an answer at the start of a room.
+fn put_packed(p: Packed, room: &mut [u32])
+    requires { ⌜ 6 ≤ length (now room) ⌝ }
+    ensures { λ _. ⌜ now (room .exit) ≡ put (packed p) (now (room .entry)) ⌝ }
+{
+    room[0] = p.code;
+    room[1] = p.nodes;
+    room[2] = p.links;
+    room[3] = p.symbols;
+    room[4] = p.rule;
+    room[5] = p.row;
+}
+
+// Keeps those of a script's statements whose number in the choice is not 0: `packing::drop`.
+// Ruled out: the count of links in the place of the symbols'; the edition in the place of the built-in names' number; rows that are packed where the answer has no room.
+#[no_mangle]
+pub extern "C" fn kaori_drop(
+    nodes: &mut [u32],
+    links: &mut [u32],
+    symbols: &mut [u32],
+    n: u32,
+    m: u32,
+    s: u32,
+    builtins: u32,
+    edition: u32,
+    choice: &[u8],
+    scratch: &mut [u32],
+    answer: &mut [u32],
+) -> u32
+    ensures { λ r. ⌜ Drops (asked n m s builtins edition (now (choice .entry)) (rooms (now (nodes .entry)) (now (links .entry)) (now (symbols .entry)) (now (scratch .entry)))) (now (answer .entry)) (rooms (now (nodes .exit)) (now (links .exit)) (now (symbols .exit)) (now (scratch .exit))) (now (answer .exit)) r ⌝ }
+{
+    if answer.len() < PACKED {
+        return 13;
+    }
+    let p = drop(
+        nodes,
+        links,
+        symbols,
+        n,
+        m,
+        s,
+        builtins,
+        edition,
+        choice,
+        scratch,
+    );
+    put_packed(p, answer);
+    p.code
 }
