@@ -24,6 +24,8 @@ pub const NUMBER: u8 = Token::NumberLiteral as u8;
 pub const STRING: u8 = Token::StringLiteral as u8;
 pub const IDENTIFIER: u8 = Token::Identifier as u8;
 pub const EOF: u8 = Token::Eof as u8;
+pub const SEMICOLON: u8 = Token::Semicolon as u8;
+pub const RIGHT_PAREN: u8 = Token::RightParen as u8;
 /// The kinds that no guard may have: document 02, L9, 'No token may be `{`, `if`, `|` or `#`'.
 pub const OUTSIDE: [u8; 4] = [Token::LeftBrace as u8, Token::If as u8, Token::Pipe as u8, Token::Hash as u8];
 

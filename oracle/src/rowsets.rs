@@ -177,7 +177,7 @@ fn lent(edition: u32, rows: &Rows, random: &mut Random) -> RowSet {
 }
 
 /// Adds numbers to some rooms.
-fn leave_over(set: &mut RowSet, random: &mut Random) {
+pub fn leave_over(set: &mut RowSet, random: &mut Random) {
     let numbers = [0, 0, 1, 20, random.below(40) as u32, ABSENT];
     for (room, most) in set.rooms.iter_mut().zip([24, 8, 6]) {
         let any = random.below(most + 1);

@@ -1,6 +1,7 @@
 //! Cases and answers for people to read.
 use crate::{
     case::Case,
+    drops::{Dropping, Left as Kept},
     kinds::name,
     loads::{Left, Load},
     rooms::{Lent, WIDTHS},
@@ -94,6 +95,21 @@ pub fn left(left: &Left) -> String {
     let mut shown = format!("code     {}\n", left.code);
     for (name, list) in left.lists() {
         shown += &format!("{name:<9}{}\n", numbers(list));
+    }
+    shown
+}
+
+/// A call that drops statements.
+pub fn dropping(call: &Dropping) -> String {
+    let Dropping { set, builtins, choice } = call;
+    format!("{}builtins {builtins}\nchoice   {choice:?}\n", row_set(set))
+}
+
+/// What such a call answers and leaves.
+pub fn kept(left: &Kept) -> String {
+    let mut shown = format!("answer   {}\n", numbers(&left.answer));
+    for (name, room) in ["nodes", "links", "symbols", "scratch"].iter().zip(&left.rooms) {
+        shown += &format!("{name:<9}{}\n", numbers(room));
     }
     shown
 }

@@ -1,9 +1,10 @@
-//! Makes an input, or the built-in names beside it, a row set, or a station's call smaller for as long as something stays true of it.
+//! Makes an input, or the built-in names beside it, a row set, a station's call, or a choice of statements smaller for as long as something stays true of it.
 use std::collections::BTreeSet;
 
 use crate::{
     builtins::Builtins,
     case::Case,
+    drops::{Dropping, MOST_CHOSEN},
     loads::{ANSWER, Load},
     rows::{PARENT, Rows},
     slots::{drop_link, places, renumber, row},
@@ -71,6 +72,26 @@ pub fn shrunk_load(load: Load, stays: impl FnMut(&Load) -> bool) -> Load {
     }
     search.drop_parts(1, |load, _, _| Some(Load { names: Builtins::default(), ..load.clone() }));
     search.least
+}
+
+/// Its row set is made smaller. Scratch keeps what it has more or less than is needed, and a choice that fits goes on fitting.
+pub fn shrunk_dropping(call: Dropping, mut stays: impl FnMut(&Dropping) -> bool) -> Dropping {
+    let more = |set: &RowSet| set.counts[0].saturating_add(set.counts[2]);
+    let fits = call.statements() == Some(call.choice.len());
+    let with = |set: &RowSet| {
+        let mut smaller = Dropping { set: set.clone(), ..call.clone() };
+        smaller.set.scratch = set.scratch.saturating_add(more(set)).min(call.set.scratch);
+        if let (true, Some(count @ ..MOST_CHOSEN)) = (fits, smaller.statements()) {
+            smaller.choice.resize(count, 1);
+        }
+        smaller
+    };
+    let mut set = call.set.clone();
+    set.scratch = set.scratch.saturating_sub(more(&set));
+    if !stays(&with(&set)) {
+        return call;
+    }
+    with(&shrunk_set(set, |set| stays(&with(set))))
 }
 
 /// Without these scripts, their answers and their parts.

@@ -1,11 +1,14 @@
 //! The original as a program: prints what `rows` must print for standard input; with `--batch`, answers a
 //! framed stream of such inputs. With `--verdicts` it is the checker of `verdicts.rs`, and answers a framed stream of row sets. With
-//! `--loads` it is the judge of `loads.rs`, and answers a framed stream of station's calls.
+//! `--loads` it is the judge of `loads.rs`, and answers a framed stream of station's calls. With `--drops` it is the judge of `drops.rs`, and
+//! answers a framed stream of choices.
 //! ORACLE_DAMAGE=TEXT spoils the answers that contain TEXT, so that a comparison can be tried; of a row set's answer that text is
-//! the code, the rule and the row, each after a blank, and of a call's the code and the room for the answers.
+//! the code, the rule and the row, each after a blank, of a call's the code and the room for the answers, and of a choice's its six numbers.
 use std::io::{self, BufReader, BufWriter, Read, Write};
 
-use oracle::{frame, lexer::Lexer, loads::Load, rooms::Judge, texts::encoded, verdicts::RowSet};
+use oracle::{
+    drops::Dropping, frame, lexer::Lexer, loads::Load, rooms::Judge, texts::encoded, verdicts::RowSet,
+};
 
 fn main() -> io::Result<()> {
     let damage = std::env::var("ORACLE_DAMAGE").ok();
@@ -16,6 +19,9 @@ fn main() -> io::Result<()> {
     }
     if mode.as_deref() == Some("--loads") {
         return oracle::with_large_stack(move || loads(damage.as_deref()));
+    }
+    if mode.as_deref() == Some("--drops") {
+        return oracle::with_large_stack(move || drops(damage.as_deref()));
     }
     oracle::with_large_stack(move || {
         let mut judge = Judge::default();
@@ -62,6 +68,19 @@ fn loads(damage: Option<&str>) -> io::Result<()> {
         let (left, _) = load.left(&lexer);
         let text: String =
             [left.code].iter().chain(&left.answers).map(|number| format!(" {number}")).collect();
+        frame::write(&mut output, &spoiled(left.encode(), &text, damage))?;
+    }
+    output.flush()
+}
+
+/// Ends at a frame that is broken.
+fn drops(damage: Option<&str>) -> io::Result<()> {
+    let mut input = BufReader::new(io::stdin().lock());
+    let mut output = BufWriter::new(io::stdout().lock());
+    while let Some(frame) = frame::read(&mut input)? {
+        let Some(call) = Dropping::decode(&frame) else { return Err(io::ErrorKind::InvalidData.into()) };
+        let left = call.left();
+        let text: String = left.answer.iter().map(|number| format!(" {number}")).collect();
         frame::write(&mut output, &spoiled(left.encode(), &text, damage))?;
     }
     output.flush()
