@@ -14,7 +14,9 @@
 //! A second table has scripts that are refused at their end: what reading them up to there takes, and what it takes to tell
 //! what could have stood there. The Rust has nothing to compare with. A third has rows that are checked as if another build had
 //! written them, good ones and hostile ones. A fourth has a script 32 times, as a station has its scripts: in one call, and in
-//! 32 calls, each into rooms of its own.
+//! 32 calls, each into rooms of its own. A fifth has scripts of which every second statement is dropped where its rows stand,
+//! beside reading the whole list and reading what is kept of it.
+mod dropping;
 mod foreign;
 mod inputs;
 mod lexer;
@@ -27,6 +29,7 @@ use std::{
     time::{Duration, Instant},
 };
 
+use dropping::Half;
 use inputs::Input;
 use kaori::{
     compiler::{Compiler, INTERNER, fresh_interner},
@@ -141,6 +144,7 @@ fn bench(time: Duration) {
     refusals(time);
     checks(time);
     scripts(time);
+    drops(time);
     println!("typical {typical:.2}, worst {worst:.2}");
 }
 
@@ -259,6 +263,49 @@ fn scripts(time: Duration) {
     );
     println!(
         "ratio: the time of 32 calls by that of one, of `joined` and of `station`; above 1 one call is faster"
+    );
+}
+
+/// What it takes to drop half of a script's statements, and to read it, whole and short.
+fn drops(time: Duration) {
+    println!("every second statement dropped; median nanoseconds a token of the whole list");
+    println!(
+        "{:<22}{:>7}{:>7}{:>6}{:>8}{:>8}{:>8}{:>7}{:>7}{:>8}",
+        "input", "tokens", "kept", "drop", "whole", "short", "drop", "ratio", "ratio", "runs"
+    );
+    for input in inputs::all().iter().filter(|input| !input.refused) {
+        let mut half = Half::of(input);
+        half.agree();
+        let [mut whole, mut short, mut drop]: [Vec<u64>; 3] = Default::default();
+        let end = Instant::now() + time;
+        while whole.is_empty() || Instant::now() < end {
+            whole.push(second(|| clock(|| half.read(false))));
+            short.push(second(|| clock(|| half.read(true))));
+            drop.push(second(|| {
+                half.again();
+                clock(|| half.drop().is_ok())
+            }));
+        }
+        let (runs, tokens) = (whole.len(), (input.tokens.len() / 3) as f64);
+        let [whole, short, drop] = [whole, short, drop].map(median);
+        println!(
+            "{:<22}{tokens:>7}{:>7}{:>6}{:>8.1}{:>8.1}{:>8.1}{:>7.2}{:>7.2}{runs:>8}",
+            input.name,
+            half.shorter.len() / 3,
+            half.choice.iter().filter(|&&kept| !kept).count(),
+            whole / tokens,
+            short / tokens,
+            drop / tokens,
+            short / drop,
+            whole / drop,
+        );
+    }
+    println!(
+        "kept: the tokens that are left; drop: the statements that are dropped, and then what that takes"
+    );
+    println!("whole: tokens to tree; short: the same of the tokens that are kept");
+    println!(
+        "ratio: the time of reading what is kept, and of reading all, by that of dropping; above 1 dropping is faster"
     );
 }
 

@@ -44,13 +44,14 @@ enum {
 enum { KAORI_FIRST_EDITION = 1, KAORI_SECOND_EDITION = 2 };
 
 /* The least room for an answer of the six functions that read a script or a guard, which is also that for each script of the
-   two that read up to 32; for one of kaori_place, for one of kaori_name, for one of kaori_check, for a text of kaori_message
-   or kaori_reason, and for what kaori_expected tells. */
+   two that read up to 32; for one of kaori_place, for one of kaori_name, for one of kaori_check, for one of kaori_drop, for a
+   text of kaori_message or kaori_reason, and for what kaori_expected tells. */
 enum {
     KAORI_ANSWER_ROOM = 8,
     KAORI_PLACE_ROOM = 3,
     KAORI_NAME_ROOM = 3,
     KAORI_CHECK_ROOM = 3,
+    KAORI_DROP_ROOM = 6,
     KAORI_MESSAGE_ROOM = 52,
     KAORI_TOLD_ROOM = 131
 };
@@ -74,6 +75,10 @@ enum {
 enum { KAORI_LINE = 1, KAORI_COLUMN };
 enum { KAORI_NAME_START = 1, KAORI_NAME_END };
 enum { KAORI_RULE = 1, KAORI_ROW };
+
+/* And in an answer of kaori_drop, after its code and the three counts of rows, which stand at KAORI_NODES, KAORI_LINKS and
+   KAORI_SYMBOLS. */
+enum { KAORI_DROP_RULE = 4, KAORI_DROP_ROW };
 
 /* And in what kaori_expected tells: how many kinds could have stood there, the lowest of them (KAORI_NO_KIND where there is
    none), how many constructs are open, and from KAORI_TOLD_CHAIN on two numbers for each of these, the outermost first: its
@@ -105,15 +110,18 @@ enum {
     KAORI_SMALL_ANSWER = 13,   /* too little room for the answer: nothing was done */
     KAORI_PAST_TEXT = 14,      /* of kaori_place: the offset is past the text */
     KAORI_NO_NAME = 15,        /* of kaori_name: the symbol is not below the count, or its row does not fit its text */
-    KAORI_NOT_LENT = 15,       /* of kaori_check: a count of rows passes what was lent */
+    KAORI_NOT_LENT = 15,       /* of kaori_check and kaori_drop: a count of rows passes what was lent, or scratch is too small
+                                  for them; of kaori_drop too: there are more built-in names than symbols */
     KAORI_NO_TOKEN = 16,       /* of kaori_read: no token starts at a byte */
     KAORI_OUTSIDE = 17,        /* of a guard: a token that no guard has, `{`, `if`, `|` or `#`. After 7, before reading */
     KAORI_BAD_NAMES = 18,      /* the built-in names: their text is over 65,536 bytes, they are over 64, a span is wrong, one
                                   is no identifier, or two are the same. After a 4 for scratch, before any other 4 */
     KAORI_TURNED_AWAY = 19,    /* of kaori_parse_scripts and kaori_read_scripts: there are no scripts or over 32, the cuts
                                   are wrong, or a room is too small for the parts. Before all else; no script's own code */
-    KAORI_BAD_EDITION = 21,    /* the edition is neither 1 nor 2. After 3, before any 4; of kaori_check after 15 */
-    KAORI_BAD_ROWS = 22        /* of kaori_check: the rows break a rule */
+    KAORI_BAD_CHOICE = 20,     /* of kaori_drop: the choice's length is not the number of the root's statements. After 22 */
+    KAORI_BAD_EDITION = 21,    /* the edition is neither 1 nor 2. After 3, before any 4; of kaori_check and kaori_drop after
+                                  15, before 22 */
+    KAORI_BAD_ROWS = 22        /* of kaori_check and kaori_drop: the rows break a rule */
 };
 
 /* The rules that kaori_check holds rows to, in their order. */
@@ -359,8 +367,8 @@ size_t kaori_message(uint32_t code, uint32_t expected, uint32_t found, uint8_t *
    Takes: the script's text; the refusal's code, start and `expected`; the kind of the token at its place; and a room of 52
    bytes or more. The script's text matters for 16 alone, which has two: `a string that is not closed` where the byte at
    the start is a quote, and else `no token starts here`. The kinds matter for 8 and 9 alone, and may else be any numbers.
-   Answers: the text's length, at most 52. It is 0 for a number that is no code (0, 12, 20, and over 22), where the
-   text needs a kind over 44, and for a room under 52 bytes.
+   Answers: the text's length, at most 52. It is 0 for a number that is no code (0, 12, and over 22), where the text
+   needs a kind over 44, and for a room under 52 bytes.
    Leaves: the text at the room's start, all bytes past it as they were. */
 size_t kaori_reason(const uint8_t *text, size_t text_len, uint32_t code, uint32_t start, uint32_t expected,
                     uint32_t found, uint8_t *room, size_t room_len);
@@ -441,6 +449,27 @@ uint32_t kaori_check(const uint32_t *nodes, size_t nodes_len, const uint32_t *li
                      const uint32_t *symbols, size_t symbols_len, uint32_t node_count, uint32_t link_count,
                      uint32_t symbol_count, uint32_t edition, uint32_t *scratch, size_t scratch_len, uint32_t *answer,
                      size_t answer_len);
+
+/* Drops statements of a script: keeps those of the root's statements that are chosen, and packs the rows that are theirs to the
+   front of the rooms, so that what is freed can be lent again.
+   Takes: the node, link and symbol rooms, and how many rows of each are in use; how many of the symbols are built-in names, 0
+   without them; the edition; the choice, a byte for each of the root's statements in their order, which is 0 where the
+   statement is dropped; scratch, whatever it holds, with two numbers for each node and link row and one for each symbol; and
+   a room of 6 numbers or more for the answer.
+   Answers: the code: 0, 13, 15, 20, 21 or 22; where several apply, the first of 13, 15, 21, 22 and 20.
+   Leaves: after 0 the rows of what is kept at the front of the three rooms, zeros in those that were in use behind them, and
+   all past these as it was. Of a script that was read here they are the rows that the functions that read leave for its tokens
+   without those of the dropped statements and their `;`: numbers are counted anew, spans are places in the old text, and a
+   symbol's row is where it first stands in what is kept. Built-in names keep their symbols and rows. Rows that another build
+   wrote are packed too; what is left of them passes kaori_check, and more is not promised.
+   After a refusal the three rooms are as they were. In the answer's room stand code, how many node, link and symbol rows are
+   left, and two zeros; after 22 code, three zeros, and the rule and the row as kaori_check has them; after 15, 20 and 21 code
+   and five zeros; the rest is as it was. After 0, 20 and 22 scratch is all zeros, to its end; after 15 and 21 it is as it was;
+   after 13 everything is as it was. */
+uint32_t kaori_drop(uint32_t *nodes, size_t nodes_len, uint32_t *links, size_t links_len, uint32_t *symbols,
+                    size_t symbols_len, uint32_t node_count, uint32_t link_count, uint32_t symbol_count,
+                    uint32_t builtins, uint32_t edition, const uint8_t *choice, size_t choice_len, uint32_t *scratch,
+                    size_t scratch_len, uint32_t *answer, size_t answer_len);
 
 /* A name as a part of the text that has it, with the code 0; or 15 and no bytes. */
 struct kaori_part {

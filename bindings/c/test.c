@@ -736,7 +736,7 @@ static void reasons(void) {
                                         "a guard has no {, if, | or #",
                                         "the built-in names are wrong",
                                         "the scripts' count, cuts or rooms are wrong",
-                                        "",
+                                        "the choice's length is not the statement count",
                                         "the edition is neither 1 nor 2",
                                         "the rows are not those of a tree",
                                         ""};
@@ -1049,6 +1049,178 @@ static void handed_over(void) {
     }
 }
 
+/* A script beside `show` and `print` in an edition, and how many tokens each of its statements has, the `;` counted. */
+enum { STATEMENTS = 3 };
+typedef struct {
+    const char *text;
+    uint32_t edition;
+    size_t statements, tokens[STATEMENTS];
+} dropped;
+
+static const dropped drops[] = {
+    {"", 1, 0, {0}},
+    {"a;", 1, 1, {2}},
+    {"a;b;a;", 1, 3, {2, 2, 2}},
+    {"b;a;b;", 2, 3, {2, 2, 2}},
+    /* symbols of built-in names, and of strings */
+    {"show;a;print;", 1, 3, {2, 2, 2}},
+    {"\"a\";a;\"\";", 1, 3, {2, 2, 2}},
+    {"\"print\";1;b;", 2, 3, {2, 2, 2}},
+    /* what has rows and links below it */
+    {"f(a);a;", 1, 2, {5, 2}},
+    {"a;f(b);", 2, 2, {2, 5}},
+    {"{a;b}b;", 1, 2, {5, 2}},
+    {"import a:b;", 1, 1, {5}},
+    {"b;import a:b;", 1, 2, {2, 5}},
+    {"|x|x;y;", 1, 2, {5, 2}},
+    {"let x=a;x;", 2, 2, {5, 2}},
+    {"if a{}a;", 1, 2, {4, 2}},
+    {"#{a:b};", 1, 1, {7}},
+    {"return;a;", 2, 2, {2, 2}},
+    {"(f)(x);", 2, 1, {7}},
+};
+
+/* A call over so many numbers of each room, as the counts say; the answer's room has six numbers, and one past it. */
+static uint32_t drop(rooms *r, const handed *h, uint32_t built, const uint8_t *choice, size_t length, uint32_t *answer) {
+    return kaori_drop(r->nodes, h->nodes, r->links, h->links, r->symbols, h->symbols, h->counts[0], h->counts[1], h->counts[2],
+                      built, h->edition, choice, length, r->scratch, h->scratch, answer, KAORI_DROP_ROOM);
+}
+
+/* The first numbers of a room, then zeros up to a place, and past it as it was. */
+static int packed(const uint32_t *room, size_t length, const uint32_t *first, size_t count, size_t used) {
+    return count <= used && memcmp(room, first, count * sizeof *room) == 0 && all(room + count, used - count, 0) &&
+           all(room + used, length - used, OLD);
+}
+
+/* Every choice: what is left are the rows of the tokens that are kept, spans and all. The numbers past the rows in use, which
+   reading has cleared, are made old again first. */
+static void statements_dropped(void) {
+    for (size_t i = 0; i < LENGTH(drops); i++) {
+        const dropped *d = drops + i;
+        for (unsigned bits = 0; bits < 1u << d->statements; bits++) {
+            rooms r = fresh(), shorter = fresh();
+            uint32_t answer[KAORI_DROP_ROOM + 1], kept[KAORI_TOKEN_WIDTH * ROWS];
+            uint8_t choice[STATEMENTS];
+            size_t from = 0, length = 0;
+            memset(answer, 7, sizeof answer);
+            EXPECT(kaori_read_with((const uint8_t *)names, strlen(names), name_rows, 4, (const uint8_t *)d->text, strlen(d->text),
+                                   r.tokens, LENGTH(r.tokens), d->edition, 64, r.nodes, LENGTH(r.nodes), r.links,
+                                   LENGTH(r.links), r.symbols, LENGTH(r.symbols), r.scratch, LENGTH(r.scratch), r.answer, 8) ==
+                   KAORI_OK);
+            for (size_t j = 0; j <= d->statements; j++) {
+                size_t upto = from + KAORI_TOKEN_WIDTH * (j < d->statements ? d->tokens[j] : 1);
+                int keep = j == d->statements || (bits >> j & 1) != 0;
+                /* any byte but 0 keeps */
+                if (j < d->statements) choice[j] = (uint8_t)(keep ? 255 >> j : 0);
+                if (keep) memcpy(kept + length, r.tokens + from, (upto - from) * sizeof *kept);
+                if (keep) length += upto - from;
+                from = upto;
+            }
+            EXPECT(kept[length - KAORI_TOKEN_WIDTH] == KAORI_EOF);
+            EXPECT(kaori_parse_with((const uint8_t *)names, strlen(names), name_rows, 4, (const uint8_t *)d->text,
+                                    strlen(d->text), kept, length, d->edition, 64, shorter.nodes, LENGTH(shorter.nodes),
+                                    shorter.links, LENGTH(shorter.links), shorter.symbols, LENGTH(shorter.symbols),
+                                    shorter.scratch, LENGTH(shorter.scratch), shorter.answer, 8) == KAORI_OK);
+            handed h = hand(&r, d->edition);
+            size_t nodes = KAORI_NODE_WIDTH * h.counts[0], links = KAORI_LINK_WIDTH * h.counts[1], symbols = KAORI_SYMBOL_WIDTH * h.counts[2];
+            memset(r.nodes + nodes, 7, sizeof r.nodes - nodes * sizeof *r.nodes);
+            memset(r.links + links, 7, sizeof r.links - links * sizeof *r.links);
+            memset(r.symbols + symbols, 7, sizeof r.symbols - symbols * sizeof *r.symbols);
+            memset(r.scratch, 7, sizeof r.scratch);
+            /* just so much scratch as is asked for */
+            h.scratch = 2 * (h.counts[0] + h.counts[1]) + h.counts[2];
+            EXPECT(drop(&r, &h, 2, choice, d->statements, answer) == KAORI_OK);
+            const uint32_t *left = shorter.answer;
+            const uint32_t numbers[] = {KAORI_OK, left[KAORI_NODES], left[KAORI_LINKS], left[KAORI_SYMBOLS], 0, 0, OLD};
+            if (memcmp(answer, numbers, sizeof numbers) != 0 ||
+                !packed(r.nodes, LENGTH(r.nodes), shorter.nodes, KAORI_NODE_WIDTH * left[KAORI_NODES], nodes) ||
+                !packed(r.links, LENGTH(r.links), shorter.links, KAORI_LINK_WIDTH * left[KAORI_LINKS], links) ||
+                !packed(r.symbols, LENGTH(r.symbols), shorter.symbols, KAORI_SYMBOL_WIDTH * left[KAORI_SYMBOLS], symbols) ||
+                !all(r.scratch, h.scratch, 0) || !all(r.scratch + h.scratch, LENGTH(r.scratch) - h.scratch, OLD) || !fences(&r))
+                failed = printf("bindings/c/test.c: drop %zu, choice %u\n", i, bits);
+            /* what is left can be dropped in its turn, or kept as it is */
+            memcpy(h.counts, answer + KAORI_NODES, sizeof h.counts);
+            rooms before = r;
+            memset(choice, 1, sizeof choice);
+            length = r.nodes[KAORI_NODE_WIDTH * (h.counts[0] - 1) + 4];
+            EXPECT(drop(&r, &h, 2, choice, length, answer) == KAORI_OK && memcmp(&r, &before, sizeof r) == 0);
+            EXPECT(memcmp(answer, numbers, sizeof numbers) == 0);
+        }
+    }
+}
+
+/* A refusal: its numbers, the three rooms as they were, and scratch all zeros as far as it was lent, or as it was. */
+static int kept_back(const rooms *r, const handed *h, uint32_t built, size_t length, uint32_t code, uint32_t rule, uint32_t row) {
+    static const uint8_t choice[STATEMENTS + 1] = {1, 0, 1, 1};
+    uint32_t answer[] = {OLD, OLD, OLD, OLD, OLD, OLD, OLD};
+    const uint32_t numbers[] = {code, 0, 0, 0, rule, row, OLD};
+    rooms after = *r;
+    memset(after.scratch, 7, sizeof after.scratch);
+    uint32_t value = drop(&after, h, built, choice, length, answer);
+    size_t zeros_upto = code == KAORI_BAD_ROWS || code == KAORI_BAD_CHOICE ? h->scratch : 0;
+    int right = all(after.scratch, zeros_upto, 0) &&
+                all(after.scratch + zeros_upto, LENGTH(after.scratch) - zeros_upto, OLD);
+    memcpy(after.scratch, r->scratch, sizeof after.scratch);
+    return value == code && memcmp(answer, numbers, sizeof numbers) == 0 && right && memcmp(&after, r, sizeof after) == 0;
+}
+
+static void statements_kept(void) {
+    static const uint32_t none[] = {0, 3, 257, KAORI_ABSENT};
+    rooms r = fresh();
+    EXPECT(in_edition(&r, "a;b;a;", 1, 64, LENGTH(r.scratch)) == KAORI_OK);
+    handed whole = hand(&r, 1), h = whole;
+    size_t least = 2 * (h.counts[0] + h.counts[1]) + h.counts[2];
+    /* a byte more, or fewer */
+    for (size_t length = 0; length <= STATEMENTS + 1; length++)
+        EXPECT(length == STATEMENTS || kept_back(&r, &whole, 0, length, KAORI_BAD_CHOICE, 0, 0));
+    /* a row more than there is in a room; more built-in names than symbols; a number of scratch less than is asked for */
+    for (size_t i = 0; i < LENGTH(h.counts); i++) {
+        h.counts[i] = ROWS + 1;
+        EXPECT(kept_back(&r, &h, 0, STATEMENTS, KAORI_NOT_LENT, 0, 0));
+        h.counts[i] = KAORI_ABSENT;
+        EXPECT(kept_back(&r, &h, 0, STATEMENTS, KAORI_NOT_LENT, 0, 0));
+        h = whole;
+    }
+    EXPECT(kept_back(&r, &whole, 3, STATEMENTS, KAORI_NOT_LENT, 0, 0));
+    EXPECT(kept_back(&r, &whole, KAORI_ABSENT, STATEMENTS, KAORI_NOT_LENT, 0, 0));
+    h.scratch = least - 1;
+    EXPECT(kept_back(&r, &h, 0, STATEMENTS, KAORI_NOT_LENT, 0, 0));
+    h.scratch = least;
+    EXPECT(kept_back(&r, &h, 0, 0, KAORI_BAD_CHOICE, 0, 0));
+    /* rows that break a rule: before the choice, after the edition, and that after what was not lent */
+    r.nodes[KAORI_NODE_WIDTH + 9] = 0;
+    EXPECT(kept_back(&r, &whole, 0, STATEMENTS, KAORI_BAD_ROWS, KAORI_RULE_PARENTS, 1));
+    EXPECT(kept_back(&r, &whole, 0, 0, KAORI_BAD_ROWS, KAORI_RULE_PARENTS, 1));
+    h = whole;
+    h.counts[0]--;
+    EXPECT(kept_back(&r, &h, 0, STATEMENTS, KAORI_BAD_ROWS, KAORI_RULE_ONCE, 0));
+    for (size_t i = 0; i < LENGTH(none); i++) {
+        h = whole;
+        h.edition = none[i];
+        EXPECT(kept_back(&r, &h, 0, 0, KAORI_BAD_EDITION, 0, 0));
+        EXPECT(kept_back(&r, &h, 3, 0, KAORI_NOT_LENT, 0, 0));
+    }
+    h = whole;
+    memset(h.counts, 0, sizeof h.counts);
+    EXPECT(kept_back(&r, &h, 0, 0, KAORI_BAD_ROWS, KAORI_RULE_ROOT, 0));
+    /* a bare `return` is no row of the first edition, and a guard has no statements */
+    EXPECT(in_edition(&r, "return;", 2, 64, LENGTH(r.scratch)) == KAORI_OK);
+    h = hand(&r, 1);
+    EXPECT(kept_back(&r, &h, 0, 1, KAORI_BAD_ROWS, KAORI_RULE_ABSENT, 0));
+    EXPECT(guard(&r, "f(a)", 1, 64) == KAORI_OK);
+    h = hand(&r, 1);
+    EXPECT(kept_back(&r, &h, 0, 0, KAORI_BAD_ROWS, KAORI_RULE_ROOT, 2));
+    /* too little room for the answer, before all else */
+    for (size_t room = 0; room < KAORI_DROP_ROOM; room++) {
+        static const uint8_t choice[1];
+        uint32_t answer[] = {OLD, OLD, OLD, OLD, OLD, OLD};
+        rooms before = r;
+        EXPECT(kaori_drop(r.nodes, 0, r.links, 0, r.symbols, 0, 1, 0, 0, 1, 3, choice, 0, r.scratch, LENGTH(r.scratch), answer,
+                          room) == KAORI_SMALL_ANSWER);
+        EXPECT(all(answer, LENGTH(answer), OLD) && memcmp(&r, &before, sizeof r) == 0);
+    }
+}
+
 /* A station's scripts in one call: good ones, and refused ones between them, beside `show` and `print`. */
 enum { SCRIPTS = 5, PAST = 4 };
 static const char *const station[SCRIPTS] = {"show(a);", "b c", "not x and x;", "", "d @"};
@@ -1268,6 +1440,8 @@ int main(void) {
     own_rows();
     broken_rows();
     handed_over();
+    statements_dropped();
+    statements_kept();
     scripts_read();
     scripts_turned_away();
     kinds();

@@ -3,7 +3,7 @@ use core::fmt;
 
 use crate::{Builtins, Code, Edition, Rule, Tree, raw};
 
-/// Why rows that another build wrote were not taken for a tree.
+/// Why rows that another build wrote were not taken for a tree, or why no statements were dropped of rows.
 ///
 /// ```
 /// use kaori_syntax::{Code, Edition, Rule, Tree};
@@ -16,7 +16,8 @@ use crate::{Builtins, Code, Edition, Rule, Tree, raw};
 /// ```
 #[derive(Clone, Copy, PartialEq, Eq, Debug)]
 pub struct RowsRefusal {
-    /// [`Code::NOT_LENT`], then [`Code::BadEdition`], then [`Code::BadRows`]: 15, 21 and 22.
+    /// [`Code::NOT_LENT`], then [`Code::BadEdition`], then [`Code::BadRows`]: 15, 21 and 22. Of [`keep`](crate::keep()) last of
+    /// all [`Code::BadChoice`]: 20.
     pub code: Code,
     /// The first rule that does not hold, for code 22.
     pub rule: Option<Rule>,
@@ -25,12 +26,21 @@ pub struct RowsRefusal {
     pub row: u32,
 }
 
+impl RowsRefusal {
+    /// Of an answer of the two calls that look at rows, which have no other codes.
+    pub(crate) fn new(code: u32, rule: u32, row: u32) -> RowsRefusal {
+        let code = Code::from_u32(code).unwrap_or(Code::SmallAnswer);
+        RowsRefusal { code, rule: Rule::from_u32(rule), row }
+    }
+}
+
 impl fmt::Display for RowsRefusal {
     /// What is wrong, in words.
     fn fmt(&self, f: &mut fmt::Formatter<'_>) -> fmt::Result {
         match (self.code, self.rule) {
             (_, Some(rule)) => write!(f, "row {} breaks rule {}: {rule}", self.row, rule as u32),
             (Code::NOT_LENT, None) => f.write_str("there are not so many rows, or scratch is too small"),
+            (Code::BadChoice, None) => f.write_str("the choice's length is not the statement count"),
             (Code::BadEdition, None) => f.write_str("the edition is neither 1 nor 2"),
             (code, None) => write!(f, "refusal {}", code as u32),
         }
@@ -101,19 +111,17 @@ impl<'a> Tree<'a> {
         links: &'a [u32],
         symbols: &'a [u32],
         counts: [u32; 3],
-        Edition(edition): Edition,
+        edition: Edition,
         scratch: &mut [u32],
     ) -> Result<Tree<'a>, RowsRefusal> {
         let mut answer = [0; 3];
-        let code = raw::check(nodes, links, symbols, counts, edition, scratch, &mut answer);
+        let code = raw::check(nodes, links, symbols, counts, edition.0, scratch, &mut answer);
         if code == 0 {
             let [node_rows, link_rows, symbol_rows] = counts;
-            let (nodes, links, symbols) = ((nodes, node_rows), (links, link_rows), (symbols, symbol_rows));
-            return Ok(Tree::new(Builtins::NONE, None, &[], nodes, links, symbols));
+            let rows = [(nodes, node_rows), (links, link_rows), (symbols, symbol_rows)];
+            return Ok(Tree::new(Builtins::NONE, None, &[], edition, rows));
         }
         let [_, rule, row] = answer;
-        // the check has no other codes
-        let code = Code::from_u32(code).unwrap_or(Code::SmallAnswer);
-        Err(RowsRefusal { code, rule: Rule::from_u32(rule), row })
+        Err(RowsRefusal::new(code, rule, row))
     }
 }

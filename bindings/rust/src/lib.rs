@@ -187,6 +187,21 @@
 //! # Ok::<(), kaori_syntax::Refusal>(())
 //! ```
 //!
+//! Statements that are no longer used are dropped where their rows stand, and the rows that are left are those of the shorter
+//! script: [`Rooms::keep`]. [`Tree::keep`] packs a copy in other rooms, and the old tree stays.
+//!
+//! ```
+//! use kaori_syntax::Rooms;
+//!
+//! let text = b"show(early); show(late); show(early);";
+//! let mut rooms = Rooms::for_tokens(16);
+//! let held = rooms.read(text, 64)?.held(); // ten rows, six links, three symbols
+//! let tree = rooms.keep(held, &[false, true, false]).unwrap().with_text(text);
+//! assert_eq!((tree.rows().count(), tree.link_rows().len(), tree.symbol_rows().len()), (4, 2, 2));
+//! assert_eq!(tree.symbol(1), Some(&b"late"[..]));
+//! # Ok::<(), kaori_syntax::Refusal>(())
+//! ```
+//!
 //! A refusal has a code, a place and a text:
 //!
 //! ```
@@ -214,8 +229,8 @@
 //! ```
 //!
 //! The crate has no dependencies. Without the feature `std` it is `no_std`; without `alloc`, which `std` brings, there are no
-//! [`Rooms`], no [`Station`] and no [`OwnedBuiltins`], and everything else is there: the functions over slices of the
-//! caller's own.
+//! [`Rooms`], no [`Tree::keep`], no [`Station`] and no [`OwnedBuiltins`], and everything else is there: the functions over
+//! slices of the caller's own.
 #![cfg_attr(not(any(feature = "std", test)), no_std)]
 #![deny(unsafe_code, missing_docs)]
 #[cfg(feature = "alloc")]
@@ -227,6 +242,7 @@ mod builtins;
 mod cover;
 mod expected;
 mod foreign;
+mod keep;
 mod node;
 mod numbered;
 mod raw;
@@ -241,6 +257,7 @@ pub use builtins::OwnedBuiltins;
 pub use builtins::{Builtins, name};
 pub use expected::{Expected, Opening, Sort, expected};
 pub use foreign::RowsRefusal;
+pub use keep::{Held, keep};
 pub use node::{
     BinaryOp, Children, Entries, Items, Name, Names, Node, Nodes, Outward, Row, Rows, Span, Token, Tokens,
     Tree, UnaryOp,
@@ -656,8 +673,8 @@ fn tree<'a>(
     [nodes, links, symbols, scratch]: [&'a [u32]; 4],
 ) -> Result<Tree<'a>, Refusal> {
     if code == 0 {
-        let (nodes, links, symbols) = ((nodes, node_rows), (links, link_rows), (symbols, symbol_rows));
-        return Ok(Tree::new(builtins, Some(text), tokens, nodes, links, symbols));
+        let rows = [(nodes, node_rows), (links, link_rows), (symbols, symbol_rows)];
+        return Ok(Tree::new(builtins, Some(text), tokens, edition, rows));
     }
     // the reader has no other codes
     let code = Code::from_u32(code).unwrap_or(Code::SmallAnswer);

@@ -1,20 +1,29 @@
 //! The rows of a script or a guard as nodes.
 use core::{fmt, iter::FusedIterator, slice};
 
-use crate::{Builtins, Kind, LINK_WIDTH, NODE_WIDTH, SYMBOL_WIDTH, TOKEN_WIDTH, cover, name, raw, upto_eof};
+use crate::{
+    Builtins, Edition, Held, Kind, LINK_WIDTH, NODE_WIDTH, SYMBOL_WIDTH, TOKEN_WIDTH, cover, name, raw,
+    upto_eof,
+};
+#[cfg(feature = "alloc")]
+use crate::{Rooms, RowsRefusal};
 
 const ABSENT: u32 = u32::MAX;
 
 /// A script or a guard that was read: its rows, in the rooms that were lent, with its text and its tokens. A copy of it is seven
-/// slices. Its last row is the [`root`](Tree::root), which encloses all others: a script's block, or a guard's expression.
+/// slices and two numbers. Its last row is the [`root`](Tree::root), which encloses all others: a script's block, or a guard's expression.
 ///
-/// Or rows that another build wrote and that passed a check ([`Tree::from_rows`]): these have no tokens, and a text and
-/// built-in names only if they are given.
+/// Or rows that another build wrote and that passed a check ([`Tree::from_rows`]), or those that were left when statements were
+/// dropped ([`keep`](crate::keep())): these have no tokens, and a text and built-in names only if they are given, or if
+/// [`Tree::keep`] has taken them over.
 #[derive(Clone, Copy, Debug)]
 pub struct Tree<'a> {
     builtins: Builtins<'a>,
     text: Option<&'a [u8]>,
-    /// Three numbers each; after the Eof there may be zeros. None at all for rows that another build wrote.
+    /// How many symbols are built-in names, also where these are not given.
+    built: u32,
+    edition: Edition,
+    /// Three numbers each; after the Eof there may be zeros. None at all for rows that were not read.
     list: &'a [u32],
     nodes: &'a [[u32; NODE_WIDTH]],
     links: &'a [[u32; LINK_WIDTH]],
@@ -427,11 +436,77 @@ impl<'a> Tree<'a> {
         builtins: Builtins<'a>,
         text: Option<&'a [u8]>,
         list: &'a [u32],
-        nodes: (&'a [u32], u32),
-        links: (&'a [u32], u32),
-        symbols: (&'a [u32], u32),
+        edition: Edition,
+        [nodes, links, symbols]: [(&'a [u32], u32); 3],
     ) -> Tree<'a> {
-        Tree { builtins, text, list, nodes: used(nodes), links: used(links), symbols: used(symbols) }
+        let (nodes, links, symbols) = (used(nodes), used(links), used(symbols));
+        Tree { builtins, text, built: builtins.count(), edition, list, nodes, links, symbols }
+    }
+
+    /// The same rows, of whose symbols so many are built-in names that are not given.
+    pub(crate) fn with_built(self, built: u32) -> Tree<'a> {
+        Tree { built, ..self }
+    }
+
+    /// What has to be known of the rows to drop some of their statements, once the tree is let go:
+    /// [`Rooms::keep`](crate::Rooms::keep), or [`keep`](crate::keep()) over slices. Rows that another build wrote have built-in names
+    /// only if they are given ([`Tree::with_builtins`]).
+    ///
+    /// ```
+    /// use kaori_syntax::{Edition, Rooms};
+    ///
+    /// let held = Rooms::for_tokens(8).read(b"a; b;", 64)?.held();
+    /// assert_eq!((held.nodes, held.links, held.symbols), (3, 2, 2));
+    /// assert_eq!((held.builtins, held.edition), (0, Edition::FIRST));
+    /// # Ok::<(), kaori_syntax::Refusal>(())
+    /// ```
+    pub fn held(&self) -> Held {
+        // no room has more rows than its count
+        let [nodes, links, symbols] =
+            [self.nodes.len(), self.links.len(), self.symbols.len()].map(|count| count as u32);
+        Held { nodes, links, symbols, builtins: self.built, edition: self.edition }
+    }
+
+    /// Keeps those of the script's statements that are chosen, in other rooms, and this tree stays as it is: its rows are copied
+    /// there, and packed as by [`Rooms::keep`](crate::Rooms::keep). What is left has this tree's text and built-in names, where it
+    /// has them. There are no tokens, so that there is no [`Tree::cover`].
+    ///
+    /// The node, link and symbol rooms and the scratch are made as large as this tree's rows ask for, and never smaller; each of
+    /// the three has the rows that are kept, and then zeros. Refused are more built-in names than there are symbols, where they
+    /// were given, by 15; a guard, by 22; and a choice that is longer or shorter than the script has statements, by 20. Then each
+    /// of the three has all rows of this tree.
+    ///
+    /// ```
+    /// use kaori_syntax::{Code, Rooms};
+    ///
+    /// let text = b"show(early); show(late); advance();";
+    /// let (mut rooms, mut others) = (Rooms::for_tokens(16), Rooms::default());
+    /// let tree = rooms.read(text, 64)?;
+    /// assert_eq!(tree.keep(&[true], &mut others).unwrap_err().code, Code::BadChoice);
+    ///
+    /// let left = tree.keep(&[false, true, true], &mut others).unwrap();
+    /// assert_eq!([0, 1, 2].map(|symbol| left.symbol(symbol)), [Some(&b"show"[..]), Some(b"late"), Some(b"advance")]);
+    /// assert_eq!((left.rows().count(), tree.rows().count(), tree.symbol(1)), (6, 9, Some(&b"early"[..])));
+    ///
+    /// // both rooms are lent to what is left: once it is let go the first are free, and it is taken up again where it stands
+    /// let held = left.held();
+    /// rooms.read(b"show(next);", 64)?;
+    /// let left = others.keep(held, &[true, true]).unwrap().with_text(text);
+    /// assert_eq!((left.rows().count(), left.symbol(1)), (6, Some(&b"late"[..])));
+    /// # Ok::<(), kaori_syntax::Refusal>(())
+    /// ```
+    #[cfg(feature = "alloc")]
+    pub fn keep(&self, choice: &[bool], rooms: &'a mut Rooms) -> Result<Tree<'a>, RowsRefusal> {
+        let Rooms { nodes, links, symbols, .. } = &mut *rooms;
+        let rows = [self.nodes.as_flattened(), self.links.as_flattened(), self.symbols.as_flattened()];
+        for (room, rows) in [nodes, links, symbols].into_iter().zip(rows) {
+            let size = room.len().max(rows.len());
+            room.clear();
+            room.extend_from_slice(rows);
+            room.resize(size, 0);
+        }
+        let left = rooms.keep(self.held(), choice)?;
+        Ok(Tree { builtins: self.builtins, text: self.text, ..left })
     }
 
     /// The node rows as numbers: kind, start, end, six more, and the parent's row, as bindings/c/kaori.h has them.
@@ -455,7 +530,7 @@ impl<'a> Tree<'a> {
         Rows { tree: *self, next: 0, end: self.nodes.len() as u32 }
     }
 
-    /// The tokens, the Eof last. There are none for rows that another build wrote.
+    /// The tokens, the Eof last. There are none for rows that another build wrote, or that are left of others.
     ///
     /// ```
     /// use kaori_syntax::{Kind, Rooms};
@@ -470,13 +545,15 @@ impl<'a> Tree<'a> {
         Tokens(upto_eof(self.list))
     }
 
-    /// The text. It is empty for rows that another build wrote, until they are given one.
+    /// The text. It is empty for rows that another build wrote, or that are left of others, until they are given one; only
+    /// [`Tree::keep`] takes over that of the tree.
     pub fn text(&self) -> &'a [u8] {
         self.text.unwrap_or_default()
     }
 
-    /// The same rows over this text. It is for rows that another build wrote, which come without: then [`Tree::symbol`] has the
-    /// names that stand in it. Nothing is asked of the text; there are no bytes for a place that is not in it.
+    /// The same rows over this text. It is for rows that another build wrote, or that are left of others, which come without: then
+    /// [`Tree::symbol`] has the names that stand in it. Nothing is asked of the text; there are no bytes for a place that is not in
+    /// it.
     ///
     /// ```
     /// use kaori_syntax::{Edition, Node, Span, Tree};
@@ -509,7 +586,7 @@ impl<'a> Tree<'a> {
     /// # Ok::<(), kaori_syntax::Refusal>(())
     /// ```
     pub fn with_builtins(self, builtins: Builtins<'a>) -> Tree<'a> {
-        Tree { builtins, ..self }
+        Tree { builtins, built: builtins.count(), ..self }
     }
 
     /// What stands below a row, in the order of the text, whatever the row is. Nothing, if there are not so many rows.
@@ -532,7 +609,7 @@ impl<'a> Tree<'a> {
     /// The whole text that a row covers: from the leftmost start to the rightmost end of the row and of all that stands below
     /// it, with the counterparts of parentheses that are alone in that. So it is balanced, and parentheses around the row itself
     /// are not in it. A script's root covers the script from its start on. None: there are not so many rows, or they were written
-    /// by another build, so that there are no tokens.
+    /// by another build or are left of others, so that there are no tokens.
     ///
     /// It is one pass over what stands below the row and one over the tokens.
     ///
@@ -597,8 +674,11 @@ impl<'a> Tree<'a> {
     }
 
     /// The bytes of a symbol: a built-in name, a name, or what stands between a string's quotes. None: there are not so many; or,
-    /// of rows that another build wrote, the symbol's place is not in its text, or there is no text.
+    /// of rows that another build wrote or that are left of others, the symbol's place is not in its text, or there is no text.
     pub fn symbol(&self, symbol: u32) -> Option<&'a [u8]> {
+        if (self.builtins.count()..self.built).contains(&symbol) {
+            return None;
+        }
         let text = if symbol < self.builtins.count() { self.text() } else { self.text? };
         name(self.builtins, text, self.symbols.as_flattened(), self.symbols.len() as u32, symbol)
     }
@@ -667,7 +747,8 @@ mod tests {
     fn outward(kinds: [u32; 3], parents: [u32; 3], from: u32) -> Vec<u32> {
         let row = |i: usize| [kinds[i], 0, 0, 0, 0, 0, 0, 0, 0, parents[i]];
         let nodes = [row(0), row(1), row(2), [14; NODE_WIDTH]].concat(); // the room has a row more
-        let tree = Tree::new(Builtins::NONE, None, &[], (&nodes, 3), (&[], 0), (&[], 0));
+        let rows = [(&nodes[..], 3), (&[], 0), (&[], 0)];
+        let tree = Tree::new(Builtins::NONE, None, &[], Edition::FIRST, rows);
         tree.outward(from).map(|row| row.number).collect()
     }
 

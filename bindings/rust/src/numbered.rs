@@ -135,8 +135,8 @@ numbered! {
 }
 
 numbered! {
-    /// Why something was refused. The first that applies is given; in reading, from left to right, the first that is met. 12
-    /// and 20 are none.
+    /// Why something was refused. The first that applies is given; in reading, from left to right, the first that is met. 12 is
+    /// none.
     ///
     /// ```
     /// use kaori_syntax::{Code, Rooms};
@@ -187,15 +187,18 @@ numbered! {
     /// Of a station's scripts: there are none or over 32, their cuts are wrong, or the rooms are smaller than their parts;
     /// before all else. It is no script's own: [`TurnedAway`](crate::TurnedAway) stands for it.
     TurnedAway = 19,
-    /// The edition is neither 1 nor 2; after 3, before any 4. Of rows that another build wrote: after 15.
+    /// Of [`keep`](crate::keep()): the choice's length is not the number of the root's statements; after 22.
+    BadChoice = 20,
+    /// The edition is neither 1 nor 2; after 3, before any 4. Of rows that another build wrote, or that statements are dropped
+    /// of: after 15.
     BadEdition = 21,
-    /// Rows that another build wrote break a [`Rule`].
+    /// Rows that another build wrote, or that statements are dropped of, break a [`Rule`].
     BadRows = 22,
 }
 
 impl Code {
-    /// 15 of [`Tree::from_rows`](crate::Tree::from_rows): a count of rows passes what was lent, or there is too little scratch
-    /// for them.
+    /// 15 of [`Tree::from_rows`](crate::Tree::from_rows) and [`keep`](crate::keep()): a count of rows passes what was lent, or there
+    /// is too little scratch for them; of the second also: there are more built-in names than symbols.
     pub const NOT_LENT: Code = Code::NoName;
 }
 

@@ -77,6 +77,11 @@ unsafe extern "C" {
         node_count: u32, link_count: u32, symbol_count: u32, edition: u32,
         scratch: *mut u32, scratch_len: usize, answer: *mut u32, answer_len: usize,
     ) -> u32;
+    fn kaori_drop(
+        nodes: *mut u32, nodes_len: usize, links: *mut u32, links_len: usize, symbols: *mut u32, symbols_len: usize,
+        node_count: u32, link_count: u32, symbol_count: u32, builtins: u32, edition: u32,
+        choice: *const u8, choice_len: usize, scratch: *mut u32, scratch_len: usize, answer: *mut u32, answer_len: usize,
+    ) -> u32;
     fn kaori_message(code: u32, expected: u32, found: u32, room: *mut u8, room_len: usize) -> usize;
     fn kaori_expected(
         tokens: *const u32, tokens_len: usize, edition: u32, limit: u32, code: u32, at: u32,
@@ -265,6 +270,22 @@ pub fn check(
             nodes.as_ptr(), nodes.len(), links.as_ptr(), links.len(), symbols.as_ptr(), symbols.len(),
             node_count, link_count, symbol_count, edition,
             scratch.as_mut_ptr(), scratch.len(), answer.as_mut_ptr(), answer.len(),
+        )
+    }
+}
+
+#[rustfmt::skip]
+#[allow(clippy::too_many_arguments)]
+pub fn drop(
+    nodes: &mut [u32], links: &mut [u32], symbols: &mut [u32], [node_count, link_count, symbol_count]: [u32; 3],
+    builtins: u32, edition: u32, choice: &[bool], scratch: &mut [u32], answer: &mut [u32; 6],
+) -> u32 {
+    // SAFETY: as the module says; a `bool` is a byte, 0 or 1.
+    unsafe {
+        kaori_drop(
+            nodes.as_mut_ptr(), nodes.len(), links.as_mut_ptr(), links.len(), symbols.as_mut_ptr(), symbols.len(),
+            node_count, link_count, symbol_count, builtins, edition,
+            choice.as_ptr().cast(), choice.len(), scratch.as_mut_ptr(), scratch.len(), answer.as_mut_ptr(), answer.len(),
         )
     }
 }

@@ -2,9 +2,9 @@
 use alloc::{vec, vec::Vec};
 
 use crate::{
-    Builtins, Code, Edition, Expected, LINK_WIDTH, Lent, MAX_NAMES, MAX_TOKENS, NODE_WIDTH, Refusal,
-    SCRATCH_WIDTH, SYMBOL_WIDTH, TOKEN_WIDTH, Tree, expected, guard_with, parse, parse_with, read,
-    read_guard_with, read_with,
+    Builtins, Code, Edition, Expected, Held, LINK_WIDTH, Lent, MAX_NAMES, MAX_TOKENS, NODE_WIDTH, Refusal,
+    RowsRefusal, SCRATCH_WIDTH, SYMBOL_WIDTH, TOKEN_WIDTH, Tree, expected, guard_with, keep, parse,
+    parse_with, read, read_guard_with, read_with,
 };
 
 /// Rooms of the crate's own, to be lent again and again.
@@ -187,6 +187,43 @@ impl Rooms {
     ) -> Result<Tree<'a>, Refusal> {
         let Rooms { nodes, links, symbols, scratch, .. } = self;
         guard_with(builtins, text, tokens, edition, limit, Lent { nodes, links, symbols, scratch })
+    }
+
+    /// Keeps those of a script's statements that are chosen, of the rows that a call has left in these rooms: [`keep`](keep()), with
+    /// scratch that is made as large as it asks for. `held` is [`Tree::held`] of the tree that was read.
+    ///
+    /// ```
+    /// use kaori_syntax::{Code, Edition, OwnedBuiltins, Rooms};
+    ///
+    /// let station = OwnedBuiltins::new(&["show", "advance"]);
+    /// let text = b"if late { show(time); } advance(); show(line);";
+    /// let mut rooms = Rooms::for_tokens_with(station.lend(), 32);
+    /// let held = rooms.read_with(station.lend(), text, Edition::FIRST, 64)?.held();
+    ///
+    /// let tree = rooms.keep(held, &[false, true, true]).unwrap().with_text(text).with_builtins(station.lend());
+    /// assert_eq!([0, 1, 2].map(|symbol| tree.symbol(symbol)), [Some(&b"show"[..]), Some(b"advance"), Some(b"line")]);
+    /// assert_eq!(tree.children(tree.root().unwrap().number).count(), 2);
+    ///
+    /// // once more, of what is left
+    /// let held = tree.held();
+    /// assert_eq!(rooms.keep(held, &[true]).unwrap_err().code, Code::BadChoice);
+    /// assert_eq!(rooms.keep(held, &[false, false]).unwrap().rows().count(), 1);
+    /// # Ok::<(), kaori_syntax::Refusal>(())
+    /// ```
+    pub fn keep(&mut self, held: Held, choice: &[bool]) -> Result<Tree<'_>, RowsRefusal> {
+        let Rooms { nodes, links, symbols, scratch, .. } = self;
+        // counts past what there is are refused
+        let within = |count: u32, room: &[u32], width: usize| count.min((room.len() / width) as u32);
+        let most = Held {
+            nodes: within(held.nodes, nodes, NODE_WIDTH),
+            links: within(held.links, links, LINK_WIDTH),
+            symbols: within(held.symbols, symbols, SYMBOL_WIDTH),
+            ..held
+        };
+        if scratch.len() < most.scratch() {
+            scratch.resize(most.scratch(), 0);
+        }
+        keep(held, choice, Lent { nodes, links, symbols, scratch })
     }
 }
 

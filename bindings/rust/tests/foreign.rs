@@ -1,11 +1,11 @@
-//! Rows that another build wrote: what passes the check and what does not, held to a model of the nine rules; and that a tree of
-//! what passes can be walked, whatever its spans are.
+//! Rows that another build wrote: what passes the check and what does not, held to a model of the nine rules; that a tree of
+//! what passes can be walked, whatever its spans are; and that what is left of it without some statements passes too.
 #[allow(dead_code)]
 mod rows;
 
 use kaori_syntax::{
-    Builtins, Code, Edition, LINK_WIDTH, NODE_WIDTH, Node, OwnedBuiltins, Rooms, RowsRefusal, Rule,
-    SYMBOL_WIDTH, Span, Tree,
+    Builtins, Code, Edition, Held, LINK_WIDTH, Lent, NODE_WIDTH, Node, OwnedBuiltins, Rooms, RowsRefusal,
+    Rule, SYMBOL_WIDTH, Span, Tree, keep,
 };
 use rows::{decode, frame};
 
@@ -611,6 +611,61 @@ fn anything_at_all() {
     assert!(broken.iter().all(|&times| times > 20), "{broken:?}");
 }
 
+/// Whether the same stands below two rows, and in the same order.
+fn alike(one: &Tree, i: u32, other: &Tree, j: u32) -> bool {
+    let [a, b] = [one.node_rows()[i as usize], other.node_rows()[j as usize]];
+    let (below, under) = (one.children(i).collect::<Vec<_>>(), other.children(j).collect::<Vec<_>>());
+    a[..3] == b[..3]
+        && below.len() == under.len()
+        && below.iter().zip(&under).all(|(a, b)| alike(one, a.number, other, b.number))
+}
+
+/// Drops statements, and holds what is left to the rules and to what stood there.
+fn less(sent: &Sent, choice: &[bool], builtins: u32) -> Sent {
+    let tree = sent.tree().unwrap();
+    let held = Held { builtins, ..tree.held() };
+    let mut left = sent.clone();
+    let mut scratch = vec![7; held.scratch()];
+    let Sent { nodes, links, symbols, .. } = &mut left;
+    let after = keep(held, choice, Lent { nodes, links, symbols, scratch: &mut scratch }).unwrap().held();
+    assert!(scratch.iter().all(|&number| number == 0));
+    let used = [
+        NODE_WIDTH as u32 * after.nodes,
+        LINK_WIDTH as u32 * after.links,
+        SYMBOL_WIDTH as u32 * after.symbols,
+    ];
+    for (room, used) in [nodes, links, symbols].into_iter().zip(used) {
+        assert!(room.split_off(used as usize).iter().all(|&number| number == 0));
+    }
+    let built = SYMBOL_WIDTH * builtins as usize;
+    assert_eq!((after.builtins, &left.symbols[..built]), (builtins, &sent.symbols[..built]));
+    let new = left.tree().unwrap();
+    let top =
+        |tree: &Tree| tree.children(tree.root().unwrap().number).map(|row| row.number).collect::<Vec<_>>();
+    let kept = top(&tree).into_iter().zip(choice).filter(|&(_, &kept)| kept);
+    let pairs: Vec<_> = kept.map(|(row, _)| row).zip(top(&new)).collect();
+    assert_eq!(pairs.len(), top(&new).len());
+    assert!(pairs.iter().all(|&(old, now)| alike(&tree, old, &new, now)), "{choice:?} of {sent:?}");
+    left
+}
+
+/// Statements of strange trees are dropped: what is left passes, and below each statement that is kept stands what stood there.
+#[test]
+fn less_of_anything() {
+    let mut dice = Dice(20261119);
+    for _ in 0..20_000 {
+        let rows = 1 + dice.roll(12);
+        let sent = dice.grown(rows);
+        let [nodes, _, symbols] = sent.counts();
+        let statements = sent.nodes[NODE_WIDTH * (nodes as usize - 1) + 4];
+        let choice: Vec<bool> = (0..statements).map(|_| dice.roll(2) == 0).collect();
+        let builtins = dice.roll(symbols as usize + 1) as u32;
+        let left = less(&sent, &choice, builtins);
+        let kept = choice.iter().filter(|&&kept| kept).count();
+        assert_eq!(less(&left, &vec![false; kept], builtins).counts(), [1, 0, builtins]);
+    }
+}
+
 /// Numbers that are rows by no stretch: an answer comes, and it is the model's.
 #[test]
 fn any_numbers() {
@@ -691,6 +746,19 @@ fn names_without_a_text() {
     assert_eq!(names(tree.with_text(b"")), [some("show"), some("print"), some(""), None, None]);
 }
 
+/// How many rows are left where statements are dropped.
+fn less_of(sent: &Sent, choose: impl Fn(u32) -> bool) -> [u32; 3] {
+    let [nodes, ..] = sent.counts();
+    let choice: Vec<bool> = (0..sent.nodes[NODE_WIDTH * (nodes as usize - 1) + 4]).map(choose).collect();
+    let mut left = sent.clone();
+    let held = sent.tree().unwrap().held();
+    let mut scratch = vec![0; held.scratch()];
+    let Sent { nodes, links, symbols, .. } = &mut left;
+    let Held { nodes, links, symbols, .. } =
+        keep(held, &choice, Lent { nodes, links, symbols, scratch: &mut scratch }).unwrap().held();
+    [nodes, links, symbols]
+}
+
 /// A tree as deep as it has rows, and a list as long: each is walked to its end.
 #[test]
 fn deep_and_long() {
@@ -714,6 +782,10 @@ fn deep_and_long() {
     walk(&tree);
     let last = ROWS - 1;
     assert!(tree.children(last).map(|row| row.number).eq((0..last).rev()));
+    // and what is left of them
+    assert_eq!(less_of(&deep, |_| true), [ROWS, 1, 0]);
+    assert_eq!(less_of(&deep, |_| false), [1, 0, 0]);
+    assert_eq!(less_of(&long, |row| row % 2 == 0), [ROWS / 2 + 1, ROWS / 2, 0]);
     // all the maps share one list, and each of its entries names one row: a check that went through each would not end soon
     let mut shared = Sent { nodes: vec![], links: vec![], symbols: vec![], edition: Edition::FIRST };
     for row in 0..ROWS {

@@ -72,6 +72,7 @@ fn by_hand() {
             Code::Required => assert_eq!(text, "refusal 8 at 1..2"),
             Code::Operand => assert_eq!(text, "refusal 9 at 1..2"),
             Code::TurnedAway => assert_eq!(text, "the scripts' count, cuts or rooms are wrong"),
+            Code::BadChoice => assert_eq!(text, "the choice's length is not the statement count"),
             Code::BadRows => assert_eq!(text, "the rows are not those of a tree"),
             Code::SmallAnswer => assert_eq!(text, "too little room for the answer"),
             Code::PastText => assert_eq!(text, "a place past the end of the text"),
@@ -86,7 +87,7 @@ fn by_hand() {
 
 #[test]
 fn numbers() {
-    let codes = [1, 2, 3, 4, 5, 6, 7, 8, 9, 10, 11, 13, 14, 15, 16, 17, 18, 19, 21, 22];
+    let codes = [1, 2, 3, 4, 5, 6, 7, 8, 9, 10, 11, 13, 14, 15, 16, 17, 18, 19, 20, 21, 22];
     assert!(Code::ALL.iter().map(|&code| code as u32).eq(codes));
     assert!(Kind::ALL.iter().map(|&kind| u32::from(kind)).eq(0..45));
     for number in (0..100).chain([u32::MAX]) {

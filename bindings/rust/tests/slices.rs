@@ -1,8 +1,8 @@
 //! What there is without `alloc`: everything over slices of the caller's. This file uses nothing else, and is also built and run
 //! without features.
 use kaori_syntax::{
-    Builtins, Code, Edition, Kind, Lent, Node, Rule, Span, Tree, TurnedAway, expected, guard_with, name,
-    parse, parse_scripts, place, read, read_guard_with, read_scripts, read_with,
+    Builtins, Code, Edition, Kind, Lent, Node, Rule, Span, Tree, TurnedAway, expected, guard_with, keep,
+    name, parse, parse_scripts, place, read, read_guard_with, read_scripts, read_with,
 };
 
 #[test]
@@ -75,6 +75,30 @@ fn rows_of_another_build_in_arrays() {
     let why =
         Tree::from_rows(&nodes, &links, &symbols, [5, 2, 2], Edition(0), &mut scratch[..8]).unwrap_err();
     assert_eq!((why.code, why.rule, why.row), (Code::NOT_LENT, None, 0));
+}
+
+#[test]
+fn less_of_a_script_in_arrays() {
+    let text = b"f(-a); a; f;";
+    let (mut list, mut nodes, mut links, mut symbols, mut scratch) =
+        ([0; 33], [0; 80], [0; 12], [0; 4], [0; 33]);
+    let lent = Lent { nodes: &mut nodes, links: &mut links, symbols: &mut symbols, scratch: &mut scratch };
+    let held = read(text, &mut list, 64, lent).unwrap().held();
+    assert_eq!((held.nodes, held.links, held.symbols, held.scratch()), (7, 4, 2, 24));
+    // the room that it was read in is enough here
+    let lent = Lent { nodes: &mut nodes, links: &mut links, symbols: &mut symbols, scratch: &mut scratch };
+    let left = keep(held, &[false, true, true], lent).unwrap().with_text(text);
+    assert!(left.children(2).map(|row| row.span.start).eq([7, 10]));
+    assert_eq!((left.symbol(0), left.symbol(1), left.cover(0)), (Some(&b"a"[..]), Some(&b"f"[..]), None));
+    let held = left.held();
+    assert_eq!((held.nodes, held.links, symbols, scratch), (3, 2, [7, 8, 10, 11], [0; 33]));
+
+    let lent = Lent { nodes: &mut nodes, links: &mut links, symbols: &mut symbols, scratch: &mut scratch };
+    let why = keep(held, &[true; 3], lent).unwrap_err();
+    assert_eq!((why.code, why.rule, why.row), (Code::BadChoice, None, 0));
+    let lent =
+        Lent { nodes: &mut nodes, links: &mut links, symbols: &mut symbols, scratch: &mut scratch[..11] };
+    assert_eq!(keep(held, &[true; 2], lent).unwrap_err().code, Code::NOT_LENT);
 }
 
 #[test]
