@@ -58,7 +58,7 @@ module _ {N L : Type 0} {G : Grammar N L} {kind : ℕ → ℕ} {limit : ℕ} whe
   falls (Turn.ends e) l f = turned (Turn.ends e) l (f l)
   falls Turn.shuts l f = turned Turn.shuts (omega arith) (f (omega arith))
 
-  pub fares : {K : Stack N L} {a : ℕ} {r : Result N L} → Goes G (kind a) a K r → marks K ≤ limit → Fares G kind limit K a a r
+  pub fares : {a : ℕ} {r : Result N L} {K : Stack N L} → Goes G (kind a) a K r → marks K ≤ limit → Fares G kind limit K a a r
   fares (Goes.now e) l = Fares.on l (λ q M m. Meets.take e m)
   fares Goes.done l = Fares.done
   fares (Goes.lacks e) l = Fares.stuck Barring.lack l (Meets.lacks e)
