@@ -23,7 +23,7 @@ pub const LINK_WIDTH: usize = 3;
 pub const ABSENT: u32 = 4294967295;
 
 // The handle of a row: its number and span, so that a merged span needs no look back into the room.
-#[derive(Drop)]
+#[derive(Clone, Copy)]
 pub struct Node {
     pub id: u32,
     pub start: u32,

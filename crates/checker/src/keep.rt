@@ -23,7 +23,7 @@ pub(crate) const PRESENT: u32 = 7;
 pub(crate) const CLEAN: u32 = 8;
 
 // What a rule is to be told: its number, the row's, and how many symbols there are.
-#[derive(Drop)]
+#[derive(Clone, Copy)]
 pub struct Asked {
     pub rule: u32,
     pub row: u32,

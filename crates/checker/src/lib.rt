@@ -41,7 +41,7 @@ const FOLLOWS: u32 = 6;
 const PARENTS: u32 = 9;
 
 // The answer: code 0; or 15 or 21, with the other numbers 0; or 22 with the first failed rule and the first row that breaks it.
-#[derive(Drop)]
+#[derive(Clone, Copy)]
 pub struct Verdict {
     pub code: u32,
     pub rule: u32,

@@ -35,7 +35,7 @@ pub fn link(links: &[u32], row: usize, i: u32) -> u32
 }
 
 // What stands below a row: a child, links that hold so many children each, and two more children. Each of the three may be ABSENT.
-#[derive(Drop)]
+#[derive(Clone, Copy)]
 pub struct Children {
     pub first: u32,
     pub from: u32,

@@ -11,7 +11,7 @@ pub struct Message {
 }
 
 // The answer of `line::place`: 0, or refusal 2 or 14; line and column from 1, or 0 where it is refused.
-#[derive(Drop)]
+#[derive(Clone, Copy)]
 pub struct Place {
     pub code: u32,
     pub line: u32,

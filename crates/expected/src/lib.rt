@@ -23,21 +23,21 @@ use token::kinds::EOF;
 use token::list::kind_at;
 
 // An open construct: its sort (module sorts), and its opening token.
-#[derive(Drop)]
+#[derive(Clone, Copy)]
 pub struct Opening {
     pub sort: u32,
     pub at: u32,
 }
 
 // The open constructs, outermost first; entries past the count are 0.
-#[derive(Drop)]
+#[derive(Clone, Copy)]
 pub struct Chain {
     pub entries: [Opening; 64],
     pub count: usize,
 }
 
 // The kinds that could have stood at a token, one binary digit each, how many they are and the lowest numbered one (255 where there is none); and what was open there.
-#[derive(Drop)]
+#[derive(Clone, Copy)]
 pub struct Told {
     pub kinds: u64,
     pub count: u32,

@@ -363,7 +363,7 @@ fn place(names: &[u8], rows: &[u32], wish: Wish, first: usize, end: usize) -> u3
 
 // The options: the edition, 0 where one is wrong; whether what is shown is for programs, and whether warnings count; the argument that names the file of built-in names, or
 // 0; and the argument that is next.
-#[derive(Drop)]
+#[derive(Clone, Copy)]
 struct Choice {
     edition: u32,
     json: bool,

@@ -17,7 +17,7 @@ use warning::warn;
 
 // What is asked for: the edition; the report of a refusal, the statements with their trees, the rows; the names of files above them; both editions side by side; guards and no
 // files; listings and no scripts; all of it for a program to read; that a warning counts; and what stands at a line and a column, unless the line is 0.
-#[derive(Drop)]
+#[derive(Clone, Copy)]
 pub struct Wish {
     pub edition: u32,
     pub report: bool,

@@ -15,7 +15,7 @@ use diagnostics::line::ends_line;
 use token::list::{end_at, kind_at, start_at};
 
 // The rules: each has rows that meet it.
-#[derive(Drop)]
+#[derive(Clone, Copy)]
 pub enum Rule {
     // a `not` that took an `and` or an `or` by reaching on
     ReachingNot,

@@ -29,7 +29,7 @@ const MOST_SYMBOLS: u32 = 4160;
 
 // A listing that was read: how many rows of nodes, links and symbols it has. Or what is wrong, 0 where nothing is; the line where, and its offset; and the number of the row
 // that should stand there.
-#[derive(Drop)]
+#[derive(Clone, Copy)]
 pub struct Listed {
     pub nodes: u32,
     pub links: u32,

@@ -26,7 +26,7 @@ const UNKNOWN: u32 = 15;
 const MISCOUNTED: u32 = 20;
 
 // The answer: code 0 and the rows that are left; or a refusal's code, and for 22 the first failed rule and the first row that breaks it.
-#[derive(Drop)]
+#[derive(Clone, Copy)]
 pub struct Packed {
     pub code: u32,
     pub nodes: u32,

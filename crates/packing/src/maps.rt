@@ -7,7 +7,7 @@ ghost use Rattle.packing.specs.Rows.{known_as};
 use ast::ABSENT;
 
 // Where the rows' numbers begin, how many symbols are left, and from which link a row's lists go to which.
-#[derive(Drop)]
+#[derive(Clone, Copy)]
 pub struct Maps {
     pub base: usize,
     pub symbols: u32,

@@ -9,7 +9,7 @@ pub mod pieces;
 use ast::Node;
 
 // Where a reading is: the next token, and how many rows each room holds. Lists that are not whole wait on the scratch room as on a stack.
-#[derive(Drop)]
+#[derive(Clone, Copy)]
 pub struct Cursor {
     pub held: usize,
     pub at: usize,
@@ -18,7 +18,7 @@ pub struct Cursor {
 }
 
 // What a caller names for a reading: the edition, and how many openings may be taken at a place.
-#[derive(Drop)]
+#[derive(Clone, Copy)]
 pub struct Terms {
     pub edition: u32,
     pub limit: u32,

@@ -9,7 +9,7 @@ use token::kinds;
 use wire::output::found;
 
 // Offsets in the text.
-#[derive(Drop)]
+#[derive(Clone, Copy)]
 pub struct Part {
     pub start: u32,
     pub end: u32,
@@ -74,7 +74,7 @@ fn reach(nodes: &[u32], links: &[u32], covers: &[u32], row: u32) -> Part {
 }
 
 // A part of the text, and how many parentheses in it are without their counterparts: `(` and `)`.
-#[derive(Drop)]
+#[derive(Clone, Copy)]
 struct Stretch {
     start: u32,
     end: u32,

@@ -29,7 +29,7 @@ use token::{editions, kinds};
 
 // The answer of a call: a code, which is 0 or a refusal's; how many rows each room has, 0 for a refusal; and a refusal's place and the kind that was
 // required there (255: no certain kind).
-#[derive(Drop)]
+#[derive(Clone, Copy)]
 pub struct Numbers {
     pub code: u32,
     pub nodes: u32,

@@ -44,7 +44,7 @@ const MOST: u32 = 5;
 
 // How far a walk from the place back to the first token is: how many brackets were met that close one further back, whether a line speaks for the expression around
 // what was met last, how many lines there are, with those that are not shown, the style of the next one, and where the last token ends if the file ends at the place, else 0.
-#[derive(Drop)]
+#[derive(Clone, Copy)]
 pub struct Walk {
     pub closed: u32,
     pub kept: bool,

@@ -8,7 +8,7 @@ use page::visible::put_path;
 use page::{end_line, put, put_first};
 
 // A refusal: its code, its place in the text, the kind that was required, and the kind that was found.
-#[derive(Drop)]
+#[derive(Clone, Copy)]
 pub struct Why {
     pub code: u32,
     pub start: u32,

@@ -34,7 +34,7 @@ pub(crate) const ALL: u32 = 65537;
 
 // What the last byte belongs to, how many tokens there were, where the last one starts, where the first string starts that holds the end of a line, and where a comment
 // of another language starts on this line.
-#[derive(Drop)]
+#[derive(Clone, Copy)]
 pub struct Gone {
     pub state: u32,
     pub count: u32,

@@ -12,7 +12,7 @@ use wire::output::found;
 
 // The places: the refused token's, that of the one before it and of the one before that, that of the first token of the statement, that of the name of a call whose `)` is
 // the token before; the one that a hint names, which is the end of the token before where there are tokens; a `}` that may close too much, and the `{` that it closes.
-#[derive(Drop)]
+#[derive(Clone, Copy)]
 pub struct Seen {
     pub code: u8,
     pub asked: u8,
@@ -241,7 +241,7 @@ fn opener_of(list: &[u32], token: u32) -> u32 {
 }
 
 // How far in a line starts, and whether nothing stands on it before an offset.
-#[derive(Drop)]
+#[derive(Clone, Copy)]
 pub struct Margin {
     pub blanks: u32,
     pub first: bool,

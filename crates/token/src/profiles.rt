@@ -1,5 +1,5 @@
 // What a call reads. Document 02, L9: 'Guards as a profile.'
-#[derive(Drop)]
+#[derive(Clone, Copy)]
 pub enum Profile {
     Script,
     Guard,
