@@ -249,13 +249,126 @@ abbrev each : List Telling → Bool
 each [] = true
 each (u ∷ us) = is_found (told u) && (is_found (numbered u) && each us)
 
-all_told : (us : List Telling) → T (each us) → AllTold us
-all_told [] h = tt
-all_told (u ∷ us) h =
-    let (a, b) = both (is_found (told u)) (is_found (numbered u) && each us) h in
-    let (c, d) = both (is_found (numbered u)) (each us) b in
-    (the_proof (told u) a, the_proof (numbered u) c, all_told us d)
+-- the first n, and those after them
+abbrev first : ℕ → List Telling → List Telling
+first zero us = []
+first (suc n) [] = []
+first (suc n) (u ∷ us) = u ∷ first n us
+
+abbrev after : ℕ → List Telling → List Telling
+after zero us = us
+after (suc n) [] = []
+after (suc n) (u ∷ us) = after n us
+
+first_told : (n : ℕ) (us : List Telling) → T (each (first n us)) → AllTold (after n us) → AllTold us
+first_told zero us h r = r
+first_told (suc n) [] h r = tt
+first_told (suc n) (u ∷ us) h r =
+    let (a, b) = both (is_found (told u)) (is_found (numbered u) && each (first n us)) h in
+    let (c, d) = both (is_found (numbered u)) (each (first n us)) b in
+    (the_proof (told u) a, the_proof (numbered u) c, first_told n us d r)
+
+-- each telling by a computation of its own: all of them in one take more memory than one proof may have
+told_0 : T (each (first 1 (after 0 tellings)))
+unfolding told numbered read_so right_kinds no_test passing gathered how_many lowest_from answered neither here deep_told unread_told chained set_right nothing_told other met whole which_edition same_openings all_decided both_found decided lefts next taken run moved turned asked tested the_proof openings reader fit fit_word fit_rows has_word kaori rules above edition ℕ_discrete dec_le dec_lt move link_move walk make put fill write numbers links_of rule block_list block_tail
+told_0 = tt
+
+told_1 : T (each (first 1 (after 1 tellings)))
+unfolding told numbered read_so right_kinds no_test passing gathered how_many lowest_from answered neither here deep_told unread_told chained set_right nothing_told other met whole which_edition same_openings all_decided both_found decided lefts next taken run moved turned asked tested the_proof openings reader fit fit_word fit_rows has_word kaori rules above edition ℕ_discrete dec_le dec_lt move link_move walk make put fill write numbers links_of rule block_list block_tail
+told_1 = tt
+
+told_2 : T (each (first 1 (after 2 tellings)))
+unfolding told numbered read_so right_kinds no_test passing gathered how_many lowest_from answered neither here deep_told unread_told chained set_right nothing_told other met whole which_edition same_openings all_decided both_found decided lefts next taken run moved turned asked tested the_proof openings reader fit fit_word fit_rows has_word kaori rules above edition ℕ_discrete dec_le dec_lt move link_move walk make put fill write numbers links_of rule block_list block_tail
+told_2 = tt
+
+told_3 : T (each (first 1 (after 3 tellings)))
+unfolding told numbered read_so right_kinds no_test passing gathered how_many lowest_from answered neither here deep_told unread_told chained set_right nothing_told other met whole which_edition same_openings all_decided both_found decided lefts next taken run moved turned asked tested the_proof openings reader fit fit_word fit_rows has_word kaori rules above edition ℕ_discrete dec_le dec_lt move link_move walk make put fill write numbers links_of rule block_list block_tail
+told_3 = tt
+
+told_4 : T (each (first 1 (after 4 tellings)))
+unfolding told numbered read_so right_kinds no_test passing gathered how_many lowest_from answered neither here deep_told unread_told chained set_right nothing_told other met whole which_edition same_openings all_decided both_found decided lefts next taken run moved turned asked tested the_proof openings reader fit fit_word fit_rows has_word kaori rules above edition ℕ_discrete dec_le dec_lt move link_move walk make put fill write numbers links_of rule block_list block_tail
+told_4 = tt
+
+told_5 : T (each (first 1 (after 5 tellings)))
+unfolding told numbered read_so right_kinds no_test passing gathered how_many lowest_from answered neither here deep_told unread_told chained set_right nothing_told other met whole which_edition same_openings all_decided both_found decided lefts next taken run moved turned asked tested the_proof openings reader fit fit_word fit_rows has_word kaori rules above edition ℕ_discrete dec_le dec_lt move link_move walk make put fill write numbers links_of rule block_list block_tail
+told_5 = tt
+
+told_6 : T (each (first 1 (after 6 tellings)))
+unfolding told numbered read_so right_kinds no_test passing gathered how_many lowest_from answered neither here deep_told unread_told chained set_right nothing_told other met whole which_edition same_openings all_decided both_found decided lefts next taken run moved turned asked tested the_proof openings reader fit fit_word fit_rows has_word kaori rules above edition ℕ_discrete dec_le dec_lt move link_move walk make put fill write numbers links_of rule block_list block_tail
+told_6 = tt
+
+told_7 : T (each (first 1 (after 7 tellings)))
+unfolding told numbered read_so right_kinds no_test passing gathered how_many lowest_from answered neither here deep_told unread_told chained set_right nothing_told other met whole which_edition same_openings all_decided both_found decided lefts next taken run moved turned asked tested the_proof openings reader fit fit_word fit_rows has_word kaori rules above edition ℕ_discrete dec_le dec_lt move link_move walk make put fill write numbers links_of rule block_list block_tail
+told_7 = tt
+
+told_8 : T (each (first 1 (after 8 tellings)))
+unfolding told numbered read_so right_kinds no_test passing gathered how_many lowest_from answered neither here deep_told unread_told chained set_right nothing_told other met whole which_edition same_openings all_decided both_found decided lefts next taken run moved turned asked tested the_proof openings reader fit fit_word fit_rows has_word kaori rules above edition ℕ_discrete dec_le dec_lt move link_move walk make put fill write numbers links_of rule block_list block_tail
+told_8 = tt
+
+told_9 : T (each (first 1 (after 9 tellings)))
+unfolding told numbered read_so right_kinds no_test passing gathered how_many lowest_from answered neither here deep_told unread_told chained set_right nothing_told other met whole which_edition same_openings all_decided both_found decided lefts next taken run moved turned asked tested the_proof openings reader fit fit_word fit_rows has_word kaori rules above edition ℕ_discrete dec_le dec_lt move link_move walk make put fill write numbers links_of rule block_list block_tail
+told_9 = tt
+
+told_10 : T (each (first 1 (after 10 tellings)))
+unfolding told numbered read_so right_kinds no_test passing gathered how_many lowest_from answered neither here deep_told unread_told chained set_right nothing_told other met whole which_edition same_openings all_decided both_found decided lefts next taken run moved turned asked tested the_proof openings reader fit fit_word fit_rows has_word kaori rules above edition ℕ_discrete dec_le dec_lt move link_move walk make put fill write numbers links_of rule block_list block_tail
+told_10 = tt
+
+told_11 : T (each (first 1 (after 11 tellings)))
+unfolding told numbered read_so right_kinds no_test passing gathered how_many lowest_from answered neither here deep_told unread_told chained set_right nothing_told other met whole which_edition same_openings all_decided both_found decided lefts next taken run moved turned asked tested the_proof openings reader fit fit_word fit_rows has_word kaori rules above edition ℕ_discrete dec_le dec_lt move link_move walk make put fill write numbers links_of rule block_list block_tail
+told_11 = tt
+
+told_12 : T (each (first 1 (after 12 tellings)))
+unfolding told numbered read_so right_kinds no_test passing gathered how_many lowest_from answered neither here deep_told unread_told chained set_right nothing_told other met whole which_edition same_openings all_decided both_found decided lefts next taken run moved turned asked tested the_proof openings reader fit fit_word fit_rows has_word kaori rules above edition ℕ_discrete dec_le dec_lt move link_move walk make put fill write numbers links_of rule block_list block_tail
+told_12 = tt
+
+told_13 : T (each (first 1 (after 13 tellings)))
+unfolding told numbered read_so right_kinds no_test passing gathered how_many lowest_from answered neither here deep_told unread_told chained set_right nothing_told other met whole which_edition same_openings all_decided both_found decided lefts next taken run moved turned asked tested the_proof openings reader fit fit_word fit_rows has_word kaori rules above edition ℕ_discrete dec_le dec_lt move link_move walk make put fill write numbers links_of rule block_list block_tail
+told_13 = tt
+
+told_14 : T (each (first 1 (after 14 tellings)))
+unfolding told numbered read_so right_kinds no_test passing gathered how_many lowest_from answered neither here deep_told unread_told chained set_right nothing_told other met whole which_edition same_openings all_decided both_found decided lefts next taken run moved turned asked tested the_proof openings reader fit fit_word fit_rows has_word kaori rules above edition ℕ_discrete dec_le dec_lt move link_move walk make put fill write numbers links_of rule block_list block_tail
+told_14 = tt
+
+told_15 : T (each (first 1 (after 15 tellings)))
+unfolding told numbered read_so right_kinds no_test passing gathered how_many lowest_from answered neither here deep_told unread_told chained set_right nothing_told other met whole which_edition same_openings all_decided both_found decided lefts next taken run moved turned asked tested the_proof openings reader fit fit_word fit_rows has_word kaori rules above edition ℕ_discrete dec_le dec_lt move link_move walk make put fill write numbers links_of rule block_list block_tail
+told_15 = tt
+
+told_16 : T (each (first 1 (after 16 tellings)))
+unfolding told numbered read_so right_kinds no_test passing gathered how_many lowest_from answered neither here deep_told unread_told chained set_right nothing_told other met whole which_edition same_openings all_decided both_found decided lefts next taken run moved turned asked tested the_proof openings reader fit fit_word fit_rows has_word kaori rules above edition ℕ_discrete dec_le dec_lt move link_move walk make put fill write numbers links_of rule block_list block_tail
+told_16 = tt
+
+told_17 : T (each (first 1 (after 17 tellings)))
+unfolding told numbered read_so right_kinds no_test passing gathered how_many lowest_from answered neither here deep_told unread_told chained set_right nothing_told other met whole which_edition same_openings all_decided both_found decided lefts next taken run moved turned asked tested the_proof openings reader fit fit_word fit_rows has_word kaori rules above edition ℕ_discrete dec_le dec_lt move link_move walk make put fill write numbers links_of rule block_list block_tail
+told_17 = tt
+
+told_18 : T (each (first 1 (after 18 tellings)))
+unfolding told numbered read_so right_kinds no_test passing gathered how_many lowest_from answered neither here deep_told unread_told chained set_right nothing_told other met whole which_edition same_openings all_decided both_found decided lefts next taken run moved turned asked tested the_proof openings reader fit fit_word fit_rows has_word kaori rules above edition ℕ_discrete dec_le dec_lt move link_move walk make put fill write numbers links_of rule block_list block_tail
+told_18 = tt
+
+told_19 : T (each (first 1 (after 19 tellings)))
+unfolding told numbered read_so right_kinds no_test passing gathered how_many lowest_from answered neither here deep_told unread_told chained set_right nothing_told other met whole which_edition same_openings all_decided both_found decided lefts next taken run moved turned asked tested the_proof openings reader fit fit_word fit_rows has_word kaori rules above edition ℕ_discrete dec_le dec_lt move link_move walk make put fill write numbers links_of rule block_list block_tail
+told_19 = tt
+
+told_20 : T (each (first 1 (after 20 tellings)))
+unfolding told numbered read_so right_kinds no_test passing gathered how_many lowest_from answered neither here deep_told unread_told chained set_right nothing_told other met whole which_edition same_openings all_decided both_found decided lefts next taken run moved turned asked tested the_proof openings reader fit fit_word fit_rows has_word kaori rules above edition ℕ_discrete dec_le dec_lt move link_move walk make put fill write numbers links_of rule block_list block_tail
+told_20 = tt
+
+told_21 : T (each (first 1 (after 21 tellings)))
+unfolding told numbered read_so right_kinds no_test passing gathered how_many lowest_from answered neither here deep_told unread_told chained set_right nothing_told other met whole which_edition same_openings all_decided both_found decided lefts next taken run moved turned asked tested the_proof openings reader fit fit_word fit_rows has_word kaori rules above edition ℕ_discrete dec_le dec_lt move link_move walk make put fill write numbers links_of rule block_list block_tail
+told_21 = tt
+
+told_22 : T (each (first 1 (after 22 tellings)))
+unfolding told numbered read_so right_kinds no_test passing gathered how_many lowest_from answered neither here deep_told unread_told chained set_right nothing_told other met whole which_edition same_openings all_decided both_found decided lefts next taken run moved turned asked tested the_proof openings reader fit fit_word fit_rows has_word kaori rules above edition ℕ_discrete dec_le dec_lt move link_move walk make put fill write numbers links_of rule block_list block_tail
+told_22 = tt
+
+told_23 : T (each (first 1 (after 23 tellings)))
+unfolding told numbered read_so right_kinds no_test passing gathered how_many lowest_from answered neither here deep_told unread_told chained set_right nothing_told other met whole which_edition same_openings all_decided both_found decided lefts next taken run moved turned asked tested the_proof openings reader fit fit_word fit_rows has_word kaori rules above edition ℕ_discrete dec_le dec_lt move link_move walk make put fill write numbers links_of rule block_list block_tail
+told_23 = tt
+
+told_24 : T (each (first 1 (after 24 tellings)))
+unfolding told numbered read_so right_kinds no_test passing gathered how_many lowest_from answered neither here deep_told unread_told chained set_right nothing_told other met whole which_edition same_openings all_decided both_found decided lefts next taken run moved turned asked tested the_proof openings reader fit fit_word fit_rows has_word kaori rules above edition ℕ_discrete dec_le dec_lt move link_move walk make put fill write numbers links_of rule block_list block_tail
+told_24 = tt
 
 pub told_right : AllTold tellings
-unfolding told numbered read_so right_kinds no_test passing gathered how_many lowest_from answered neither here deep_told unread_told chained set_right nothing_told other met whole which_edition same_openings all_decided both_found decided lefts next taken run moved turned asked tested the_proof openings reader fit fit_word fit_rows has_word kaori rules above edition ℕ_discrete dec_le dec_lt move link_move walk make put fill write numbers links_of rule block_list block_tail
-told_right = all_told tellings tt
+told_right =
+    first_told 1 tellings told_0 (first_told 1 (after 1 tellings) told_1 (first_told 1 (after 2 tellings) told_2 (first_told 1 (after 3 tellings) told_3 (first_told 1 (after 4 tellings) told_4 (first_told 1 (after 5 tellings) told_5 (first_told 1 (after 6 tellings) told_6 (first_told 1 (after 7 tellings) told_7 (first_told 1 (after 8 tellings) told_8 (first_told 1 (after 9 tellings) told_9 (first_told 1 (after 10 tellings) told_10 (first_told 1 (after 11 tellings) told_11 (first_told 1 (after 12 tellings) told_12 (first_told 1 (after 13 tellings) told_13 (first_told 1 (after 14 tellings) told_14 (first_told 1 (after 15 tellings) told_15 (first_told 1 (after 16 tellings) told_16 (first_told 1 (after 17 tellings) told_17 (first_told 1 (after 18 tellings) told_18 (first_told 1 (after 19 tellings) told_19 (first_told 1 (after 20 tellings) told_20 (first_told 1 (after 21 tellings) told_21 (first_told 1 (after 22 tellings) told_22 (first_told 1 (after 23 tellings) told_23 (first_told 1 (after 24 tellings) told_24 tt))))))))))))))))))))))))
