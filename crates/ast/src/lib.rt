@@ -1,3 +1,4 @@
+#![tactic(auto)]
 // Node rows: a port of ast.rs. Each function here writes one row to the lent node room, at row `n`, and hands its handle back. Where the room has no such row it
 // writes nothing, and the handle's number is ABSENT. It asks that `n` itself is below that. A list (L) is its first link row and its count; a name (N) is its symbol
 // and its place, `from` up to `upto`; a row's span comes last.

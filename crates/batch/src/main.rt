@@ -1,3 +1,4 @@
+#![tactic(auto)]
 // Answers a stream of cases, each in a frame, by a stream of frames. A case is an input of the program `rows`, and its answer what that prints. Or a limit and the
 // sizes of rooms stand before such an input, after the mark 52 4D; the answer is then what a call in these rooms answers, and all numbers that it leaves in them. Or
 // built-in names stand there, too, after the mark 52 4E; the call is then beside these names. Or after the mark 52 4F stands an edition, and then what stands after 52 4E;

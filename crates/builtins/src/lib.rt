@@ -1,3 +1,4 @@
+#![tactic(auto)]
 // Built-in names: whether they are right (document 02, L10, refusal 18), and which of them a word is. Beside them stands their index, as of a symbol table.
 ghost use Rattle.std.specs.Prelude.{◌≡◌};
 ghost use Rattle.grammar.specs.Builtin.{builtins as names_in};

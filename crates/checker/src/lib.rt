@@ -1,3 +1,4 @@
+#![tactic(auto)]
 // Whether rows that another build wrote are those of a tree: nine rules, in their order. Each is a pass over the rows, and no pass looks at a link more than four times,
 // also where lists overlap.
 mod follow;

@@ -1,3 +1,4 @@
+#![tactic(auto)]
 // What stands below a row of a tree, in the order of the text. Every function answers for any numbers: what is not there is ABSENT, so that a walk needs no promise
 // about the rows.
 ghost use Rattle.std.specs.Prelude.{◌+◌, ◌*◌, ◌≡◌};

@@ -1,3 +1,4 @@
+#![tactic(auto)]
 // What is told of a refusal: its text, and the line and column of its place.
 pub mod line;
 pub mod reason;

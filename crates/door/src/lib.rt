@@ -1,3 +1,4 @@
+#![tactic(auto)]
 // The door: checks 1 to 7 of document 01, in order, those of the built-in names and of the edition (document 02, L10 and L14) among them, and then that of the profile (L9).
 // Of the rooms it asks for scratch, and for the built-in rows in the symbol room: whether other rows fit is met in reading.
 pub mod wrong;

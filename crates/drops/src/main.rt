@@ -1,3 +1,4 @@
+#![tactic(auto)]
 // Answers a stream of calls that drop statements, each in a frame, by a stream of frames: the answer's six numbers, and what the call leaves in the rooms of nodes, links, symbols
 // and scratch. A frame is numbers of four bytes: the edition, how many rows of nodes, links and symbols there are said to be, and how many of the symbols are built-in names; how many
 // numbers the four rooms have, and how many bytes the choice. Then stand all numbers of nodes, of links and of symbols, and the choice.

@@ -1,3 +1,4 @@
+#![tactic(auto)]
 // What could have stood at a refused token, and what was open there: document 02, L2. A pass of its own over the tokens up to the place: reading does not change, and a
 // script that is read pays nothing.
 pub mod sorts;

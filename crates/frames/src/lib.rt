@@ -1,3 +1,4 @@
+#![tactic(auto)]
 // Frames on standard input and output: four bytes of length, the lowest first, and then so many bytes. No contract can say which bytes are read or written.
 pub mod numbers;
 

@@ -1,3 +1,4 @@
+#![tactic(auto)]
 // The symbol table: a port of string_interner.rs. A row of the lent room is the first place of a name in the text; its symbol is its number.
 // Beside the rows stands their index: each row is in one of `size` buckets, which its bytes decide, and a name is looked for in its own bucket alone, the newest row
 // first, since scripts repeat the name that they have just used.

@@ -1,3 +1,4 @@
+#![tactic(auto)]
 // The command `kaori`, for those who write scripts: what a script reads as, what is wrong with it, what stands at a place of it, what the editions group differently, and what a guard reads as. And for
 // those who write rows: whether they are those of a tree.
 mod builtin;

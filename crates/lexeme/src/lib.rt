@@ -1,3 +1,4 @@
+#![tactic(auto)]
 // Which lexeme fits which kind: document 002's patterns for numbers, strings and identifiers, and the fixed spellings, whose table is lent.
 
 ghost use Rattle.std.specs.Prelude.{◌≡◌, ◌≤◌, length};

@@ -1,3 +1,4 @@
+#![tactic(auto)]
 // The token maker: from text to the token list (request L1).
 mod scan;
 

@@ -1,3 +1,4 @@
+#![tactic(auto)]
 // Which rows of a script deserve a warning: what they are may not be what the writer meant. It reads finished rows, tokens and the text, and asks nothing of them: every
 // rule is decided for any numbers.
 pub mod reach;

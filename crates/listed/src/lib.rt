@@ -1,3 +1,4 @@
+#![tactic(auto)]
 // A listing, as the program `rows` and the command print it, read back into rooms; and what is said of its rows.
 pub mod digits;
 pub mod judging;

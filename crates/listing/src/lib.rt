@@ -1,3 +1,4 @@
+#![tactic(auto)]
 // What the program `rows` prints for its input, as one function.
 ghost use Rattle.wire.specs.Output.{Zeros, Output-given};
 ghost use Rattle.wire.specs.Scanned.{Sizes};

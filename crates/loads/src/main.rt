@@ -1,3 +1,4 @@
+#![tactic(auto)]
 // Answers a stream of station's calls, each in a frame, by a stream of frames: the code of the call, and what it leaves in the joined list, the four rooms and the room for
 // the answers. A frame is numbers of four bytes: whether the lists are given (0) or the token maker makes them (any other), the edition, the limit, the rows of a part; how
 // many bytes the built-in names' text has, and how many numbers their rows; how many bytes the joined text has; how many numbers the joined list and the cuts have, and the

@@ -1,3 +1,4 @@
+#![tactic(auto)]
 // The symbols of a token list, before it is read: an identifier's word and a string's inside, in the order of the tokens. A word is looked up among the built-in
 // names, and then among the script's own, whose rows stand behind the built-in ones.
 // While the pass runs, the lower two thirds of the scratch room hold the index of the script's rows, with a bucket for each token. From the first word on whose row

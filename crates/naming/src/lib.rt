@@ -1,3 +1,4 @@
+#![tactic(auto)]
 // The name of a symbol: its bytes, as a part of the text that holds them, the built-in names' or the script's, which the symbol's number decides.
 ghost use Rattle.std.specs.Prelude.{◌≡◌, length};
 ghost use Rattle.naming.specs.Name.{chosen, PlaceTold, Part-told, Name-told};

@@ -1,3 +1,4 @@
+#![tactic(auto)]
 // Rows without some of the root's statements, packed to the front in place. Rows that another build wrote are packed too: they are checked first. Linear: no pass looks at a
 // number more than a few times.
 mod hear;

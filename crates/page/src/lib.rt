@@ -1,3 +1,4 @@
+#![tactic(auto)]
 // A line of output: the room holds what is not written yet, and a place in it is the line's column for as long as the line fits. A room that is full is
 // written out, so that nothing is cut.
 pub mod hint;

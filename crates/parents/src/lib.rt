@@ -1,3 +1,4 @@
+#![tactic(auto)]
 // Each row's parent, put in once all rows are written: one pass over the rows, in their order. What a row names is read off by its kind, as the grammar's Layout.antt
 // and Naming.antt have it; any numbers have an answer, if the room has the row.
 ghost use Rattle.std.specs.Prelude.{◌*◌, ◌&&◌, ◌∷◌, [], ◌≡◌, leb, drop, get_or};

@@ -1,3 +1,4 @@
+#![tactic(auto)]
 // From a script's or a guard's text to its rows, in one call: the token maker, and what `parse_as` answers of the list that it makes. That list is right by proof, and is not
 // checked again.
 ghost use Rattle.grammar.specs.Builtin.{builtins as names_in, none};

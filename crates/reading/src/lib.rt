@@ -1,3 +1,4 @@
+#![tactic(auto)]
 // What the readers stand on: where a reading is, what a reader answers, and the readers that call no other form: tokens, names, lists of names, leaves. A port of the
 // part of parser.rs that needs no recursion. Each reader asks `Ready`: a list that the door let in, a place in it, and a scratch room with a row for each token.
 // A row that has no room ends the reading: refusal 4.

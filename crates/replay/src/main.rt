@@ -1,3 +1,4 @@
+#![tactic(auto)]
 // Replays the Rust's answers: a stream of frames, of a case and its answer in turn. Prints how many of them the program `rows` agrees with.
 ghost use Rattle.std.specs.Prelude.{◌≤◌, length};
 

@@ -1,3 +1,4 @@
+#![tactic(auto)]
 // The program of document 01: reads standard input to its end, and prints what its script's rows or its refusal are.
 use listing::{answer, blank};
 

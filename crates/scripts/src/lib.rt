@@ -1,3 +1,4 @@
+#![tactic(auto)]
 // A station's scripts in one call: one joined text and one joined token list with cuts, and rooms that are cut into equal parts. Each script is read by itself, from its own
 // part of the text and the list and into its own part of each room, as `parse_with` or `read_with` reads it: none is seen by another.
 ghost use Rattle.std.specs.Prelude.{◌+◌, ◌*◌, ◌≤◌, ◌<◌, ◌++◌, ◌≡◌, length, drop};

@@ -1,3 +1,4 @@
+#![tactic(auto)]
 // What is shown of a script that is read.
 pub mod at;
 pub mod cover;

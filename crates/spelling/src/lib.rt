@@ -1,3 +1,4 @@
+#![tactic(auto)]
 // The table of the fixed spellings of kinds 0 to 39 and 41: for each kind up to 41 where its spelling starts, counted from the first, then for each how long it is, then
 // the spellings, one after the other. NumberLiteral (40) has none. After them stands the keyword of each of 64 slots, where a word's slot is made of its first and its last byte,
 // and then the class of each byte. To name a constant array copies it, so the table is made once and lent.

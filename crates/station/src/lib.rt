@@ -1,3 +1,4 @@
+#![tactic(auto)]
 // What a station links: `parse_with`, `read_with` and the same of guards, those of scripts of edition 1 beside no names too, a station's scripts in one call, the message of a refusal and the text of any, what could
 // have stood there, the line of a place, the place of a name, what stands below a row, whether rows that another build wrote keep the rules, and rows without some statements, for C and Rust to call, over numbers and slices alone.
 // None has a `requires`. A slice is a pointer and a length to C, in this order.

@@ -1,3 +1,4 @@
+#![tactic(auto)]
 // The public entries: a port of `parse` of parser.rs, and of its reader of one expression for guards. The door, then the symbols of all names, the statements up to Eof
 // and the root's row, or a guard's expression and the Eof, then the parents, and zeros. `parse` is `parse_with` of edition 1 beside no built-in names.
 ghost use Rattle.std.specs.Prelude.{◌≡◌, ◌≤◌, ◌<◌, length};

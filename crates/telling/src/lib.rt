@@ -1,3 +1,4 @@
+#![tactic(auto)]
 // What is said of a script or a guard that is refused: the place and the message, the line of the text, and below it what could have stood there and what is open.
 mod could;
 mod hints;

@@ -1,3 +1,4 @@
+#![tactic(auto)]
 // Answers a stream of texts, each in a frame, by a stream of frames: what the token maker answers, and what it leaves in the list room.
 ghost use Rattle.std.specs.Prelude.{◌+◌, ◌*◌, ◌≤◌, length};
 

@@ -1,3 +1,4 @@
+#![tactic(auto)]
 // Answers a stream of row sets, each in a frame, by a stream of frames: what the check of rows that another build wrote answers, and what it leaves in the scratch room.
 // A case is numbers of four bytes: the edition, how many rows of nodes, links and symbols there are said to be, how many numbers their rooms and the scratch room have, and
 // then all numbers of nodes, of links and of symbols.

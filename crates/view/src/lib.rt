@@ -1,3 +1,4 @@
+#![tactic(auto)]
 // A look at the finished rows: the last row, and the kind, span and parent of a row. The functions on a slice of node numbers and a count come first; a view holds
 // the two together.
 ghost use Rattle.view.specs.View.{LastTold, KindTold, SpanTold, ParentTold};

@@ -1,3 +1,4 @@
+#![tactic(auto)]
 // What is said of a row that deserves a warning: its place, what it is, the line of the text, and below it how to write what was perhaps meant. Crate lint says which rows
 // these are.
 mod forms;

@@ -1,0 +1,7 @@
+-- `find` meets its contract: a search in the names' index answers the grammar's.
+use borrow.Author.Rules.{rules}
+use Rattle.builtins.proofs.Naming.{known_sought}
+use Rattle.builtins.proofs.find.Goals as goal
+
+pub returns : goal.returns
+returns c = known_sought c.requires.0 c.find.ensures

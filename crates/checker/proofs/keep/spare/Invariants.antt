@@ -1,0 +1,14 @@
+-- `spare` meets its contract: what is left decides the whole.
+use borrow.Author.Rules.{rules}
+use borrow.Author.Tests.{not-true, not-false}
+use Prim.Native.Nat.{◌-◌, ◌≤◌}
+use mathlib.Core.Path.{refl}
+use native.Mathlib.Omega.{arith}
+use Rattle.checker.proofs.Keeping.{Sparing, spare_any, spare_more, spare_broken, spare_ended}
+use Rattle.checker.proofs.keep.spare.Given as goal
+
+abbrev pub invariant-loop-at : goal.invariant-loop-at
+invariant-loop-at l = Sparing l.a l.nodes l.from l.upto l.at × (l.at ≤ l.upto)
+
+abbrev pub decreases-loop-at : goal.decreases-loop-at
+decreases-loop-at l = l.upto - l.at

@@ -1,0 +1,24 @@
+-- `name` meets its contract: row by row, the marks are those of the rows gone through.
+use Prim.Native.Nat.{◌-◌, ◌≤◌}
+use borrow.Author.Rules.{rules}
+use native.Mathlib.Omega.{arith}
+use mathlib.Core.Path.{◌≡◌}
+use lib.ListN.{length}
+use Rattle.checker.specs.Slots.{rows}
+use Rattle.checker.proofs.Naming.{Naming, row_lists, naming_none, naming_more, naming_done}
+use Rattle.checker.proofs.name.name.Goals as goal
+
+pub loop-row-init : goal.loop-row-init
+loop-row-init c = (naming_none c.requires c.zero.ensures, omega arith, omega arith)
+
+pub cut_row-requires : goal.cut_row-requires
+cut_row-requires c = c.requires.standing.each _ c.loop-row-test.true
+
+pub name_row-requires : goal.name_row-requires
+name_row-requires c = let (x, y, z) = row_lists c.requires c.loop-row-test.true c.cut_row.ensures in (omega arith, x, y, z, c.loop-row.invariant.0.ready)
+
+pub loop-row-preserved : goal.loop-row-preserved
+loop-row-preserved c = (naming_more c.requires c.loop-row-test.true c.cut_row.ensures c.loop-row.invariant.0 c.name_row.ensures, omega arith, omega arith)
+
+pub returns : goal.returns
+returns c = naming_done (omega arith) c.loop-row.invariant.0

@@ -1,0 +1,9 @@
+-- `other` meets its contract.
+use borrow.Author.Rules.{rules}
+use Rattle.checker.proofs.name.other.Goals as goal
+
+pub returns-then-two : goal.returns-then-two
+returns-then-two c = rw c.if-two.true
+
+pub returns : goal.returns
+returns c = rw c.if-two.false

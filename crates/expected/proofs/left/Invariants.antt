@@ -1,0 +1,19 @@
+-- `left` meets its contract: token by token the stack is what is left, each taken within the limit; or reading is not refused at the place.
+use Prim.Native.Nat.{ℕ, ◌+◌, ◌-◌, ◌≤◌, ◌<◌}
+use mathlib.Core.Logic.{⊎_elim}
+use mathlib.Core.Path.{◌≡◌, refl, sym, subst, ◌∙◌}
+use native.Mathlib.Omega.{arith}
+use borrow.Author.Rules.{rules}
+use lib.ListN.{length}
+use Rattle.grammar.specs.Edition.{edition as the-edition}
+use Rattle.grammar.specs.Token.{kind}
+use Rattle.expected.specs.Left.{ComesTo}
+use Rattle.expected.specs.Steps.{Taken, Stepped}
+use Rattle.expected.proofs.Leaving.{Leaving, leaving, spare, shallow, leaving_on, must_take, not_deep, as_took}
+use Rattle.expected.proofs.left.Given as goal
+
+abbrev pub invariant-loop-i : goal.invariant-loop-i
+invariant-loop-i l = (l.i ≤ l.at) × Leaving (the-edition l.edition) l.tokens l.limit l.room l.top l.depth l.i
+
+abbrev pub decreases-loop-i : goal.decreases-loop-i
+decreases-loop-i l = l.at - l.i

@@ -1,0 +1,17 @@
+-- `numbers::put_all` meets its contract: number by number, what is left makes the whole.
+use Prim.Native.Nat.{◌-◌, ◌≤◌}
+use borrow.Author.Rules.{rules}
+use native.Mathlib.Omega.{arith}
+use mathlib.Core.Path.{◌≡◌}
+use lib.ListN.{length}
+use Rattle.frames.proofs.Listing.{Putting, putting, put_more, put_done}
+use Rattle.frames.proofs.numbers.put_all.Goals as goal
+
+pub loop-i-init : goal.loop-i-init
+loop-i-init c = (putting _ _ _, search rules, search rules)
+
+pub loop-i-preserved : goal.loop-i-preserved
+loop-i-preserved c = (put_more (omega arith) c.put.ensures c.loop-i.invariant.0, search rules, search rules)
+
+pub returns : goal.returns
+returns c = put_done (omega arith) c.loop-i.invariant.0

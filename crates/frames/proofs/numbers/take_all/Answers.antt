@@ -1,0 +1,17 @@
+-- `numbers::take_all` meets its contract: number by number, what is left makes the whole.
+use Prim.Native.Nat.{◌-◌, ◌≤◌}
+use borrow.Author.Rules.{rules}
+use native.Mathlib.Omega.{arith}
+use mathlib.Core.Path.{◌≡◌, ap}
+use lib.ListN.{length, set}
+use Rattle.frames.proofs.Listing.{Taking, taking, take_more, take_done}
+use Rattle.frames.proofs.numbers.take_all.Goals as goal
+
+pub loop-i-init : goal.loop-i-init
+loop-i-init c = (taking _ _ _, search rules, search rules)
+
+pub loop-i-preserved : goal.loop-i-preserved
+loop-i-preserved c = let l = c.loop-i in (take_more (omega arith) (ap (set l.list l.i) c.four.ensures) l.invariant.0, search rules, search rules)
+
+pub returns : goal.returns
+returns c = take_done (omega arith) c.loop-i.invariant.0

@@ -1,0 +1,14 @@
+-- `numbers::take_all` meets its contract: number by number, what is left makes the whole.
+use Prim.Native.Nat.{◌-◌, ◌≤◌}
+use borrow.Author.Rules.{rules}
+use native.Mathlib.Omega.{arith}
+use mathlib.Core.Path.{◌≡◌, ap}
+use lib.ListN.{length, set}
+use Rattle.frames.proofs.Listing.{Taking, taking, take_more, take_done}
+use Rattle.frames.proofs.numbers.take_all.Given as goal
+
+abbrev pub invariant-loop-i : goal.invariant-loop-i
+invariant-loop-i l = Taking l.frame l.from l.initial.list l.list l.i × (length l.list ≡ length l.initial.list) × (l.i ≤ length l.initial.list)
+
+abbrev pub decreases-loop-i : goal.decreases-loop-i
+decreases-loop-i l = length l.initial.list - l.i

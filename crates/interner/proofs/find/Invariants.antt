@@ -1,0 +1,18 @@
+-- `find` meets its contract: it stands at a row of the bucket, and no row newer than that has the bytes. The measure is that row.
+use Prim.Native.Nat.{◌-◌, ◌<◌}
+use borrow.Author.Rules.{rules}
+use native.Mathlib.Omega.{arith}
+use lib.ListN.{length}
+use Rattle.grammar.specs.Token.{lexeme}
+use Rattle.interner.specs.Interns.{used}
+use Rattle.interner.specs.Search.{Wanted, Sought}
+use Rattle.interner.proofs.Buckets.{Seeking, bucket_inside, seeking_first, seeking_next, older}
+use Rattle.interner.proofs.Search.{row_below, part_is, holds_here, not_here}
+use Rattle.interner.proofs.find.Given as goal
+
+-- what is asked, with the size of the index, and where the search stands
+abbrev pub invariant-loop-next : goal.invariant-loop-next
+invariant-loop-next l = (asked : Wanted l.text l.other l.start l.end l.count l.place l.symbols l.index) × Seeking l.text (lexeme l.other l.start l.end) asked.size l.count (used l.count l.symbols) l.next
+
+abbrev pub decreases-loop-next : goal.decreases-loop-next
+decreases-loop-next l = l.next

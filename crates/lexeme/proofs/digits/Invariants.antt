@@ -1,0 +1,15 @@
+-- `digits` meets its contract: its loop runs over digits.
+use Prim.Native.Nat.{◌-◌}
+use mathlib.Core.Path.{sym, ◌∙◌}
+use native.Mathlib.Omega.{arith}
+use borrow.Author.Tests.{not-true, not-false}
+use borrow.Author.Rules.{rules}
+use Rattle.grammar.specs.Pattern.{digit}
+use Rattle.grammar.proofs.Runs.{Running, begun, goes_on, stops, is_over}
+use Rattle.lexeme.proofs.digits.Given as goal
+
+abbrev pub invariant-loop-at : goal.invariant-loop-at
+invariant-loop-at l = Running digit l.text l.start l.end l.at
+
+abbrev pub decreases-loop-at : goal.decreases-loop-at
+decreases-loop-at l = l.end - l.at

@@ -1,0 +1,43 @@
+-- `fits` meets its contract: each arm is a way to fit.
+use Prim.Native.Nat.{◌<◌}
+use mathlib.Core.Logic.{⊎_elim}
+use mathlib.Core.Path.{◌≡◌}
+use native.Mathlib.Omega.{arith}
+use borrow.Author.Rules.{rules}
+use Rattle.grammar.specs.Lexeme.{spelling, number, string, identifier}
+use Rattle.grammar.specs.Token.{lexeme}
+use Rattle.spelling.proofs.Deciding.{holds, fails, matching}
+use Rattle.lexeme.proofs.Fitting.{literal_decided, spelled_pattern, fits_by_pattern, fits_as_name, keyword_unfit, fits_at_end}
+use Rattle.lexeme.proofs.Keywords.{word_keyword, word_name}
+use Rattle.lexeme.proofs.fits.Goals as goal
+
+pub returns-then-keyword-ne-IDENTIFIER : goal.returns-then-keyword-ne-IDENTIFIER
+returns-then-keyword-ne-IDENTIFIER c =
+    let a = c.args in
+    fails (keyword_unfit a.kind (lexeme a.text.now a.start a.end) c.in-43.is (word_keyword c.keyword.ensures c.if-keyword-ne-IDENTIFIER.true))
+
+pub returns-in-40 : goal.returns-in-40
+returns-in-40 c =
+    let a = c.args in
+    fits_by_pattern a.kind (lexeme a.text.now a.start a.end) (omega arith) (omega arith) (rw (c.in-40.is, c.is_number.ensures) (matching number (lexeme a.text.now a.start a.end)))
+
+pub returns-in-42 : goal.returns-in-42
+returns-in-42 c =
+    let a = c.args in
+    fits_by_pattern a.kind (lexeme a.text.now a.start a.end) (omega arith) (omega arith) (rw (c.in-42.is, c.is_string.ensures) (matching string (lexeme a.text.now a.start a.end)))
+
+pub returns-else-keyword-ne-IDENTIFIER : goal.returns-else-keyword-ne-IDENTIFIER
+returns-else-keyword-ne-IDENTIFIER c =
+    let a = c.args in
+    fits_as_name a.kind (lexeme a.text.now a.start a.end) c.in-43.is (word_name c.keyword.ensures c.if-keyword-ne-IDENTIFIER.false) (rw (c.in-43.is, c.is_identifier.ensures) (matching identifier (lexeme a.text.now a.start a.end)))
+
+pub returns-in_default : goal.returns-in_default
+returns-in_default c =
+    let a = c.args in
+    holds (fits_at_end a.kind (lexeme a.text.now a.start a.end) (omega arith))
+
+pub returns-in-0-to-41 : goal.returns-in-0-to-41
+returns-in-0-to-41 c =
+    let a = c.args in
+    let spelt : (a.kind < 42) × (a.kind ≡ 40 → ⊥) = ⊎_elim (λ w. omega arith) (λ w. omega arith) c.in-0-to-41-1.branch in
+    fits_by_pattern a.kind (lexeme a.text.now a.start a.end) (omega arith) (omega arith) (rw (spelled_pattern a.kind (omega arith) (omega arith) (omega arith)) (literal_decided (spelling a.kind) (lexeme a.text.now a.start a.end) c.spelled.ensures))

@@ -1,0 +1,14 @@
+-- `breaks` meets its contract: it looks at one byte after another, up to the last that is asked for or that the text has.
+use borrow.Author.Rules.{rules}
+use Prim.Native.Nat.{◌-◌}
+use mathlib.Core.Bool.{true}
+use mathlib.Core.Path.{◌≡◌, sym, ◌∙◌}
+use Rattle.diagnostics.specs.Line.{ends}
+use Rattle.lint.proofs.Laws.{Passed, begun, one_more, line_found, no_line, no_text, not_both}
+use Rattle.lint.proofs.breaks.Given as goal
+
+abbrev pub invariant-loop-i : goal.invariant-loop-i
+invariant-loop-i l = Passed (λ j. ends l.text j ≡ true) l.from l.i
+
+abbrev pub decreases-loop-i : goal.decreases-loop-i
+decreases-loop-i l = l.end - l.i

@@ -1,0 +1,13 @@
+-- `next` meets its contract: one row after another.
+use borrow.Author.Rules.{rules}
+use Prim.Native.Nat.{◌-◌}
+use Rattle.spelling.proofs.Deciding.{held, failed, said}
+use Rattle.lint.specs.Rules.{Meets}
+use Rattle.lint.proofs.Laws.{Passed, begun, one_more, next_found, next_none}
+use Rattle.lint.proofs.next.Given as goal
+
+abbrev pub invariant-loop-row : goal.invariant-loop-row
+invariant-loop-row l = Passed (Meets l.rule l.text l.tokens l.nodes) l.from l.row
+
+abbrev pub decreases-loop-row : goal.decreases-loop-row
+decreases-loop-row l = l.count - l.row

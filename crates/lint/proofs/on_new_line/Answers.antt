@@ -1,0 +1,38 @@
+-- `on_new_line` meets its contract: the first token and those past the list have no line before them, and in parentheses a line that ends is none.
+use borrow.Author.Rules.{rules}
+use borrow.Author.Tests.{not-true, not-false}
+use native.Mathlib.Omega.{arith}
+use mathlib.Core.Path.{sym, ◌∙◌}
+use Rattle.lint.proofs.Laws.{first_token, no_token, in_brackets, between}
+use Rattle.lint.proofs.on_new_line.Goals as goal
+
+pub returns-then-k-eq0 : goal.returns-then-k-eq0
+returns-then-k-eq0 c = first_token c.if-k-eq0.true
+
+pub returns-then-k-tokens : goal.returns-then-k-tokens
+returns-then-k-tokens c = no_token c.if-k-tokens.true
+
+pub in_block-requires : goal.in_block-requires
+in_block-requires c = c.if-k-tokens.false
+
+pub returns-then-not-in_block : goal.returns-then-not-in_block
+returns-then-not-in_block c = in_brackets (sym c.in_block.ensures ∙ not-true _ c.if-not-in_block.true)
+
+pub overflow_sub-k : goal.overflow_sub-k
+overflow_sub-k c = omega (arith, c.if-k-eq0.false)
+
+pub end_at-requires : goal.end_at-requires
+end_at-requires c = omega (arith, c.if-k-tokens.false)
+
+pub start_at-requires : goal.start_at-requires
+start_at-requires c = c.if-k-tokens.false
+
+pub returns : goal.returns
+returns c =
+    between
+    (omega (arith, c.if-k-eq0.false))
+    c.if-k-tokens.false
+    (sym c.in_block.ensures ∙ not-false _ c.if-not-in_block.false)
+    c.end_at.ensures
+    c.start_at.ensures
+    c.breaks.ensures

@@ -1,0 +1,14 @@
+-- `reach::brackets` meets its contract: one token after another.
+use borrow.Author.Rules.{rules}
+use Prim.Native.Nat.{◌+◌, ◌-◌, ◌≤◌}
+use native.Mathlib.Omega.{arith}
+use mathlib.Core.Path.{◌≡◌}
+use Rattle.lint.specs.Reach.{brackets}
+use Rattle.lint.proofs.Laws.{few, one_bracket_more, none_yet}
+use Rattle.lint.proofs.reach.brackets.Given as goal
+
+abbrev pub invariant-loop-i : goal.invariant-loop-i
+invariant-loop-i l = (l.so_far ≡ brackets l.tokens l.offset l.i) × (l.so_far ≤ l.i) × (l.i ≤ l.upto)
+
+abbrev pub decreases-loop-i : goal.decreases-loop-i
+decreases-loop-i l = l.upto - l.i

@@ -1,0 +1,14 @@
+-- `reach::enclosing` meets its contract. Its loop goes back token by token, and keeps that from there on the same bracket is found.
+use borrow.Author.Rules.{rules}
+use Prim.Native.Nat.{suc, ◌+◌, ◌-◌, ◌≤◌}
+use native.Mathlib.Omega.{arith}
+use mathlib.Core.Path.{◌≡◌, refl, sym, ◌∙◌}
+use Rattle.lint.specs.Reach.{enclosing}
+use Rattle.lint.proofs.Laws.{back_one, found_open, none_open, grown}
+use Rattle.lint.proofs.reach.enclosing.Given as goal
+
+abbrev pub invariant-loop-i : goal.invariant-loop-i
+invariant-loop-i l = (enclosing l.tokens l.i l.closed ≡ enclosing l.tokens l.k 0) × (l.closed + l.i ≤ l.k)
+
+abbrev pub decreases-loop-i : goal.decreases-loop-i
+decreases-loop-i l = l.i

@@ -1,0 +1,15 @@
+-- `script_names` meets its contract: token by token, up to the last or to a word whose row does not fit. The measure is how many are left.
+use Prim.Native.Nat.{◌+◌, ◌-◌, ◌*◌, ◌/◌, ◌<◌}
+use borrow.Author.Rules.{rules}
+use native.Mathlib.Omega.{arith}
+use lib.ListN.{length}
+use Rattle.grammar.specs.Builtin.{builtins}
+use Rattle.names.specs.Resolved.{Open}
+use Rattle.names.proofs.Passing.{Passed, reopened, none_passed, all_passed, cut_short, before, place_inside, passes}
+use Rattle.names.proofs.script_names.Given as goal
+
+abbrev pub invariant-loop-i : goal.invariant-loop-i
+invariant-loop-i l = Passed (builtins l.names l.rows) l.text l.tokens l.i l.initial.own l.initial.scratch l.own l.scratch l.known
+
+abbrev pub decreases-loop-i : goal.decreases-loop-i
+decreases-loop-i l = l.count - l.i

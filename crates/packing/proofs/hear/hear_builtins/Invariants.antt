@@ -1,0 +1,15 @@
+-- `hear_builtins` meets its contract: the symbols so far are known.
+use Prim.Native.Nat.{◌+◌, ◌-◌, ◌≤◌}
+use borrow.Author.Rules.{rules}
+use native.Mathlib.Omega.{arith}
+use mathlib.Core.Path.{◌≡◌, refl, ◌∙◌}
+use lib.ListN.{length, length-set}
+use Rattle.packing.specs.Known.{Built}
+use Rattle.packing.proofs.Knowing.{built_none, built_one}
+use Rattle.packing.proofs.hear.hear_builtins.Given as goal
+
+abbrev pub invariant-loop-x : goal.invariant-loop-x
+invariant-loop-x l = Built l.x l.initial.scratch l.scratch × (l.x ≤ l.builtins) × (length l.scratch ≡ length l.initial.scratch)
+
+abbrev pub decreases-loop-x : goal.decreases-loop-x
+decreases-loop-x l = l.builtins - l.x

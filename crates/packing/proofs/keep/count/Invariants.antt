@@ -1,0 +1,15 @@
+-- `count` meets its contract: rows so far have their place, those from there on are still marked.
+use Prim.Native.Nat.{◌+◌, ◌-◌, ◌<◌}
+use native.Mathlib.Omega.{arith}
+use mathlib.Core.Path.{◌≡◌}
+use lib.ListN.{length, length-set}
+use Rattle.parts.specs.Packed.{root_row}
+use Rattle.packing.specs.Roles.{rows}
+use Rattle.packing.proofs.Keeping.{Counting, none_counted, mark_small, row_counted, root_counted, root_low}
+use Rattle.packing.proofs.keep.count.Given as goal
+
+abbrev pub invariant-loop-i : goal.invariant-loop-i
+invariant-loop-i l = Counting (rows l.nodes l.links) l.choice l.base l.i l.before l.initial.scratch l.scratch
+
+abbrev pub decreases-loop-i : goal.decreases-loop-i
+decreases-loop-i l = l.root - l.i

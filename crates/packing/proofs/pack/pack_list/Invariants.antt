@@ -1,0 +1,15 @@
+-- `pack_list` meets its contract: the statements so far that are kept stand in the list, and those after them are as they were.
+use Prim.Native.Nat.{◌+◌, ◌-◌, ◌*◌, ◌≤◌, ◌<◌}
+use native.Mathlib.Omega.{arith}
+use mathlib.Core.Logic.{inl, inr}
+use mathlib.Core.Path.{◌≡◌}
+use lib.ListN.{length, get_or, length-set}
+use Rattle.grammar.specs.Room.{link_width}
+use Rattle.packing.proofs.Moving.{Chosen, none_chosen, still_statement, statement_left, statement_kept}
+use Rattle.packing.proofs.pack.pack_list.Given as goal
+
+abbrev pub invariant-loop-j : goal.invariant-loop-j
+invariant-loop-j l = Chosen l.initial.links l.scratch l.base l.choice l.first l.to l.at l.j l.links
+
+abbrev pub decreases-loop-j : goal.decreases-loop-j
+decreases-loop-j l = length l.choice - l.j

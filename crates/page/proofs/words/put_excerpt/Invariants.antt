@@ -1,0 +1,11 @@
+-- `words::put_excerpt` meets its contract: the place stays in the room, and each turn goes on in the text.
+use borrow.Author.Rules.{rules}
+use Prim.Native.Nat.{◌-◌, ◌≤◌}
+use lib.ListN.{length}
+use Rattle.page.proofs.words.put_excerpt.Given as goal
+
+abbrev pub invariant-loop-i : goal.invariant-loop-i
+invariant-loop-i l = (l.now ≤ 4096) × (l.upto ≤ length l.text)
+
+abbrev pub decreases-loop-i : goal.decreases-loop-i
+decreases-loop-i l = l.upto - l.i

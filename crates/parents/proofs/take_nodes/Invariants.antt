@@ -1,0 +1,14 @@
+-- `take_nodes` meets its contract: a claim for each link.
+use Prim.Native.Nat.{◌-◌, ◌≤◌}
+use borrow.Author.Rules.{rules}
+use native.Mathlib.Omega.{arith}
+use mathlib.Core.Path.{◌≡◌, refl, ◌∙◌}
+use Rattle.grammar.specs.Naming.{linked_nodes}
+use Rattle.parents.proofs.Laws.{Claimed, no_nodes, node_more}
+use Rattle.parents.proofs.take_nodes.Given as goal
+
+abbrev pub invariant-loop-i : goal.invariant-loop-i
+invariant-loop-i l = Claimed linked_nodes l.row l.links l.from l.i l.initial.nodes l.nodes × (l.i ≤ l.count)
+
+abbrev pub decreases-loop-i : goal.decreases-loop-i
+decreases-loop-i l = l.n - l.i

@@ -1,0 +1,24 @@
+-- `display::put` meets its contract. Its loop keeps the contract itself, of the bytes copied so far.
+use Prim.Native.Nat.{ℕ, ◌+◌, ◌-◌, ◌≤◌, ◌<◌}
+use native.Mathlib.Nat.{add-zero}
+use native.Mathlib.Numerals.{add-one}
+use native.Mathlib.Omega.{arith}
+use mathlib.Core.Path.{◌≡◌, refl, ◌∙◌}
+use mathlib.Core.List.{List}
+use borrow.Author.Rules.{rules}
+use lib.ListN.{length, take, set, get_or, length-set}
+use lib.Seq.{take-suc, take_all}
+use Rattle.spelling.specs.Display.{Put}
+use Rattle.spelling.proofs.display.Writing.{nothing, one_more}
+use Rattle.spelling.proofs.display.put.Given as goal
+
+pub record Copied (part before after : List ℕ) (at i : ℕ) : Type 0 where
+  pub within : i ≤ length part
+  pub size : length after ≡ length before
+  pub so_far : Put (take i part) at before after (at + i)
+
+abbrev pub invariant-loop-i : goal.invariant-loop-i
+invariant-loop-i l = Copied l.part l.initial.room l.room l.at l.i
+
+abbrev pub decreases-loop-i : goal.decreases-loop-i
+decreases-loop-i l = length l.part - l.i

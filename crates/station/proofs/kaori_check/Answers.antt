@@ -1,0 +1,29 @@
+-- `kaori_check` meets its contract: three stores of what `check` answers, each a number more.
+use Prim.Native.Nat.{ℕ, ◌≤◌}
+use borrow.Author.Rules.{rules}
+use native.Mathlib.Omega.{arith}
+use mathlib.Core.List.{List, [], ◌∷◌}
+use mathlib.Core.Path.{◌≡◌}
+use lib.ListN.{length, length-set}
+use Rattle.checker.specs.Verdict.{Tells}
+use Rattle.checker.specs.declared.Verdict.{Verdict}
+use Rattle.foreign.specs.Check.{Given}
+use Rattle.grammar.specs.Room.{Rooms}
+use Rattle.scripts.proofs.Stores.{three}
+use Rattle.station.specs.Exports.{put, Checks-rows}
+use Rattle.station.proofs.kaori_check.Goals as goal
+
+told : {g : Given} {after : Rooms} {room out : List ℕ} {v : Verdict} → 3 ≤ length room → Tells g after v → out ≡ put (v.code ∷ v.rule ∷ v.row ∷ []) room → Checks-rows g room after out v.code
+told h t e = rw e (Checks-rows.checked h t.says)
+
+pub returns-then-answer-lt-VERDICT : goal.returns-then-answer-lt-VERDICT
+returns-then-answer-lt-VERDICT c = Checks-rows.short (omega arith)
+
+pub bounds-answer-1 : goal.bounds-answer-1
+bounds-answer-1 c = simp length-set (omega arith)
+
+pub returns : goal.returns
+returns c =
+    let call = c in
+    let v = call.check-v.result in
+    told (omega arith) call.check-v.ensures (three call.args.answer.now v.code v.rule v.row (omega arith))

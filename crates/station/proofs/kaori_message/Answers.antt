@@ -1,0 +1,7 @@
+-- `kaori_message` meets its contract: the length handed back is the one that `message` answers.
+use borrow.Author.Rules.{rules}
+use Rattle.station.specs.Exports.{Writes}
+use Rattle.station.proofs.kaori_message.Goals as goal
+
+pub returns : goal.returns
+returns c = Writes.written c.message-m.ensures

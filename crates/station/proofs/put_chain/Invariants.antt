@@ -1,0 +1,16 @@
+-- `put_chain` meets its contract. The loop's invariant: the pairs of the entries so far are written.
+use Prim.Native.Nat.{ℕ, ◌+◌, ◌*◌, ◌-◌, ◌≤◌}
+use borrow.Author.Rules.{rules}
+use native.Mathlib.Omega.{arith}
+use lib.ListN.{length, take, length-set}
+use Rattle.ast.specs.Written.{Written}
+use Rattle.ast.proofs.Rooms.{unwritten}
+use Rattle.station.specs.Exports.{pairs}
+use Rattle.station.proofs.Stores.{one_pair, all_pairs}
+use Rattle.station.proofs.put_chain.Given as goal
+
+abbrev pub invariant-loop-i : goal.invariant-loop-i
+invariant-loop-i l = (l.i ≤ 64) × Written 3 (3 + 2 * l.i) (pairs (take l.i l.chain.entries)) l.initial.room l.room
+
+abbrev pub decreases-loop-i : goal.decreases-loop-i
+decreases-loop-i l = 64 - l.i

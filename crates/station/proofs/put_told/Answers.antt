@@ -1,0 +1,20 @@
+-- `put_told` meets its contract: three stores, and then the chain's.
+use borrow.Author.Rules.{rules}
+use native.Mathlib.Omega.{arith}
+use lib.ListN.{length-set}
+use Rattle.station.proofs.Stores.{told_put}
+use Rattle.station.proofs.put_told.Goals as goal
+
+pub bounds-room-1 : goal.bounds-room-1
+bounds-room-1 c = simp length-set (omega arith)
+
+pub bounds-room-2 : goal.bounds-room-2
+bounds-room-2 c = simp length-set (omega arith)
+
+pub shape_of-room : goal.shape_of-room
+shape_of-room c = simp length-set at c.put_chain.ensures.size
+
+pub returns : goal.returns
+returns c =
+    let start = c in
+    told_put start.args.room.now start.args.t (omega (arith, start.requires)) start.requires.count_bound.1 c.put_chain.ensures

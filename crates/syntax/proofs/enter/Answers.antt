@@ -1,0 +1,13 @@
+-- `enter` meets its contract: what the door turns away is answered by its numbers, the rooms as they were; what it lets in has its answer.
+use borrow.Author.Rules.{rules}
+use Rattle.syntax.proofs.Calls.{let_in, turned}
+use Rattle.syntax.proofs.enter.Goals as goal
+
+pub answer-requires : goal.answer-requires
+answer-requires c =
+    let open-here = c.in-Open.is in
+    let checked = c.requires in
+    let_in checked.entered (checked.known open-here) open-here
+
+pub returns-in-Refused : goal.returns-in-Refused
+returns-in-Refused c = turned c.requires.entered c.in-Refused.is c.refused.ensures

@@ -1,0 +1,20 @@
+-- `wire::input::fill` meets its contract: the tokens up to i are written.
+use Prim.Native.Nat.{ℕ, ◌+◌, ◌-◌, ◌*◌, ◌≤◌}
+use borrow.Author.Rules.{rules}
+use native.Mathlib.Omega.{arith}
+use mathlib.Core.List.{List}
+use mathlib.Core.Path.{◌≡◌, refl}
+use lib.ListN.{length-set}
+use Rattle.wire.proofs.Scanning.{filled_more}
+use Rattle.wire.specs.Scanned.{Tokens-filled}
+use Rattle.wire.proofs.input.fill.Given as goal
+
+pub record Going (input : List ℕ) (from n : ℕ) (before after : List ℕ) (i : ℕ) : Type 0 where
+  pub within : i ≤ n
+  pub so_far : Tokens-filled input from i before after
+
+abbrev pub invariant-loop-i : goal.invariant-loop-i
+invariant-loop-i l = Going l.input l.from l.n l.initial.tokens l.tokens l.i
+
+abbrev pub decreases-loop-i : goal.decreases-loop-i
+decreases-loop-i l = l.n - l.i
