@@ -119,7 +119,7 @@ module _ (e : Edition) (ts ts' : List ℕ) (σ σ' f : ℕ → ℕ) (m : Move) (
   module _ (low high : ℕ) (small : high ≤ absent) (steps : (i : ℕ) → low ≤ i → i < high → Step m first P U U' i) where
     put_alike : (k : ℕ) {x x' : Row} → Row-carried m (layout Edition.second k) x x' → {w : Rows} {r r' : Walked} → Alike w r r' → low ≤ height r.rows → height (put k x r.rows).rows ≤ high → Later (put k x r.rows).rows U → Later (put k x' r'.rows).rows U' → Alike w (put k x r.rows) (put k x' r'.rows)
     unfolding put
-    put_alike k (Row-carried.carried_Row {s = s} {e = u} {s' = s'} {e' = u'} {fs = fs} p q c) {w} {r} {r'} g a b l l' =
+    put_alike k (Row-carried.carried_row {s = s} {e = u} {s' = s'} {e' = u'} {fs = fs} p q c) {w} {r} {r'} g a b l l' =
         let o = one_more fs (k ∷ s ∷ u ∷ []) r.rows in
         let less : height r.rows < high = omega (arith, o.nodes) in
         let (x, y) = row_alike m first P U U' k s u p q c g.place (steps (height r.rows) a less) l l' in

@@ -249,6 +249,7 @@ module _ (names : Builtins) (text ts ts' : List ℕ) (c : ℕ → Bool) (f : ℕ
 
     numbers : {n : ℕ} {t : Tree Label} → Items e k n t → Keeps ts ts' c f (λ x. x) t → (i : ℕ) → Left c i t → is_name ts i ≡ true → Numbered names text ts ts' i (f i) (words t)
     unfolding kept_words
+    numbers Items.nil k i l h = elim l [ ]
     numbers (Items.next {b = a} {c = b} {t = t} m x) (Keeps.stays y kin j) i (Left.here z p q) h =
         let r : a + (b - a) ≡ b = omega (arith, takes e x) in
         rw y (run_numbered names text ts ts' f a b kin (stands m j) (b - a) (omega (arith, r)) i p (omega (arith, r)) h)

@@ -113,12 +113,12 @@ module _ (m : Move) where
 
   following_moved : {from to : ℕ} → Shifts m from to → (is : List Item) → Consecutive from (lists is) → Consecutive to (lists (moved_items m is))
   following_moved h [] c = tt
-  following_moved h (Item.number l n ∷ is) c = following_moved h is c
-  following_moved h (Item.child x ∷ is) c = following_moved h is c
-  following_moved h (Item.option x ∷ is) c = following_moved h is c
-  following_moved h (Item.symbol x ∷ is) c = following_moved h is c
-  following_moved h (Item.list f n ∷ is) c = (ap (λ (x : ℕ). m.first x) c.0 ∙ shift_here m h, following_moved (shift_on m h n) is c.1)
-  following_moved h (Item.unused x ∷ is) c = following_moved h is c
+  following_moved {from = from} h (Item.number l n ∷ is) c = following_moved h is c
+  following_moved {from = from} h (Item.child x ∷ is) c = following_moved h is c
+  following_moved {from = from} h (Item.option x ∷ is) c = following_moved h is c
+  following_moved {from = from} h (Item.symbol x ∷ is) c = following_moved h is c
+  following_moved {from = from} h (Item.list f n ∷ is) c = (ap (λ (x : ℕ). m.first x) c.0 ∙ shift_here m h, following_moved {from = from + n} (shift_on m h n) is c.1)
+  following_moved {from = from} h (Item.unused x ∷ is) c = following_moved h is c
 
 -- a row that one row names, and no other, is named once, and that row is its parent
 module _ (v : Rows) (j : ℕ) where

@@ -311,6 +311,7 @@ inner Initial.same = Initial.further Initial.same
 inner (Initial.further i) = Initial.further (inner i)
 
 pub initial_items : {e : Edition} {k : ℕ → ℕ} {n : ℕ} {l : Label} {a b : ℕ} {t u t₀ : Tree Label} → Items e k n t₀ → Initial (made l a b (more t u)) t₀ → Items e k a t × Reads (kaori e) k (whole (choice Table.statement)) a b u
+initial_items Items.nil j = elim j [ ]
 initial_items (Items.next i x) Initial.same = (i, x)
 initial_items (Items.next i x) (Initial.further j) = initial_items i j
 
@@ -349,7 +350,7 @@ module _ {e : Edition} (ts : List ℕ) (σ : ℕ → ℕ) {k : ℕ → ℕ} wher
   items_many (Items.next {t = t} i x) = ap length (one_more i x) ∙ omega (arith, items_many i, length-append (walk ts σ t blank).first ((statement_ends e ts σ x (walk ts σ t blank).rows).handle ∷ []))
 
   -- what items begin with made the first handles
-  pub initial_handles : {n : ℕ} {t t₀ : Tree Label} → Items e k n t₀ → Initial t t₀ → (zs : List Handle) × ((walk ts σ t₀ blank).first ≡ (walk ts σ t blank).first ++ zs)
+  pub initial_handles : {t : Tree Label} {n : ℕ} {t₀ : Tree Label} → Items e k n t₀ → Initial t t₀ → (zs : List Handle) × ((walk ts σ t₀ blank).first ≡ (walk ts σ t blank).first ++ zs)
   initial_handles {t = t} i Initial.same = ([], sym (append-nil (walk ts σ t blank).first))
   initial_handles {t = t} (Items.next {t = s} i x) (Initial.further j) =
       let (zs, q) = initial_handles i j in

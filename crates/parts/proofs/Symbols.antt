@@ -7,7 +7,7 @@ use mathlib.Core.List.{List, [], ◌∷◌, ◌++◌, map}
 use mathlib.Core.Logic.{inl, inr}
 use mathlib.Core.Path.{◌≡◌, refl, sym, ap, ◌∙◌}
 use lib.Dec.{eqb}
-use borrow.Author.Tests.{eqb-true, eqb_false, ne_eqb}
+use borrow.Author.Tests.{eqb-true, eqb-false, ne_eqb}
 use lib.ListN.{length, get_or, drop, length-append, length-take}
 use lib.Seq.{get_or-drop, drop-drop}
 use Rattle.grammar.specs.Edition.{Edition}
@@ -116,7 +116,7 @@ without_low s (cons {x = x} {xs = xs} l e) = pick (eqb s x) refl (without_low s 
   where
     pick : (t : Bool) → eqb s x ≡ t → Each (λ x. x < s) (without s xs) → Each (λ x. x < s) (cond t (without s xs) (x ∷ without s xs))
     pick true z r = r
-    pick false z r = let y = eqb_false s x z in let h : x < s = omega arith in cons h r
+    pick false z r = let y = eqb-false s x z in let h : x < s = omega arith in cons h r
 
 pub different_most : (s : ℕ) (xs : List ℕ) → Different s xs → length xs ≤ s
 different_most zero [] d = omega arith
@@ -209,7 +209,7 @@ low_words {s} {i} (cons {x = Part.row x} b e) f before = each_both (one (eqb x a
     one : (t : Bool) → eqb x absent ≡ t → Before i x → Each (Low s) (cond t [] (f x))
     one true q b = nil
     one false q (inl l) = before x l
-    one false q (inr l) = absurd (eqb_false x absent q l)
+    one false q (inr l) = absurd (eqb-false x absent q l)
 
 module _ (s m i : ℕ) where
   hold_nodes : (n : ℕ) (ls : List ℕ) → Each (Before i) (linked_nodes n ls) → Each (Holds s i) (node_parts n ls)

@@ -116,7 +116,7 @@ other_among true x y h = rw (ne_eqb x y h)
 other_among false x y h = refl
 
 -- what items begin with is written first
-initial_later : (ts : List ℕ) (σ : ℕ → ℕ) {e : Edition} {k : ℕ → ℕ} {n : ℕ} {t t₀ : Tree Label} → Items e k n t₀ → Initial t t₀ → Later (walk ts σ t blank).rows (walk ts σ t₀ blank).rows
+initial_later : (ts : List ℕ) (σ : ℕ → ℕ) {e : Edition} {k : ℕ → ℕ} {t : Tree Label} {n : ℕ} {t₀ : Tree Label} → Items e k n t₀ → Initial t t₀ → Later (walk ts σ t blank).rows (walk ts σ t₀ blank).rows
 unfolding walk make
 initial_later ts σ i Initial.same = later_self _
 initial_later ts σ (Items.next {t = s} {u = u} i x) (Initial.further j) = later_both (initial_later ts σ i j) (walk_later ts σ u (walk ts σ s blank).rows)
