@@ -47,6 +47,10 @@ asked : {A B : Type 0} → Dec A → (A → Found B) → Found B
 asked (yes a) f = f a
 asked (no h) f = lost
 
+got : {A B : Type 0} → Found A → (A → Found B) → Found B
+got (found a) f = f a
+got lost f = lost
+
 tested : {B : Type 0} (b : Bool) → (T b → Found B) → Found B
 tested true f = f tt
 tested false f = lost
@@ -184,28 +188,32 @@ module _ (t : Telling) where
   set_right (left K i w) = asked (ℕ_discrete i t.place) (λ d. all_decided (edition t.edition) (kind ts) t.set (subst (After (kaori (edition t.edition)) (kind ts) (want script ∷ []) 0 K) d w) 45)
   set_right none = lost
 
-  -- the refusal is the one that is asked for
-  module _ {expected : ℕ} (r : Refusing (refused t.code t.place expected)) (l : 8 ≤ t.code) where
-    chained : (m : Met t.edition ts t.limit t.code t.place) → openings r ≡ t.chain → openings m.refusal ≡ t.chain
-    chained m d = (one_chain m.refusal r (λ k. absurd (omega (arith, k, l))) (λ k. absurd (omega (arith, k, l)))).1 ∙ d
+  -- the refusal is the one that is asked for. `moved_on`, `unread_so` and `deep_so` stay shut when the samples are computed: to compute with a refusal so moved takes more memory than one proof may have
+  moved_on : {c p expected : ℕ} (r : Refusing (refused c p expected)) → c ≡ t.code → p ≡ t.place → openings r ≡ t.chain → (s : Refusing (refused t.code t.place expected)) × (openings s ≡ t.chain)
+  moved_on {p = p} {expected = x} r d e k = subst (λ y. (s : Refusing (refused t.code y x)) × (openings s ≡ t.chain)) e (subst (λ y. (s : Refusing (refused y p x)) × (openings s ≡ t.chain)) d (r, k))
 
-    unread_told : t.code ≤ 10 → Found (Met t.edition ts t.limit t.code t.place) → Found (openings r ≡ t.chain) → Found RightSet → Found (ToldSo t)
-    unread_told u (found m) (found d) (found f) = found (subst (Expects t.edition ts t.limit t.code t.place (among t.set)) (chained m d) (Expects.unread l u m (λ x h. f x (omega arith))))
-    unread_told u (found m) (found d) lost = lost
-    unread_told u (found m) lost f = lost
-    unread_told u lost d f = lost
+  module _ {expected : ℕ} (r : Refusing (refused t.code t.place expected)) (l : 8 ≤ t.code) (d : openings r ≡ t.chain) where
+    chained : (m : Met t.edition ts t.limit t.code t.place) → openings m.refusal ≡ t.chain
+    chained m = (one_chain m.refusal r (λ k. absurd (omega (arith, k, l))) (λ k. absurd (omega (arith, k, l)))).1 ∙ d
 
-    deep_told : t.code ≡ 11 → Found (Met t.edition ts t.limit t.code t.place) → Found (openings r ≡ t.chain) → (xs : List ℕ) → t.set ≡ xs → Found (ToldSo t)
-    deep_told e (found m) (found d) [] k = found (subst (Expects t.edition ts t.limit t.code t.place (among t.set)) (chained m d) (Expects.too_deep e m (λ x h. ap (λ xs. among xs x) k)))
-    deep_told e (found m) (found d) (x ∷ xs) k = lost
-    deep_told e (found m) lost xs k = lost
-    deep_told e lost d xs k = lost
+    unread_so : t.code ≤ 10 → Met t.edition ts t.limit t.code t.place → RightSet → ToldSo t
+    unread_so u m f = subst (Expects t.edition ts t.limit t.code t.place (among t.set)) (chained m) (Expects.unread l u m (λ x h. f x (omega arith)))
+
+    deep_so : t.code ≡ 11 → Met t.edition ts t.limit t.code t.place → t.set ≡ [] → ToldSo t
+    deep_so e m k = subst (Expects t.edition ts t.limit t.code t.place (among t.set)) (chained m) (Expects.too_deep e m (λ x h. ap (λ xs. among xs x) k))
+
+    deep_told : t.code ≡ 11 → Met t.edition ts t.limit t.code t.place → (xs : List ℕ) → t.set ≡ xs → Found (ToldSo t)
+    deep_told e m [] k = found (deep_so e m k)
+    deep_told e m (x ∷ xs) k = lost
 
     here : Found (ToldSo t)
-    here = elim (dec_le t.code 10) [
-      | yes u ↦ unread_told u (met r) (same_openings (openings r) t.chain) (set_right (lefts (edition t.edition) (kind ts) t.place))
-      | no u ↦ asked (ℕ_discrete t.code 11) (λ e. deep_told e (met r) (same_openings (openings r) t.chain) t.set refl)
-    ]
+    here = got (met r) (λ m. elim (dec_le t.code 10) [
+      | yes u ↦ got (set_right (lefts (edition t.edition) (kind ts) t.place)) (λ f. found (unread_so u m f))
+      | no u ↦ asked (ℕ_discrete t.code 11) (λ e. deep_told e m t.set refl)
+    ])
+
+  right_one : {c p expected : ℕ} (r : Refusing (refused c p expected)) → c ≡ t.code → p ≡ t.place → Found (ToldSo t)
+  right_one r d e = asked (dec_le 8 t.code) (λ l. got (same_openings (openings r) t.chain) (λ k. let (s, o) = moved_on r d e k in here s l o))
 
   answered : Answer ts (λ i. 0) t.limit (record { nodes = 1000; links = 1000 }) (kaori (edition t.edition)) (kind ts) script 0 0 blank → Found (ToldSo t)
   answered (read r) = lost
@@ -213,7 +221,7 @@ module _ (t : Telling) where
     | yes h ↦ lost
     | no h ↦ elim (ℕ_discrete c t.code) [
       | yes d ↦ elim (ℕ_discrete p t.place) [
-        | yes e ↦ asked (dec_le 8 t.code) (λ l. here (subst (λ p. Refusing (refused t.code p x)) e (subst (λ c. Refusing (refused c p x)) d r)) l)
+        | yes e ↦ right_one r d e
         | no e ↦ nothing_told (other r h (λ i j. e j)) t.set refl t.chain refl
       ]
       | no d ↦ nothing_told (other r h (λ i j. d i)) t.set refl t.chain refl
@@ -249,126 +257,13 @@ abbrev each : List Telling → Bool
 each [] = true
 each (u ∷ us) = is_found (told u) && (is_found (numbered u) && each us)
 
--- the first n, and those after them
-abbrev first : ℕ → List Telling → List Telling
-first zero us = []
-first (suc n) [] = []
-first (suc n) (u ∷ us) = u ∷ first n us
-
-abbrev after : ℕ → List Telling → List Telling
-after zero us = us
-after (suc n) [] = []
-after (suc n) (u ∷ us) = after n us
-
-first_told : (n : ℕ) (us : List Telling) → T (each (first n us)) → AllTold (after n us) → AllTold us
-first_told zero us h r = r
-first_told (suc n) [] h r = tt
-first_told (suc n) (u ∷ us) h r =
-    let (a, b) = both (is_found (told u)) (is_found (numbered u) && each (first n us)) h in
-    let (c, d) = both (is_found (numbered u)) (each (first n us)) b in
-    (the_proof (told u) a, the_proof (numbered u) c, first_told n us d r)
-
--- each telling by a computation of its own: all of them in one take more memory than one proof may have
-told_0 : T (each (first 1 (after 0 tellings)))
-unfolding told numbered read_so right_kinds no_test passing gathered how_many lowest_from answered neither here deep_told unread_told chained set_right nothing_told other met whole which_edition same_openings all_decided both_found decided lefts next taken run moved turned asked tested the_proof openings reader fit fit_word fit_rows has_word kaori rules above edition ℕ_discrete dec_le dec_lt move link_move walk make put fill write numbers links_of rule block_list block_tail
-told_0 = tt
-
-told_1 : T (each (first 1 (after 1 tellings)))
-unfolding told numbered read_so right_kinds no_test passing gathered how_many lowest_from answered neither here deep_told unread_told chained set_right nothing_told other met whole which_edition same_openings all_decided both_found decided lefts next taken run moved turned asked tested the_proof openings reader fit fit_word fit_rows has_word kaori rules above edition ℕ_discrete dec_le dec_lt move link_move walk make put fill write numbers links_of rule block_list block_tail
-told_1 = tt
-
-told_2 : T (each (first 1 (after 2 tellings)))
-unfolding told numbered read_so right_kinds no_test passing gathered how_many lowest_from answered neither here deep_told unread_told chained set_right nothing_told other met whole which_edition same_openings all_decided both_found decided lefts next taken run moved turned asked tested the_proof openings reader fit fit_word fit_rows has_word kaori rules above edition ℕ_discrete dec_le dec_lt move link_move walk make put fill write numbers links_of rule block_list block_tail
-told_2 = tt
-
-told_3 : T (each (first 1 (after 3 tellings)))
-unfolding told numbered read_so right_kinds no_test passing gathered how_many lowest_from answered neither here deep_told unread_told chained set_right nothing_told other met whole which_edition same_openings all_decided both_found decided lefts next taken run moved turned asked tested the_proof openings reader fit fit_word fit_rows has_word kaori rules above edition ℕ_discrete dec_le dec_lt move link_move walk make put fill write numbers links_of rule block_list block_tail
-told_3 = tt
-
-told_4 : T (each (first 1 (after 4 tellings)))
-unfolding told numbered read_so right_kinds no_test passing gathered how_many lowest_from answered neither here deep_told unread_told chained set_right nothing_told other met whole which_edition same_openings all_decided both_found decided lefts next taken run moved turned asked tested the_proof openings reader fit fit_word fit_rows has_word kaori rules above edition ℕ_discrete dec_le dec_lt move link_move walk make put fill write numbers links_of rule block_list block_tail
-told_4 = tt
-
-told_5 : T (each (first 1 (after 5 tellings)))
-unfolding told numbered read_so right_kinds no_test passing gathered how_many lowest_from answered neither here deep_told unread_told chained set_right nothing_told other met whole which_edition same_openings all_decided both_found decided lefts next taken run moved turned asked tested the_proof openings reader fit fit_word fit_rows has_word kaori rules above edition ℕ_discrete dec_le dec_lt move link_move walk make put fill write numbers links_of rule block_list block_tail
-told_5 = tt
-
-told_6 : T (each (first 1 (after 6 tellings)))
-unfolding told numbered read_so right_kinds no_test passing gathered how_many lowest_from answered neither here deep_told unread_told chained set_right nothing_told other met whole which_edition same_openings all_decided both_found decided lefts next taken run moved turned asked tested the_proof openings reader fit fit_word fit_rows has_word kaori rules above edition ℕ_discrete dec_le dec_lt move link_move walk make put fill write numbers links_of rule block_list block_tail
-told_6 = tt
-
-told_7 : T (each (first 1 (after 7 tellings)))
-unfolding told numbered read_so right_kinds no_test passing gathered how_many lowest_from answered neither here deep_told unread_told chained set_right nothing_told other met whole which_edition same_openings all_decided both_found decided lefts next taken run moved turned asked tested the_proof openings reader fit fit_word fit_rows has_word kaori rules above edition ℕ_discrete dec_le dec_lt move link_move walk make put fill write numbers links_of rule block_list block_tail
-told_7 = tt
-
-told_8 : T (each (first 1 (after 8 tellings)))
-unfolding told numbered read_so right_kinds no_test passing gathered how_many lowest_from answered neither here deep_told unread_told chained set_right nothing_told other met whole which_edition same_openings all_decided both_found decided lefts next taken run moved turned asked tested the_proof openings reader fit fit_word fit_rows has_word kaori rules above edition ℕ_discrete dec_le dec_lt move link_move walk make put fill write numbers links_of rule block_list block_tail
-told_8 = tt
-
-told_9 : T (each (first 1 (after 9 tellings)))
-unfolding told numbered read_so right_kinds no_test passing gathered how_many lowest_from answered neither here deep_told unread_told chained set_right nothing_told other met whole which_edition same_openings all_decided both_found decided lefts next taken run moved turned asked tested the_proof openings reader fit fit_word fit_rows has_word kaori rules above edition ℕ_discrete dec_le dec_lt move link_move walk make put fill write numbers links_of rule block_list block_tail
-told_9 = tt
-
-told_10 : T (each (first 1 (after 10 tellings)))
-unfolding told numbered read_so right_kinds no_test passing gathered how_many lowest_from answered neither here deep_told unread_told chained set_right nothing_told other met whole which_edition same_openings all_decided both_found decided lefts next taken run moved turned asked tested the_proof openings reader fit fit_word fit_rows has_word kaori rules above edition ℕ_discrete dec_le dec_lt move link_move walk make put fill write numbers links_of rule block_list block_tail
-told_10 = tt
-
-told_11 : T (each (first 1 (after 11 tellings)))
-unfolding told numbered read_so right_kinds no_test passing gathered how_many lowest_from answered neither here deep_told unread_told chained set_right nothing_told other met whole which_edition same_openings all_decided both_found decided lefts next taken run moved turned asked tested the_proof openings reader fit fit_word fit_rows has_word kaori rules above edition ℕ_discrete dec_le dec_lt move link_move walk make put fill write numbers links_of rule block_list block_tail
-told_11 = tt
-
-told_12 : T (each (first 1 (after 12 tellings)))
-unfolding told numbered read_so right_kinds no_test passing gathered how_many lowest_from answered neither here deep_told unread_told chained set_right nothing_told other met whole which_edition same_openings all_decided both_found decided lefts next taken run moved turned asked tested the_proof openings reader fit fit_word fit_rows has_word kaori rules above edition ℕ_discrete dec_le dec_lt move link_move walk make put fill write numbers links_of rule block_list block_tail
-told_12 = tt
-
-told_13 : T (each (first 1 (after 13 tellings)))
-unfolding told numbered read_so right_kinds no_test passing gathered how_many lowest_from answered neither here deep_told unread_told chained set_right nothing_told other met whole which_edition same_openings all_decided both_found decided lefts next taken run moved turned asked tested the_proof openings reader fit fit_word fit_rows has_word kaori rules above edition ℕ_discrete dec_le dec_lt move link_move walk make put fill write numbers links_of rule block_list block_tail
-told_13 = tt
-
-told_14 : T (each (first 1 (after 14 tellings)))
-unfolding told numbered read_so right_kinds no_test passing gathered how_many lowest_from answered neither here deep_told unread_told chained set_right nothing_told other met whole which_edition same_openings all_decided both_found decided lefts next taken run moved turned asked tested the_proof openings reader fit fit_word fit_rows has_word kaori rules above edition ℕ_discrete dec_le dec_lt move link_move walk make put fill write numbers links_of rule block_list block_tail
-told_14 = tt
-
-told_15 : T (each (first 1 (after 15 tellings)))
-unfolding told numbered read_so right_kinds no_test passing gathered how_many lowest_from answered neither here deep_told unread_told chained set_right nothing_told other met whole which_edition same_openings all_decided both_found decided lefts next taken run moved turned asked tested the_proof openings reader fit fit_word fit_rows has_word kaori rules above edition ℕ_discrete dec_le dec_lt move link_move walk make put fill write numbers links_of rule block_list block_tail
-told_15 = tt
-
-told_16 : T (each (first 1 (after 16 tellings)))
-unfolding told numbered read_so right_kinds no_test passing gathered how_many lowest_from answered neither here deep_told unread_told chained set_right nothing_told other met whole which_edition same_openings all_decided both_found decided lefts next taken run moved turned asked tested the_proof openings reader fit fit_word fit_rows has_word kaori rules above edition ℕ_discrete dec_le dec_lt move link_move walk make put fill write numbers links_of rule block_list block_tail
-told_16 = tt
-
-told_17 : T (each (first 1 (after 17 tellings)))
-unfolding told numbered read_so right_kinds no_test passing gathered how_many lowest_from answered neither here deep_told unread_told chained set_right nothing_told other met whole which_edition same_openings all_decided both_found decided lefts next taken run moved turned asked tested the_proof openings reader fit fit_word fit_rows has_word kaori rules above edition ℕ_discrete dec_le dec_lt move link_move walk make put fill write numbers links_of rule block_list block_tail
-told_17 = tt
-
-told_18 : T (each (first 1 (after 18 tellings)))
-unfolding told numbered read_so right_kinds no_test passing gathered how_many lowest_from answered neither here deep_told unread_told chained set_right nothing_told other met whole which_edition same_openings all_decided both_found decided lefts next taken run moved turned asked tested the_proof openings reader fit fit_word fit_rows has_word kaori rules above edition ℕ_discrete dec_le dec_lt move link_move walk make put fill write numbers links_of rule block_list block_tail
-told_18 = tt
-
-told_19 : T (each (first 1 (after 19 tellings)))
-unfolding told numbered read_so right_kinds no_test passing gathered how_many lowest_from answered neither here deep_told unread_told chained set_right nothing_told other met whole which_edition same_openings all_decided both_found decided lefts next taken run moved turned asked tested the_proof openings reader fit fit_word fit_rows has_word kaori rules above edition ℕ_discrete dec_le dec_lt move link_move walk make put fill write numbers links_of rule block_list block_tail
-told_19 = tt
-
-told_20 : T (each (first 1 (after 20 tellings)))
-unfolding told numbered read_so right_kinds no_test passing gathered how_many lowest_from answered neither here deep_told unread_told chained set_right nothing_told other met whole which_edition same_openings all_decided both_found decided lefts next taken run moved turned asked tested the_proof openings reader fit fit_word fit_rows has_word kaori rules above edition ℕ_discrete dec_le dec_lt move link_move walk make put fill write numbers links_of rule block_list block_tail
-told_20 = tt
-
-told_21 : T (each (first 1 (after 21 tellings)))
-unfolding told numbered read_so right_kinds no_test passing gathered how_many lowest_from answered neither here deep_told unread_told chained set_right nothing_told other met whole which_edition same_openings all_decided both_found decided lefts next taken run moved turned asked tested the_proof openings reader fit fit_word fit_rows has_word kaori rules above edition ℕ_discrete dec_le dec_lt move link_move walk make put fill write numbers links_of rule block_list block_tail
-told_21 = tt
-
-told_22 : T (each (first 1 (after 22 tellings)))
-unfolding told numbered read_so right_kinds no_test passing gathered how_many lowest_from answered neither here deep_told unread_told chained set_right nothing_told other met whole which_edition same_openings all_decided both_found decided lefts next taken run moved turned asked tested the_proof openings reader fit fit_word fit_rows has_word kaori rules above edition ℕ_discrete dec_le dec_lt move link_move walk make put fill write numbers links_of rule block_list block_tail
-told_22 = tt
-
-told_23 : T (each (first 1 (after 23 tellings)))
-unfolding told numbered read_so right_kinds no_test passing gathered how_many lowest_from answered neither here deep_told unread_told chained set_right nothing_told other met whole which_edition same_openings all_decided both_found decided lefts next taken run moved turned asked tested the_proof openings reader fit fit_word fit_rows has_word kaori rules above edition ℕ_discrete dec_le dec_lt move link_move walk make put fill write numbers links_of rule block_list block_tail
-told_23 = tt
-
-told_24 : T (each (first 1 (after 24 tellings)))
-unfolding told numbered read_so right_kinds no_test passing gathered how_many lowest_from answered neither here deep_told unread_told chained set_right nothing_told other met whole which_edition same_openings all_decided both_found decided lefts next taken run moved turned asked tested the_proof openings reader fit fit_word fit_rows has_word kaori rules above edition ℕ_discrete dec_le dec_lt move link_move walk make put fill write numbers links_of rule block_list block_tail
-told_24 = tt
+all_told : (us : List Telling) → T (each us) → AllTold us
+all_told [] h = tt
+all_told (u ∷ us) h =
+    let (a, b) = both (is_found (told u)) (is_found (numbered u) && each us) h in
+    let (c, d) = both (is_found (numbered u)) (each us) b in
+    (the_proof (told u) a, the_proof (numbered u) c, all_told us d)
 
 pub told_right : AllTold tellings
-told_right =
-    first_told 1 tellings told_0 (first_told 1 (after 1 tellings) told_1 (first_told 1 (after 2 tellings) told_2 (first_told 1 (after 3 tellings) told_3 (first_told 1 (after 4 tellings) told_4 (first_told 1 (after 5 tellings) told_5 (first_told 1 (after 6 tellings) told_6 (first_told 1 (after 7 tellings) told_7 (first_told 1 (after 8 tellings) told_8 (first_told 1 (after 9 tellings) told_9 (first_told 1 (after 10 tellings) told_10 (first_told 1 (after 11 tellings) told_11 (first_told 1 (after 12 tellings) told_12 (first_told 1 (after 13 tellings) told_13 (first_told 1 (after 14 tellings) told_14 (first_told 1 (after 15 tellings) told_15 (first_told 1 (after 16 tellings) told_16 (first_told 1 (after 17 tellings) told_17 (first_told 1 (after 18 tellings) told_18 (first_told 1 (after 19 tellings) told_19 (first_told 1 (after 20 tellings) told_20 (first_told 1 (after 21 tellings) told_21 (first_told 1 (after 22 tellings) told_22 (first_told 1 (after 23 tellings) told_23 (first_told 1 (after 24 tellings) told_24 tt))))))))))))))))))))))))
+unfolding told numbered read_so right_kinds no_test passing gathered how_many lowest_from answered neither right_one here deep_told set_right nothing_told other met whole which_edition same_openings all_decided both_found decided lefts next taken run moved turned asked got tested the_proof openings reader fit fit_word fit_rows has_word kaori rules above edition ℕ_discrete dec_le dec_lt move link_move walk make put fill write numbers links_of rule block_list block_tail
+told_right = all_told tellings tt
