@@ -1,7 +1,7 @@
 -- What built-in names do to symbols, and that they do nothing else. Beside no names all is as it was before names could be lent. A built-in name has the number of
 -- its row in every script, and the names of a script's own come after them. Beside names a script reads as it does beside none, and its rows are the same but for
 -- the symbols, which are renamed one to one; it is refused as it is beside none.
-use Prim.Native.Nat.{ℕ, zero, suc, ◌+◌, ◌-◌, ◌*◌, ◌/◌, ◌≤◌, ◌<◌}
+use Prim.Native.Nat.{ℕ, zero, suc, ◌+◌, ◌*◌, ◌/◌, ◌≤◌, ◌<◌}
 use mathlib.Core.Bool.{Bool, true, false, cond, not, ◌&&◌}
 use mathlib.Core.List.{List, [], ◌∷◌, ◌++◌}
 use mathlib.Core.Logic.{◌↔◌}

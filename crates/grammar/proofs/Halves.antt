@@ -17,7 +17,6 @@ use Rattle.grammar.specs.Operator.{levels}
 use Rattle.grammar.specs.Phrase.{empty, token, part, nested, node, choice, chain, once, refusal, Tree, none, more, deeper, made, Aim, whole, begun, Reads}
 use Rattle.grammar.proofs.Machine.{asked}
 use Rattle.grammar.proofs.Tables.{each, each_mapped, found, in_tables}
-use Rattle.grammar.proofs.Tests.{both}
 
 -- of a table: how many tokens what it has takes at least; whether a link is missing before `}` alone; and whether nothing is read at a `}`
 unfoldable pub traits : Table → ℕ × Bool × Bool

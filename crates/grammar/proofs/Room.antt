@@ -7,7 +7,7 @@ use native.Mathlib.Omega.{arith}
 use lib.Dec.{leb, T, leb→le, le→leb}
 use lib.ListN.{length, get_or, length-append}
 use Rattle.grammar.specs.Edition.{Edition}
-use Rattle.grammar.specs.Handle.{Handle, link, head, is_tail, block_list}
+use Rattle.grammar.specs.Handle.{Handle, head, is_tail, block_list}
 use Rattle.grammar.specs.Kaori.{Table, Form, above, rules, kaori, Script}
 use Rattle.grammar.specs.Label.{Node, Label}
 use Rattle.grammar.specs.Operator.{levels}

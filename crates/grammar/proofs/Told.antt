@@ -12,7 +12,7 @@ use Rattle.grammar.specs.Door.{RightEdition, Whole}
 use Rattle.grammar.specs.Edition.{Edition, edition}
 use Rattle.grammar.specs.Expected.{Could-stand, Opening, opening, openings, Met, Expects, gathered, how_many, lowest_from}
 use Rattle.grammar.specs.Handle.{block_tail, block_list}
-use Rattle.grammar.specs.Kaori.{Table, Form, above, rules, kaori, script}
+use Rattle.grammar.specs.Kaori.{Table, above, rules, kaori, script}
 use Rattle.grammar.specs.Kind.{Eof}
 use Rattle.grammar.specs.Label.{Label}
 use Rattle.grammar.specs.Pattern.{among}
@@ -20,7 +20,7 @@ use Rattle.grammar.specs.Phrase.{token}
 use Rattle.grammar.specs.Refusal.{Refused, refused, Refuses}
 use Rattle.grammar.specs.Rows.{blank, links_of, numbers, write, fill, put, make, walk}
 use Rattle.grammar.specs.Rule.{rule}
-use Rattle.grammar.specs.Space.{Space, has_word}
+use Rattle.grammar.specs.Space.{has_word}
 use Rattle.grammar.specs.Token.{kind, count}
 use Rattle.grammar.specs.Told.{Telling, tokens_of, ToldSo, Numbers-so, AllTold, tellings}
 use Rattle.grammar.proofs.Expected.{could, stands}
