@@ -7,7 +7,7 @@ use mathlib.Core.Bool.{Bool, true, false}
 use mathlib.Core.List.{List}
 use mathlib.Core.Path.{◌≡◌, refl, sym, ◌∙◌}
 use lib.ListN.{length, get_or, length-replicate, get_or-replicate}
-use Rattle.grammar.specs.Builtin.{Builtins, built, Right-names}
+use Rattle.grammar.specs.Builtin.{Builtins, built, RightNames}
 use Rattle.grammar.specs.Kind.{Identifier}
 use Rattle.grammar.specs.Lexeme.{Fits}
 use Rattle.grammar.specs.Symbol.{seek}
@@ -39,7 +39,7 @@ module _ {names : Builtins} where
   }
 
   -- the next one is wrong
-  pub wrong_name : {n : ℕ} {index : List ℕ} → (Right-names names → ⊥) → Next names n index false
+  pub wrong_name : {n : ℕ} {index : List ℕ} → (RightNames names → ⊥) → Next names n index false
   wrong_name h = record { named = unlike; wrong = λ e. h }
 
   module _ {n : ℕ} {index : List ℕ} (b : Before names n index) where
@@ -47,14 +47,14 @@ module _ {names : Builtins} where
     there = omega (arith, b.there)
 
     -- right names have a part of the text there, an identifier
-    pub part_there : Right-names names → Part names.text (start_of names.rows n) (end_of names.rows n)
+    pub part_there : RightNames names → Part names.text (start_of names.rows n) (end_of names.rows n)
     part_there z = z.table.parts n there
 
-    pub name_there : Right-names names → Fits Identifier (word names.text names.rows n)
+    pub name_there : RightNames names → Fits Identifier (word names.text names.rows n)
     name_there z = z.identifiers n there
 
     -- and none before has its bytes
-    pub first_there : {i : ℕ} → i < n → Holds names.text (word names.text names.rows n) (used n names.rows) i → Right-names names → ⊥
+    pub first_there : {i : ℕ} → i < n → Holds names.text (word names.text names.rows n) (used n names.rows) i → RightNames names → ⊥
     first_there {i} h x z = z.table.different i n h there (sym (word_is names.rows n i h names.text) ∙ x.bytes_are)
 
     -- it is right
@@ -89,7 +89,7 @@ module _ {names : Builtins} where
         }
 
     -- or they are not right
-    pub not_right : (Right-names names → ⊥) → Checked names index false
+    pub not_right : (RightNames names → ⊥) → Checked names index false
     not_right h = record { right = unlike; known = unlike; wrong = λ e. h }
 
 -- a search answers the grammar's

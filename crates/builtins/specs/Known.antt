@@ -1,6 +1,6 @@
 -- What is known of built-in names that were checked, and what the check of one more asks and answers. Document 02, L10.
 use Rattle.std.specs.Prelude.{ℕ, ◌+◌, ◌*◌, ◌<◌, Bool, true, false, List, ◌≡◌, replicate}
-use Rattle.grammar.specs.Builtin.{Builtins, built, Right-names}
+use Rattle.grammar.specs.Builtin.{Builtins, built, RightNames}
 use Rattle.grammar.specs.Kind.{Identifier}
 use Rattle.grammar.specs.Lexeme.{Fits}
 use Rattle.grammar.specs.Table.{word}
@@ -27,7 +27,7 @@ pub record Before (names : Builtins) (n : ℕ) (index : List ℕ) : Type 0 where
 -- whether name n, too, is right: then the index has it, and else the names are not right
 pub record Next (names : Builtins) (n : ℕ) (index : List ℕ) (r : Bool) : Type 0 where
   pub named : r ≡ true → Named names (n + 1) index
-  pub wrong : r ≡ false → Right-names names → ⊥
+  pub wrong : r ≡ false → RightNames names → ⊥
 
 -- the index is that of all names
 pub record Known (names : Builtins) (index : List ℕ) : Type 0 where
@@ -35,6 +35,6 @@ pub record Known (names : Builtins) (index : List ℕ) : Type 0 where
 
 -- whether the names are right: then the index is theirs
 pub record Checked (names : Builtins) (index : List ℕ) (r : Bool) : Type 0 where
-  pub right : r ≡ true → Right-names names
+  pub right : r ≡ true → RightNames names
   pub known : r ≡ true → Known names index
-  pub wrong : r ≡ false → Right-names names → ⊥
+  pub wrong : r ≡ false → RightNames names → ⊥

@@ -10,9 +10,9 @@ use lib.ListN.{get_or, drop}
 use Rattle.grammar.specs.Room.{node_width, own_width, link_width}
 use Rattle.grammar.specs.Edition.{Edition}
 use Rattle.foreign.specs.Check.{Item, lists, counted, Consecutive, covered, Follows}
-use Rattle.checker.specs.Follow.{consecutive, Goes_on, in_slots, covered_by, row_follows, Follows-all}
+use Rattle.checker.specs.Follow.{consecutive, Goes_on, in_slots, covered_by, row_follows, FollowsAll}
 use Rattle.checker.specs.Slots.{rows, table, cut_of, link_items, linked_items, held, spared, held_in}
-use Rattle.checker.specs.Test.{All-standing}
+use Rattle.checker.specs.Test.{AllStanding}
 use Rattle.checker.specs.declared.slots.Cut.{Cut}
 use Rattle.checker.specs.declared.slots.Slot.{Slot}
 use Rattle.checker.proofs.Items.{cut_items, list_held, number_held, lists_append, lists_spared}
@@ -140,10 +140,10 @@ module _ {t ns : List ℕ} where
         pick ls true q = (refl, omega arith)
         pick ls false q = absurd (n q)
 
-  pub follow_stopped : {i links n : ℕ} → i < n → Following t ns i links → ((ls : List ℕ) → row_follows t ns ls i ≡ false) → Follows-all t ns n (record { row = i; links = 0 })
+  pub follow_stopped : {i links n : ℕ} → i < n → Following t ns i links → ((ls : List ℕ) → row_follows t ns ls i ≡ false) → FollowsAll t ns n (record { row = i; links = 0 })
   follow_stopped h x f = record { first = λ ls. found h (x.kept ls) (f ls); covered = λ e. absurd (omega arith) }
 
-  pub follow_ended : {i links n : ℕ} → i ≡ n → Following t ns i links → Follows-all t ns n (record { row = n; links = links })
+  pub follow_ended : {i links n : ℕ} → i ≡ n → Following t ns i links → FollowsAll t ns n (record { row = n; links = links })
   follow_ended e x = record { first = λ ls. none_found e (x.kept ls); covered = λ q ls. x.covered ls ∙ ap (covered_by t ns ls) e }
 
 -- what the test of lists means
@@ -155,7 +155,7 @@ means_consecutive : (m : ℕ) (ls : List (ℕ × ℕ)) → Consecutive m ls → 
 means_consecutive m [] c = refl
 means_consecutive m (l ∷ ls) c = true_both (eq-eqb l.0 m c.0) (means_consecutive (m + l.1) ls c.1)
 
-module _ (e : Edition) {t ns : List ℕ} (ls : List ℕ) {n : ℕ} (q : t ≡ table e) (a : All-standing t ns n) where
+module _ (e : Edition) {t ns : List ℕ} (ls : List ℕ) {n : ℕ} (q : t ≡ table e) (a : AllStanding t ns n) where
   pub covered_means : (m : ℕ) → m ≤ n → covered_by t ns ls m ≡ covered e (rows ns ls) m
   unfolding covered_by covered
   covered_means zero h = refl

@@ -7,18 +7,18 @@ use mathlib.Core.Bool.{Bool, true, false}
 use mathlib.Core.List.{List}
 use mathlib.Core.Path.{◌≡◌, sym, ap, ◌∙◌}
 use lib.ListN.{length}
-use Rattle.grammar.specs.Door.{First-without}
+use Rattle.grammar.specs.Door.{FirstWithout}
 use Rattle.grammar.specs.Edition.{Edition}
 use Rattle.grammar.specs.Naming.{height}
 use Rattle.grammar.specs.Room.{node_width, link_width}
 use Rattle.grammar.specs.Rows.{Rows}
-use Rattle.foreign.specs.Check.{Known-kind, Ranged, Earlier, Once, Rooted, covered, Follows, Covering, Present, Clean, ParentRight, Breaks}
-use Rattle.checker.specs.Follow.{covered_by, row_follows, Follows-all}
-use Rattle.checker.specs.Named.{Nameable, All-named, is_once, is_parent}
+use Rattle.foreign.specs.Check.{KnownKind, Ranged, Earlier, Once, Rooted, covered, Follows, Covering, Present, Clean, ParentRight, Breaks}
+use Rattle.checker.specs.Follow.{covered_by, row_follows, FollowsAll}
+use Rattle.checker.specs.Named.{Nameable, AllNamed, is_once, is_parent}
 use Rattle.checker.specs.Slots.{rows, table}
-use Rattle.checker.specs.Test.{All-standing, First, known_kind, is_rooted, row_keeps}
+use Rattle.checker.specs.Test.{AllStanding, First, known_kind, is_rooted, row_keeps}
 use Rattle.checker.specs.declared.follow.Followed.{Followed}
-use Rattle.checker.specs.Verdict.{Judgeable, Earlier-kept, Tree-kept, Judges, Judged}
+use Rattle.checker.specs.Verdict.{Judgeable, EarlierKept, TreeKept, Judges, Judged}
 use Rattle.checker.proofs.Following.{covered_means, follows_means}
 use Rattle.checker.proofs.Laws.{never}
 use Rattle.checker.proofs.Naming.{once_means, parent_means}
@@ -50,7 +50,7 @@ module _ {e : Edition} {s : ℕ} {w : Rows} where
   past : {k : ℕ} → Least e s w k → ((i : ℕ) → Breaks e s w k i → ⊥) → Least e s w (suc k)
   past {k} l f = record { least = λ {r} {i} b. elim (ℕ_discrete r k) [ yes q ↦ absurd (f i (rw q at b)) | no q ↦ (let h = l.least b in omega arith) ] }
 
-  past_kinds : ((i : ℕ) → i < height w → Known-kind w i) → (i : ℕ) → Breaks e s w 1 i → ⊥
+  past_kinds : ((i : ℕ) → i < height w → KnownKind w i) → (i : ℕ) → Breaks e s w 1 i → ⊥
   past_kinds f i (Breaks.kinds x) = x.lacks (f i x.place)
 
   past_ranges : ((i : ℕ) → i < height w → Ranged e s w i) → (i : ℕ) → Breaks e s w 2 i → ⊥
@@ -94,20 +94,20 @@ module _ {t ns ls : List ℕ} {n marks : ℕ} (j : Judgeable t ns ls n marks) wh
   tall = ap (λ k. k / node_width) (sym j.node_rows) ∙ mul-div_cancel_left n (omega arith)
 
   -- what is said of n rows is said of all
-  first_of_all : {P : ℕ → Type 0} {i : ℕ} → First-without P n i → First-without P (height w) i
+  first_of_all : {P : ℕ → Type 0} {i : ℕ} → FirstWithout P n i → FirstWithout P (height w) i
   first_of_all f = rw tall f
 
   of_all : {P : ℕ → Type 0} → ((i : ℕ) → i < n → P i) → (i : ℕ) → i < height w → P i
   of_all f i h = f i (rw tall at h)
 
   -- rule 1
-  kinds_mean : Tests (known_kind ns) (Known-kind w) n
+  kinds_mean : Tests (known_kind ns) (KnownKind w) n
   kinds_mean = rule_one ns ls n
 
   pub judged_kinds : {s r : ℕ} → First (known_kind ns) n r → r < n → Judged t s w (record { code = 22; rule = 1; row = r })
   judged_kinds f h = record { says = λ e q. failed_at least_one (Breaks.kinds (first_of_all (breaks kinds_mean f h))) }
 
-  pub all_standing : ((i : ℕ) → i < n → known_kind ns i ≡ true) → All-standing t ns n
+  pub all_standing : ((i : ℕ) → i < n → known_kind ns i ≡ true) → AllStanding t ns n
   all_standing k = record { each = λ i h. let (a, b) = kind_means ns i (k i h) in record { edition = j.edition; same = j.same; room = omega (arith, j.node_rows); least = a; most = b } }
 
   module _ (s : ℕ) (k : (i : ℕ) → i < n → known_kind ns i ≡ true) where
@@ -136,8 +136,8 @@ module _ {t ns ls : List ℕ} {n marks : ℕ} (j : Judgeable t ns ls n marks) wh
       judged_earlier f h = record { says = λ e q. failed_at (past_two e q) (Breaks.earlier (first_of_all (breaks (earlier_mean e q) f h))) }
 
   -- where these hold
-  module _ {s : ℕ} (k : Earlier-kept t ns ls n s) where
-    standing : All-standing t ns n
+  module _ {s : ℕ} (k : EarlierKept t ns ls n s) where
+    standing : AllStanding t ns n
     standing = all_standing k.kinds
 
     earlier : (i : ℕ) → i < n → Earlier w i
@@ -149,11 +149,11 @@ module _ {t ns ls : List ℕ} {n marks : ℕ} (j : Judgeable t ns ls n marks) wh
     pub nameable : {ms : List ℕ} → length ms ≡ marks → Nameable t ns ls n ms
     nameable e = record { few = j.few; rows = j.short; room = omega (arith, j.room); standing = standing; symbols = s; earlier = k.earlier }
 
-    module _ {ms : List ℕ} (a : All-named w n ms) where
+    module _ {ms : List ℕ} (a : AllNamed w n ms) where
       once_mean : Tests (is_once ms) (Once w) (n - 1)
       once_mean = once_means j.short tall earlier a
 
-      last_row : {P : ℕ → Type 0} {i : ℕ} → First-without P (n - 1) i → First-without P (height w - 1) i
+      last_row : {P : ℕ → Type 0} {i : ℕ} → FirstWithout P (n - 1) i → FirstWithout P (height w - 1) i
       last_row f = rw tall f
 
       but_last : {P : ℕ → Type 0} → ((i : ℕ) → i < n - 1 → P i) → (i : ℕ) → i < height w - 1 → P i
@@ -191,21 +191,21 @@ module _ {t ns ls : List ℕ} {n marks : ℕ} (j : Judgeable t ns ls n marks) wh
           covered_mean e q = covered_means e ls q standing n (omega arith) ∙ ap (covered e w) (sym tall)
 
           -- rule 6
-          pub judged_follows : {r : Followed} → Follows-all t ns n r → r.row < n → Judged t s w (record { code = 22; rule = 6; row = r.row })
+          pub judged_follows : {r : Followed} → FollowsAll t ns n r → r.row < n → Judged t s w (record { code = 22; rule = 6; row = r.row })
           judged_follows f h = record { says = λ e q. failed_at (past_five e q) (Breaks.follows (first_of_all (breaks (follows_mean e q) (f.first ls) h))) }
 
-          pub judged_left_over : {r : Followed} → Follows-all t ns n r → (r.row < n → ⊥) → (r.links ≡ length ls / link_width → ⊥) → Judged t s w (record { code = 22; rule = 6; row = n - 1 })
+          pub judged_left_over : {r : Followed} → FollowsAll t ns n r → (r.row < n → ⊥) → (r.links ≡ length ls / link_width → ⊥) → Judged t s w (record { code = 22; rule = 6; row = n - 1 })
           judged_left_over {r} f h m = record { says = λ e q. failed_at (past_five e q) (at e (Breaks.left_over (of_all (λ i l. (follows_mean e q).means i l (passes_all (f.first ls) h i l))) (λ c. m (f.covered (omega (arith, (f.first ls).most)) ls ∙ covered_mean e q ∙ c)))) }
             where
               at : (e : Edition) → Breaks e s w 6 (height w - 1) → Breaks e s w 6 (n - 1)
               at e b = rw tall at b
 
-          pub tree_kept : {r : Followed} {orphan : ℕ} → Follows-all t ns n r → (r.row < n → ⊥) → r.links ≡ length ls / link_width → First (is_parent ns ms) n orphan → Tree-kept t ns ls n s orphan
+          pub tree_kept : {r : Followed} {orphan : ℕ} → FollowsAll t ns n r → (r.row < n → ⊥) → r.links ≡ length ls / link_width → First (is_parent ns ms) n orphan → TreeKept t ns ls n s orphan
           tree_kept f h m p = record { kept = k; marks = ms; named = a; once = o; rooted = g; follows = passes_all (f.first ls) h; covered = sym (f.covered (omega (arith, (f.first ls).most)) ls) ∙ m; orphans = p }
 
   -- where rules 1 to 6 hold
-  module _ {s orphan : ℕ} (k : Tree-kept t ns ls n s orphan) where
-    abbrev before : Earlier-kept t ns ls n s
+  module _ {s orphan : ℕ} (k : TreeKept t ns ls n s orphan) where
+    abbrev before : EarlierKept t ns ls n s
     before = k.kept
 
     only_once : (i : ℕ) → i < n - 1 → Once w i

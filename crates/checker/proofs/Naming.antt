@@ -21,7 +21,7 @@ use Rattle.ast.specs.Written.{Written}
 use Rattle.ast.proofs.Rooms.{zero_at}
 use Rattle.foreign.specs.Check.{Earlier, Once, ParentRight}
 use Rattle.foreign.proofs.Walks.{named_earlier}
-use Rattle.checker.specs.Named.{once_more, base_of, Ready, Noted, names_in, InLists, mark_by, mark_of, Nameable, All-named, is_once, is_parent}
+use Rattle.checker.specs.Named.{once_more, base_of, Ready, Noted, names_in, InLists, mark_by, mark_of, Nameable, AllNamed, is_once, is_parent}
 use Rattle.checker.specs.Slots.{rows, cut_of, held, held_in, Standing}
 use Rattle.checker.specs.Test.{row_keeps}
 use Rattle.checker.specs.declared.slots.Cut.{Cut}
@@ -113,11 +113,11 @@ module _ {t ns ls room : List ℕ} {n : ℕ} (asked : Nameable t ns ls n room) w
   pub naming_more : {i : ℕ} {c : Cut} {marks after : List ℕ} → i < n → c ≡ cut_of t ns i → Naming (rows ns ls) n i marks → Noted n i ls (names_in (held ls c.first ++ (held ls c.second ++ held ls c.third))) marks after → Naming (rows ns ls) n (i + 1) after
   naming_more h e a m = row_more all_earlier h a (rw e (row_names ls (asked.standing.each _ h))) m
 
-pub naming_done : {w : Rows} {n i : ℕ} {marks : List ℕ} → i ≡ n → Naming w n i marks → All-named w n marks
+pub naming_done : {w : Rows} {n i : ℕ} {marks : List ℕ} → i ≡ n → Naming w n i marks → AllNamed w n marks
 naming_done {w} e a = record { each = λ j h. a.each j h ∙ ap (λ k. mark_of w k j) e }
 
 -- what the marks of all rows tell
-module _ {w : Rows} {n : ℕ} {marks : List ℕ} (few : n ≤ absent) (tall : height w ≡ n) (earlier : (i : ℕ) → i < n → Earlier w i) (a : All-named w n marks) where
+module _ {w : Rows} {n : ℕ} {marks : List ℕ} (few : n ≤ absent) (tall : height w ≡ n) (earlier : (i : ℕ) → i < n → Earlier w i) (a : AllNamed w n marks) where
   -- a row that is named once has its parent as its mark
   marked_once : (j : ℕ) → j < n → Once w j → (get_or marks j 0 ≡ parent w n j) × (0 < get_or marks j 0) × (get_or marks j 0 < absent)
   marked_once j h o =

@@ -4,11 +4,11 @@ use native.Mathlib.Omega.{arith}
 use mathlib.Core.Bool.{Bool, true}
 use mathlib.Core.List.{List}
 use mathlib.Core.Path.{◌≡◌, ap, sym, ◌∙◌}
-use Rattle.grammar.specs.Door.{First-without}
+use Rattle.grammar.specs.Door.{FirstWithout}
 use Rattle.grammar.specs.Edition.{Edition}
-use Rattle.foreign.specs.Check.{items_of, Known-kind, Ranged, Earlier, Present, Clean}
+use Rattle.foreign.specs.Check.{items_of, KnownKind, Ranged, Earlier, Present, Clean}
 use Rattle.checker.specs.Slots.{table, rows}
-use Rattle.checker.specs.Test.{keep_all, All-standing, First, known_kind, row_keeps}
+use Rattle.checker.specs.Test.{keep_all, AllStanding, First, known_kind, row_keeps}
 use Rattle.checker.proofs.Laws.{never}
 use Rattle.checker.proofs.Items.{own_kind, cut_items, named_items}
 use Rattle.checker.proofs.Keeping.{many}
@@ -20,18 +20,18 @@ pub record Tests (test : ℕ → Bool) (P : ℕ → Type 0) (n : ℕ) : Type 0 w
   pub means : (j : ℕ) → j < n → test j ≡ true → P j
   pub holds : (j : ℕ) → j < n → P j → test j ≡ true
 
-pub breaks : {test : ℕ → Bool} {P : ℕ → Type 0} {n r : ℕ} → Tests test P n → First test n r → r < n → First-without P n r
+pub breaks : {test : ℕ → Bool} {P : ℕ → Type 0} {n r : ℕ} → Tests test P n → First test n r → r < n → FirstWithout P n r
 breaks {r = r} t f h = record { place = h; lacks = λ p. never (t.holds r h p) (f.fails h); before = λ j l. t.means j (omega arith) (f.before j l) }
 
 -- kinds
-pub rule_one : (ns ls : List ℕ) (n : ℕ) → Tests (known_kind ns) (Known-kind (rows ns ls)) n
+pub rule_one : (ns ls : List ℕ) (n : ℕ) → Tests (known_kind ns) (KnownKind (rows ns ls)) n
 rule_one ns ls n = record {
   means = λ j h e. let (a, b) = kind_means ns j e in record { least = rw (own_kind j ns ls) a; most = rw (own_kind j ns ls) b };
   holds = λ j h k. kind_known ns j (rw (own_kind j ns ls) at k.least) (rw (own_kind j ns ls) at k.most);
 }
 
 -- items
-module _ (e : Edition) (s : ℕ) (ls : List ℕ) {t ns : List ℕ} {n : ℕ} (same : t ≡ table e) (stands : All-standing t ns n) where
+module _ (e : Edition) (s : ℕ) (ls : List ℕ) {t ns : List ℕ} {n : ℕ} (same : t ≡ table e) (stands : AllStanding t ns n) where
   row_is : (rule j : ℕ) → j < n → row_keeps rule s t ns ls j ≡ keep_all rule j s (many ls) (items_of e (rows ns ls) j)
   unfolding row_keeps
   row_is rule j h = ap (keep_all rule j s (many ls)) (sym (cut_items e ns ls j same (stands.each j h)))

@@ -32,6 +32,6 @@ unfoldable pub row_follows : (table nodes links : List ℕ) (row : ℕ) → Bool
 row_follows t ns ls i = consecutive (covered_by t ns ls i) (lists (held_in ns ls i (cut_of t ns i)))
 
 -- the first row whose lists do not follow, or the number of rows and then how many links they have
-pub record Follows-all (table nodes : List ℕ) (count : ℕ) (r : Followed) : Type 0 where
+pub record FollowsAll (table nodes : List ℕ) (count : ℕ) (r : Followed) : Type 0 where
   pub first : (links : List ℕ) → First (row_follows table nodes links) count r.row
   pub covered : r.row ≡ count → (links : List ℕ) → r.links ≡ covered_by table nodes links count

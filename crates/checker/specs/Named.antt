@@ -8,7 +8,7 @@ use Rattle.grammar.specs.Room.{node_width, own_width, link_width}
 use Rattle.grammar.specs.Rows.{Rows}
 use Rattle.foreign.specs.Check.{Item}
 use Rattle.checker.specs.Marks.{Settled}
-use Rattle.checker.specs.Test.{All-standing, row_keeps}
+use Rattle.checker.specs.Test.{AllStanding, row_keeps}
 use Rattle.checker.specs.declared.slots.Slot.{Slot}
 
 -- what a mark becomes where a row names it so often
@@ -95,11 +95,11 @@ pub record Nameable (table nodes links : List ℕ) (n : ℕ) (marks : List ℕ) 
   pub few : length links / link_width ≤ absent
   pub rows : n ≤ absent
   pub room : n + 2 * (length links / link_width) ≤ length marks
-  pub standing : All-standing table nodes n
+  pub standing : AllStanding table nodes n
   pub symbols : ℕ
   pub earlier : (i : ℕ) → i < n → row_keeps 3 symbols table nodes links i ≡ true
 
-pub record All-named (w : Rows) (n : ℕ) (marks : List ℕ) : Type 0 where
+pub record AllNamed (w : Rows) (n : ℕ) (marks : List ℕ) : Type 0 where
   pub each : (j : ℕ) → j < n → get_or marks j 0 ≡ mark_of w n j
 
 -- a row is named once; and its parent is right

@@ -58,7 +58,7 @@ pub record Keeps (rule i s : ℕ) (links : List ℕ) (items : List Item) (after 
   pub marked : r ≡ true → Marked rule i s links after
 
 -- each of the first rows is there and of a known kind
-pub record All-standing (lent nodes : List ℕ) (count : ℕ) : Type 0 where
+pub record AllStanding (lent nodes : List ℕ) (count : ℕ) : Type 0 where
   pub each : (i : ℕ) → i < count → Standing lent nodes i
 
 -- the first of n rows that fails a test, or n

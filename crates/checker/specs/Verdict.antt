@@ -6,7 +6,7 @@ use Rattle.grammar.specs.Room.{Rooms, node_width, link_width}
 use Rattle.grammar.specs.Rows.{Rows}
 use Rattle.foreign.specs.Check.{Checked, Fails, Given, Checks}
 use Rattle.checker.specs.Follow.{covered_by, row_follows}
-use Rattle.checker.specs.Named.{is_once, is_parent, All-named}
+use Rattle.checker.specs.Named.{is_once, is_parent, AllNamed}
 use Rattle.checker.specs.Slots.{table, rows}
 use Rattle.checker.specs.Test.{First, known_kind, is_rooted, row_keeps}
 use Rattle.checker.specs.declared.Verdict.{Verdict}
@@ -32,16 +32,16 @@ pub record Judgeable (lent nodes links : List ℕ) (count marks : ℕ) : Type 0 
   pub room : count + 2 * (length links / link_width) ≤ marks
 
 -- all rows keep rules 1 to 3
-pub record Earlier-kept (lent nodes links : List ℕ) (count symbols : ℕ) : Type 0 where
+pub record EarlierKept (lent nodes links : List ℕ) (count symbols : ℕ) : Type 0 where
   pub kinds : (i : ℕ) → i < count → known_kind nodes i ≡ true
   pub ranges : (i : ℕ) → i < count → row_keeps 2 symbols lent nodes links i ≡ true
   pub earlier : (i : ℕ) → i < count → row_keeps 3 symbols lent nodes links i ≡ true
 
 -- and 4 to 6; and row `orphan` is the first whose parent is not right
-pub record Tree-kept (lent nodes links : List ℕ) (count symbols orphan : ℕ) : Type 0 where
-  pub kept : Earlier-kept lent nodes links count symbols
+pub record TreeKept (lent nodes links : List ℕ) (count symbols orphan : ℕ) : Type 0 where
+  pub kept : EarlierKept lent nodes links count symbols
   pub marks : List ℕ
-  pub named : All-named (rows nodes links) count marks
+  pub named : AllNamed (rows nodes links) count marks
   pub once : (i : ℕ) → i < count - 1 → is_once marks i ≡ true
   pub rooted : is_rooted nodes count ≡ true
   pub follows : (i : ℕ) → i < count → row_follows lent nodes links i ≡ true

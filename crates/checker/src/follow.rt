@@ -1,8 +1,8 @@
 // Rule 6: whether lists follow each other, in the order of the rows.
 ghost use Rattle.std.specs.Prelude.{◌≤◌};
-ghost use Rattle.checker.specs.Follow.{Goes_on, in_slots, Follows-all};
+ghost use Rattle.checker.specs.Follow.{Goes_on, in_slots, FollowsAll};
 ghost use Rattle.checker.specs.Slots.{held};
-ghost use Rattle.checker.specs.Test.{All-standing};
+ghost use Rattle.checker.specs.Test.{AllStanding};
 
 use crate::slots::{Cut, ENTRIES, NODES, Slot, cut_row};
 
@@ -54,8 +54,8 @@ fn after_row(c: Cut, from: usize) -> usize
 // The first row whose lists do not follow those before it, or the number of rows; and then how many links they have.
 // Ruled out: a later row; the links of the last row left out.
 pub(crate) fn follow(table: &[u8], nodes: &[u32], count: u32) -> Followed
-    requires { All-standing table.now nodes.now count }
-    ensures { Follows-all table.now nodes.now count result }
+    requires { AllStanding table.now nodes.now count }
+    ensures { FollowsAll table.now nodes.now count result }
 {
     let mut links = 0;
     let mut i = 0;

@@ -4,7 +4,7 @@ ghost use Rattle.foreign.specs.Check.{Item};
 ghost use Rattle.grammar.specs.Handle.{absent};
 ghost use Rattle.grammar.specs.Room.{node_width, own_width, link_width};
 ghost use Rattle.checker.specs.Slots.{second_item, link_items, held, held_in, spared};
-ghost use Rattle.checker.specs.Test.{keep as keeps, keep_all, concerns, Linkable, Linked, Marked, Keeps, All-standing, First, row_keeps};
+ghost use Rattle.checker.specs.Test.{keep as keeps, keep_all, concerns, Linkable, Linked, Marked, Keeps, AllStanding, First, row_keeps};
 
 use crate::marks::{settle, skip};
 use crate::slots::{
@@ -239,7 +239,7 @@ pub(crate) fn first(
     marks: &mut [u32],
     count: u32,
 ) -> u32
-    requires { All-standing table.now nodes.now count × (length links.now / link_width ≤ absent) × (2 * (length links.now / link_width) ≤ length marks.old) }
+    requires { AllStanding table.now nodes.now count × (length links.now / link_width ≤ absent) × (2 * (length links.now / link_width) ≤ length marks.old) }
     ensures { First (row_keeps rule symbols table.now nodes.now links.now) count result }
 {
     zero(marks, 0, 2 * (links.len() / LINK_WIDTH));

@@ -10,7 +10,7 @@ mod slots;
 
 ghost use Rattle.std.specs.Prelude.{◌-◌, ◌≡◌, length};
 ghost use Rattle.checker.specs.Slots.{rows};
-ghost use Rattle.checker.specs.Verdict.{rooms, given, Judgeable, Earlier-kept, Tree-kept, Judged, Tells};
+ghost use Rattle.checker.specs.Verdict.{rooms, given, Judgeable, EarlierKept, TreeKept, Judged, Tells};
 
 use crate::follow::follow;
 use crate::keep::{CLEAN, EARLIER, PRESENT, RANGES, first};
@@ -89,7 +89,7 @@ fn judge_items(
     orphan: u32,
     scratch: &mut [u32],
 ) -> Verdict
-    requires { Judgeable table.now nodes.now links.now count (length scratch.old) × Tree-kept table.now nodes.now links.now count symbols orphan }
+    requires { Judgeable table.now nodes.now links.now count (length scratch.old) × TreeKept table.now nodes.now links.now count symbols orphan }
     ensures { Judged table.now symbols (rows nodes.now links.now) result }
 {
     let absent = first(PRESENT, symbols, table, nodes, links, scratch, count);
@@ -116,7 +116,7 @@ fn judge_tree(
     symbols: u32,
     scratch: &mut [u32],
 ) -> Verdict
-    requires { Judgeable table.now nodes.now links.now count (length scratch.old) × Earlier-kept table.now nodes.now links.now count symbols }
+    requires { Judgeable table.now nodes.now links.now count (length scratch.old) × EarlierKept table.now nodes.now links.now count symbols }
     ensures { Judged table.now symbols (rows nodes.now links.now) result }
 {
     name(table, nodes, links, scratch, count);

@@ -1,7 +1,7 @@
 // Rules 4 and 9: which rows are named, and by which row. One pass marks each row that is named, in the order of the rows that name it; then the marks tell.
 ghost use Rattle.std.specs.Prelude.{◌+◌, ◌-◌, ◌*◌, ◌/◌, ◌≤◌, ◌<◌, cond, ◌&&◌, ◌++◌, ◌≡◌, length, set};
 ghost use Rattle.grammar.specs.Room.{node_width, link_width};
-ghost use Rattle.checker.specs.Named.{noted, known as is_Known, second_of, names_from, names_in, Ready, Listed, Noted, InLists, Nameable, All-named, is_once, is_parent};
+ghost use Rattle.checker.specs.Named.{noted, known as is_Known, second_of, names_from, names_in, Ready, Listed, Noted, InLists, Nameable, AllNamed, is_once, is_parent};
 ghost use Rattle.checker.specs.Slots.{rows as rows_of, held};
 ghost use Rattle.checker.specs.Test.{First};
 
@@ -135,7 +135,7 @@ fn name_row(marks: &mut [u32], rows: usize, links: &[u32], row: u32, c: Cut)
 // Ruled out: a row that two rows name marked as the first's; a mark that was there before.
 pub(crate) fn name(table: &[u8], nodes: &[u32], links: &[u32], marks: &mut [u32], count: u32)
     requires { Nameable table.now nodes.now links.now count marks.old }
-    ensures { All-named (rows_of nodes.now links.now) count marks.new }
+    ensures { AllNamed (rows_of nodes.now links.now) count marks.new }
 {
     let rows = count as usize;
     zero(marks, 0, rows + 2 * (links.len() / LINK_WIDTH));

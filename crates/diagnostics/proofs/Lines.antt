@@ -87,23 +87,23 @@ pub line_counts : {text es : List ℕ} → Ends 0 text es → (offset : ℕ) →
 line_counts e offset = counts e offset offset (omega arith)
 
 -- every text has its ends
-pub record With-ends (from : ℕ) (text : List ℕ) : Type 0 where
+pub record WithEnds (from : ℕ) (text : List ℕ) : Type 0 where
   pub all : List ℕ
   pub told : Ends from text all
 
-no_return_first : {from : ℕ} (x : ℕ) (rest : List ℕ) → (x ≡ Return → ⊥) → With-ends (suc from) rest → With-ends from (x ∷ rest)
+no_return_first : {from : ℕ} (x : ℕ) (rest : List ℕ) → (x ≡ Return → ⊥) → WithEnds (suc from) rest → WithEnds from (x ∷ rest)
 no_return_first {from} x rest m w = elim (ℕ_discrete x Newline) [
   | yes e ↦ rw e (record { all = suc from ∷ w.all; told = newline w.told })
   | no n ↦ record { all = w.all; told = other n m w.told }
 ]
 
-no_pair_first : {from : ℕ} (x : ℕ) (rest : List ℕ) → (get_or rest 0 0 ≡ Newline → ⊥) → With-ends (suc from) rest → With-ends from (x ∷ rest)
+no_pair_first : {from : ℕ} (x : ℕ) (rest : List ℕ) → (get_or rest 0 0 ≡ Newline → ⊥) → WithEnds (suc from) rest → WithEnds from (x ∷ rest)
 no_pair_first {from} x rest n w = elim (ℕ_discrete x Return) [
   | yes e ↦ rw e (record { all = suc from ∷ w.all; told = return n w.told })
   | no m ↦ no_return_first x rest m w
 ]
 
-pub with_ends : (from : ℕ) (text : List ℕ) → With-ends from text
+pub with_ends : (from : ℕ) (text : List ℕ) → WithEnds from text
 with_ends from [] = record { all = []; told = none }
 with_ends from (x ∷ []) = no_pair_first x [] (λ e. absurd (omega (arith, e))) (with_ends (suc from) [])
 with_ends from (x ∷ y ∷ rest) = elim (ℕ_discrete y Newline) [
@@ -115,7 +115,7 @@ with_ends from (x ∷ y ∷ rest) = elim (ℕ_discrete y Newline) [
       ]
 ]
   where
-    paired : With-ends (suc (suc from)) rest → With-ends from (Return ∷ Newline ∷ rest)
+    paired : WithEnds (suc (suc from)) rest → WithEnds from (Return ∷ Newline ∷ rest)
     paired w = record { all = suc (suc from) ∷ w.all; told = pair w.told }
 
 -- The column is one more than the bytes from the start of its line, which is the text's start or stands after a byte that ends its line, with none between.

@@ -13,15 +13,15 @@ use Rattle.grammar.specs.Pattern.{bytes}
 use Rattle.spelling.specs.Display.{display, Put}
 use Rattle.spelling.proofs.display.Names.{short}
 use Rattle.spelling.proofs.display.Writing.{room_after}
-use Rattle.diagnostics.specs.Message.{text_of, Message-given}
+use Rattle.diagnostics.specs.Message.{text_of, MessageGiven}
 use Rattle.diagnostics.specs.declared.Message.{Message}
 
 -- a room that is too small
-pub too_small : {code expected found : ℕ} {room : List ℕ} → length room < 52 → Message-given code expected found room room (record { code = 13; length = 0 })
+pub too_small : {code expected found : ℕ} {room : List ℕ} → length room < 52 → MessageGiven code expected found room room (record { code = 13; length = 0 })
 too_small h = record { refused = λ _. refl; untouched = λ _. refl; answer = λ i. absurd (omega arith); room = λ i. absurd (omega arith) }
 
 -- a text written from the start of one that is not
-pub written : {code expected found n : ℕ} {before after : List ℕ} → 52 ≤ length before → Put (text_of code expected found) 0 before after n → Message-given code expected found before after (record { code = 0; length = n })
+pub written : {code expected found n : ℕ} {before after : List ℕ} → 52 ≤ length before → Put (text_of code expected found) 0 before after n → MessageGiven code expected found before after (record { code = 0; length = n })
 written {code} {expected} {found} {n} {before} {after} h p =
     let e : n ≡ length (text_of code expected found) = p.ends ∙ zero-add _ in
     record {
@@ -32,7 +32,7 @@ written {code} {expected} {found} {n} {before} {after} h p =
     }
 
 -- the contract settles the answer and every byte of the room
-pub one_message : {code expected found : ℕ} {before after other : List ℕ} {r s : Message} → Message-given code expected found before after r → Message-given code expected found before other s → (r ≡ s) × (after ≡ other)
+pub one_message : {code expected found : ℕ} {before after other : List ℕ} {r s : Message} → MessageGiven code expected found before after r → MessageGiven code expected found before other s → (r ≡ s) × (after ≡ other)
 one_message {before = before} p q =
     elim (dec_lt (length before) 52) [
       | yes h ↦ (p.refused h ∙ sym (q.refused h), p.untouched h ∙ sym (q.untouched h))
@@ -72,7 +72,7 @@ unfolding text_of display
 longest = refl
 
 -- what was written lies in the room
-pub inside : {code expected found : ℕ} {before after : List ℕ} {r : Message} → Message-given code expected found before after r → r.length ≤ length before
+pub inside : {code expected found : ℕ} {before after : List ℕ} {r : Message} → MessageGiven code expected found before after r → r.length ≤ length before
 inside {code} {expected} {found} {before} p =
     elim (dec_lt (length before) 52) [
       | yes h ↦ omega (arith, ap (λ (m : Message). m.length) (p.refused h))

@@ -12,7 +12,7 @@ use borrow.Author.Count.{below_more}
 use borrow.Author.Tests.{eq-eqb, ne_eqb}
 use Rattle.spelling.specs.Decides.{Decides}
 use Rattle.spelling.proofs.Deciding.{holds, fails, held, failed}
-use Rattle.diagnostics.specs.Line.{at, ends, next, line_of, Is_at, Has-place, Offset-given}
+use Rattle.diagnostics.specs.Line.{at, ends, next, line_of, Is_at, HasPlace, OffsetGiven}
 use Rattle.diagnostics.specs.declared.Place.{Place}
 
 -- a place before another: on an earlier line, or in an earlier column of the same
@@ -34,10 +34,10 @@ later text i zero h = absurd (omega arith)
 later text i (suc j) h = elim (ℕ_discrete i j) [ yes e ↦ rw e (on (ends text j) (line_of text j)) | no n ↦ further (ends text j) (later text i j (omega arith)) ]
 
 -- no two offsets have the same line and column
-apart : {text : List ℕ} {line column i j : ℕ} → Has-place text line column i → Has-place text line column j → i < j → ⊥
+apart : {text : List ℕ} {line column i j : ℕ} → HasPlace text line column i → HasPlace text line column j → i < j → ⊥
 apart {text} {i = i} {j = j} p q h = omega (arith, (later text i j h).column (p.there.on_line ∙ sym q.there.on_line), p.there.in_column, q.there.in_column)
 
-pub same_offset : {text : List ℕ} {line column i j : ℕ} → Has-place text line column i → Has-place text line column j → i ≡ j
+pub same_offset : {text : List ℕ} {line column i j : ℕ} → HasPlace text line column i → HasPlace text line column j → i ≡ j
 same_offset {i = i} {j = j} p q =
     elim (dec_lt i j) [
       | yes h ↦ absurd (apart p q h)
@@ -55,7 +55,7 @@ is_at line column here =
           ]
     ]
 
-has_place : (text : List ℕ) (line column i : ℕ) → Dec (Has-place text line column i)
+has_place : (text : List ℕ) (line column i : ℕ) → Dec (HasPlace text line column i)
 has_place text line column i =
     elim (dec_le i (length text)) [
       | no h ↦ no (λ p. h p.inside)
@@ -64,20 +64,20 @@ has_place text line column i =
     ]
 
 -- the contract settles the answer
-pub one_offset : {text : List ℕ} {line column r s : ℕ} → Offset-given text line column r → Offset-given text line column s → r ≡ s
+pub one_offset : {text : List ℕ} {line column r s : ℕ} → OffsetGiven text line column r → OffsetGiven text line column s → r ≡ s
 one_offset {text} {line} {column} {r} p q =
     elim (dec_le (length text) 65536) [
       | no h ↦ let i : 65536 < length text = omega arith in p.long i ∙ sym (q.long i)
       | yes h ↦
           elim (has_place text line column r) [
             | yes k ↦ same_offset k (q.found h r k)
-            | no k ↦ let none : (i : ℕ) → Has-place text line column i → ⊥ = λ i l. k (p.found h i l) in p.none h none ∙ sym (q.none h none)
+            | no k ↦ let none : (i : ℕ) → HasPlace text line column i → ⊥ = λ i l. k (p.found h i l) in p.none h none ∙ sym (q.none h none)
           ]
     ]
 
 -- the offset of the line and the column of i is i
-pub back_again : (text : List ℕ) (i : ℕ) {r : ℕ} → length text ≤ 65536 → i ≤ length text → Offset-given text (line_of text i).line (line_of text i).column r → r ≡ i
-back_again text i h k o = let here : Has-place text (line_of text i).line (line_of text i).column i = record { inside = k; there = record { on_line = refl; in_column = refl } } in same_offset (o.found h i here) here
+pub back_again : (text : List ℕ) (i : ℕ) {r : ℕ} → length text ≤ 65536 → i ≤ length text → OffsetGiven text (line_of text i).line (line_of text i).column r → r ≡ i
+back_again text i h k o = let here : HasPlace text (line_of text i).line (line_of text i).column i = record { inside = k; there = record { on_line = refl; in_column = refl } } in same_offset (o.found h i here) here
 
 -- the test of a line and a column
 pub another_line : {line column : ℕ} {here : Place} → (here.line ≡ line → ⊥) → Decides (Is_at line column here) false
@@ -94,7 +94,7 @@ same_line {column = column} {here} e =
 pub record Looking (text : List ℕ) (line column i : ℕ) (here : Place) : Type 0 where
   pub inside : i ≤ length text
   pub there : here ≡ line_of text i
-  pub before : (k : ℕ) → k < i → Has-place text line column k → ⊥
+  pub before : (k : ℕ) → k < i → HasPlace text line column k → ⊥
 
 pub started : {text : List ℕ} {line column : ℕ} → Looking text line column 0 (at 1 1)
 unfolding line_of
@@ -102,20 +102,20 @@ started = record { inside = omega arith; there = refl; before = λ k h. absurd (
 
 module _ {text : List ℕ} {line column i : ℕ} {here : Place} {r : Bool} (s : Looking text line column i here) (d : Decides (Is_at line column here) r) where
   -- i has the place, or has it not
-  reached : r ≡ true → Has-place text line column i
+  reached : r ≡ true → HasPlace text line column i
   reached e = record { inside = s.inside; there = rw s.there at (held (rw e at d)) }
 
-  missed : r ≡ false → Has-place text line column i → ⊥
+  missed : r ≡ false → HasPlace text line column i → ⊥
   missed e p = failed (rw e at d) (rw s.there p.there)
 
-  pub is_found : r ≡ true → length text ≤ 65536 → Offset-given text line column i
+  pub is_found : r ≡ true → length text ≤ 65536 → OffsetGiven text line column i
   is_found e h = record { long = λ k. absurd (omega arith); found = λ _ _ _. reached e; none = λ _ f. absurd (f i (reached e)) }
 
   pub passed : {after : Place} → r ≡ false → i < length text → after ≡ line_of text (i + 1) → Looking text line column (i + 1) after
   passed e h f = record { inside = omega arith; there = f; before = below_more _ _ s.before (missed e) }
 
-  pub is_nowhere : r ≡ false → length text ≤ 65536 → i ≡ length text → Offset-given text line column (length text + 1)
+  pub is_nowhere : r ≡ false → length text ≤ 65536 → i ≡ length text → OffsetGiven text line column (length text + 1)
   is_nowhere e h f = record { long = λ k. absurd (omega arith); found = λ _ k p. absurd (nowhere k p); none = λ _ _. refl }
     where
-      nowhere : (k : ℕ) → Has-place text line column k → ⊥
+      nowhere : (k : ℕ) → HasPlace text line column k → ⊥
       nowhere k p = elim (dec_lt k i) [ yes l ↦ s.before k l p | no l ↦ let m : k ≡ i = omega (arith, p.inside) in missed e (rw m at p) ]

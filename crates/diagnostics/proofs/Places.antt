@@ -10,7 +10,7 @@ use mathlib.Core.Path.{◌≡◌, refl, sym, ap, ◌∙◌}
 use lib.Dec.{eqb}
 use lib.ListN.{length, get_or, get_or-eq_default}
 use borrow.Author.Tests.{ne_eqb}
-use Rattle.diagnostics.specs.Line.{Newline, Return, at, ends, next, line_of, Placed, Byte-placed}
+use Rattle.diagnostics.specs.Line.{Newline, Return, at, ends, next, line_of, Placed, BytePlaced}
 use Rattle.diagnostics.specs.declared.Place.{Place}
 
 -- the three ways to tell whether a line ends: a byte that is no return, a return with a byte after it, and a last return
@@ -26,11 +26,11 @@ pub return_last : (text : List ℕ) (i : ℕ) → get_or text i 0 ≡ Return →
 return_last text i e h = ap (λ (x : ℕ). not (eqb x Newline)) (sym (get_or-eq_default text 0 (omega arith))) ∙ return_followed text i e
 
 -- past a byte that ends its line, and past another
-pub next_line : {text : List ℕ} {i : ℕ} {here : Place} → Byte-placed text i here → ends text i ≡ true → at (here.line + 1) 1 ≡ line_of text (i + 1)
+pub next_line : {text : List ℕ} {i : ℕ} {here : Place} → BytePlaced text i here → ends text i ≡ true → at (here.line + 1) 1 ≡ line_of text (i + 1)
 unfolding line_of
 next_line {i = i} s h = rw (add-one i, h) (ap (next true) s.there)
 
-pub next_column : {text : List ℕ} {i : ℕ} {here : Place} → Byte-placed text i here → ends text i ≡ false → at here.line (here.column + 1) ≡ line_of text (i + 1)
+pub next_column : {text : List ℕ} {i : ℕ} {here : Place} → BytePlaced text i here → ends text i ≡ false → at here.line (here.column + 1) ≡ line_of text (i + 1)
 unfolding line_of
 next_column {i = i} s h = rw (add-one i, h) (ap (next false) s.there)
 
@@ -48,7 +48,7 @@ small text (suc i) = then (ends text i) (line_of text i) (small text i)
     then true s h = record { line = omega (arith, h.line); column = omega arith }
     then false s h = record { line = omega (arith, h.line); column = omega (arith, h.column) }
 
-pub byte_small : {text : List ℕ} {i : ℕ} {here : Place} → Byte-placed text i here → Small i here
+pub byte_small : {text : List ℕ} {i : ℕ} {here : Place} → BytePlaced text i here → Small i here
 byte_small {text} {i} s = rw s.there (small text i)
 
 -- the contract settles the answer

@@ -15,18 +15,18 @@ use Rattle.grammar.specs.Symbol.{same}
 use Rattle.grammar.proofs.Tests.{same_means, within}
 use Rattle.spelling.specs.Display.{Put}
 use Rattle.spelling.proofs.display.Writing.{room_after}
-use Rattle.diagnostics.specs.Message.{text_of, Message-given}
-use Rattle.diagnostics.specs.Reason.{texts, Quote, own, reason_of, Reason-given, last, tabled, table, begins, Placed-at}
+use Rattle.diagnostics.specs.Message.{text_of, MessageGiven}
+use Rattle.diagnostics.specs.Reason.{texts, Quote, own, reason_of, ReasonGiven, last, tabled, table, begins, PlacedAt}
 use Rattle.diagnostics.specs.declared.Message.{Message}
 use Rattle.diagnostics.proofs.Messages.{either, text_fits}
 
 -- what `message` answers
-pub passed : {text before after : List ℕ} {code start expected found : ℕ} {r : Message} → from_to 8 11 code ≡ true → Message-given code expected found before after r → Reason-given text code start expected found before after r
+pub passed : {text before after : List ℕ} {code start expected found : ℕ} {r : Message} → from_to 8 11 code ≡ true → MessageGiven code expected found before after r → ReasonGiven text code start expected found before after r
 unfolding reason_of
 passed e m = record { refused = m.refused; untouched = m.untouched; answer = λ h. rw e (m.answer h); room = λ h. rw e (m.room h) }
 
 -- a room that is too small
-pub too_small : {text room : List ℕ} {code start expected found : ℕ} → length room < 52 → Reason-given text code start expected found room room (record { code = 13; length = 0 })
+pub too_small : {text room : List ℕ} {code start expected found : ℕ} → length room < 52 → ReasonGiven text code start expected found room room (record { code = 13; length = 0 })
 too_small h = record { refused = λ _. refl; untouched = λ _. refl; answer = λ i. absurd (omega arith); room = λ i. absurd (omega arith) }
 
 -- a text of the table, written from the start of a room that is not
@@ -34,7 +34,7 @@ own_text : (text : List ℕ) (code start expected found : ℕ) → from_to 8 11 
 unfolding reason_of
 own_text text code start expected found e = rw e
 
-pub written : {text before after : List ℕ} {code start expected found i n : ℕ} → from_to 8 11 code ≡ false → 52 ≤ length before → Placed-at text code start i → Put (tabled i) 0 before after n → Reason-given text code start expected found before after (record { code = 0; length = n })
+pub written : {text before after : List ℕ} {code start expected found i n : ℕ} → from_to 8 11 code ≡ false → 52 ≤ length before → PlacedAt text code start i → Put (tabled i) 0 before after n → ReasonGiven text code start expected found before after (record { code = 0; length = n })
 written {text} {before} {after} {code} {start} {expected} {found} {i} {n} e h place p =
     let o : reason_of text code start expected found ≡ tabled i = own_text text code start expected found e ∙ sym place.has in
     let m : n ≡ length (tabled i) = p.ends ∙ zero-add _ in
@@ -46,7 +46,7 @@ written {text} {before} {after} {code} {start} {expected} {found} {i} {n} e h pl
     }
 
 -- the contract settles the answer and every byte of the room
-pub one_reason : {text before after other : List ℕ} {code start expected found : ℕ} {r s : Message} → Reason-given text code start expected found before after r → Reason-given text code start expected found before other s → (r ≡ s) × (after ≡ other)
+pub one_reason : {text before after other : List ℕ} {code start expected found : ℕ} {r s : Message} → ReasonGiven text code start expected found before after r → ReasonGiven text code start expected found before other s → (r ≡ s) × (after ≡ other)
 one_reason {before = before} p q =
     elim (dec_lt (length before) 52) [
       | yes h ↦ (p.refused h ∙ sym (q.refused h), p.untouched h ∙ sym (q.untouched h))
@@ -57,22 +57,22 @@ one_reason {before = before} p q =
 past_last : (code : ℕ) → 22 < code → get_or texts code "" ≡ ""
 past_last code h = get_or-eq_default texts "" {n = code} (omega arith)
 
-pub past : {text : List ℕ} {code start : ℕ} → 22 < code → Placed-at text code start 0
+pub past : {text : List ℕ} {code start : ℕ} → 22 < code → PlacedAt text code start 0
 unfolding tabled own
 past {text} {code} {start} h = record { inside = omega arith; has = simp (ne_eqb code 16 (λ e. omega arith), past_last code h) }
 
-pub at_code : {text : List ℕ} {code start : ℕ} → code ≤ 22 → (code ≡ 16 → ⊥) → Placed-at text code start code
+pub at_code : {text : List ℕ} {code start : ℕ} → code ≤ 22 → (code ≡ 16 → ⊥) → PlacedAt text code start code
 unfolding tabled own
 at_code {text} {code} {start} h n = record { inside = omega arith; has = simp (ne_eqb code 23 (λ e. omega arith), ne_eqb code 16 n) }
 
-pub at_byte : {text : List ℕ} {code start : ℕ} → code ≡ 16 → (get_or text start 0 ≡ Quote → ⊥) → Placed-at text code start code
+pub at_byte : {text : List ℕ} {code start : ℕ} → code ≡ 16 → (get_or text start 0 ≡ Quote → ⊥) → PlacedAt text code start code
 unfolding tabled own
 at_byte {text} {code} {start} e n = rw e (record { inside = omega arith; has = simp (ne_eqb (get_or text start 0) Quote n) })
 
-pub at_end : {text : List ℕ} {code start : ℕ} → code ≡ 16 → length text ≤ start → Placed-at text code start code
+pub at_end : {text : List ℕ} {code start : ℕ} → code ≡ 16 → length text ≤ start → PlacedAt text code start code
 at_end {text} {code} {start} e h = at_byte e (λ q. omega (arith, get_or-eq_default text 0 {n = start} h))
 
-pub at_string : {text : List ℕ} {code start : ℕ} → code ≡ 16 → get_or text start 0 ≡ Quote → Placed-at text code start last
+pub at_string : {text : List ℕ} {code start : ℕ} → code ≡ 16 → get_or text start 0 ≡ Quote → PlacedAt text code start last
 unfolding tabled own
 at_string {text} {code} {start} e q = rw e (record { inside = omega arith; has = rw q })
 

@@ -36,7 +36,7 @@ pub record Placed (text : List ℕ) (offset : ℕ) (r : Place) : Type 0 where
   pub placed : length text ≤ 65536 → offset ≤ length text → r ≡ line_of text offset
 
 -- the place of byte i of a text that is not too long
-pub record Byte-placed (text : List ℕ) (i : ℕ) (here : Place) : Type 0 where
+pub record BytePlaced (text : List ℕ) (i : ℕ) (here : Place) : Type 0 where
   pub short : length text ≤ 65536
   pub inside : i < length text
   pub there : here ≡ line_of text i
@@ -46,15 +46,15 @@ pub record Is_at (line column : ℕ) (here : Place) : Type 0 where
   pub on_line : here.line ≡ line
   pub in_column : here.column ≡ column
 
-pub record Has-place (text : List ℕ) (line column i : ℕ) : Type 0 where
+pub record HasPlace (text : List ℕ) (line column i : ℕ) : Type 0 where
   pub inside : i ≤ length text
   pub there : Is_at line column (line_of text i)
 
 -- the converse of a place: such an offset where there is one, and where there is none, or the text is too long, its length and one
-pub record Offset-given (text : List ℕ) (line column r : ℕ) : Type 0 where
+pub record OffsetGiven (text : List ℕ) (line column r : ℕ) : Type 0 where
   pub long : 65536 < length text → r ≡ length text + 1
-  pub found : length text ≤ 65536 → (i : ℕ) → Has-place text line column i → Has-place text line column r
-  pub none : length text ≤ 65536 → ((i : ℕ) → Has-place text line column i → ⊥) → r ≡ length text + 1
+  pub found : length text ≤ 65536 → (i : ℕ) → HasPlace text line column i → HasPlace text line column r
+  pub none : length text ≤ 65536 → ((i : ℕ) → HasPlace text line column i → ⊥) → r ≡ length text + 1
 
 -- a byte of what is written on a line: part of no line's end
 unfoldable pub inner : ℕ → Bool

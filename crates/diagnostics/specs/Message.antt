@@ -20,7 +20,7 @@ text_of code expected found =
 
 -- 'Under 52 bytes of room: refusal 13 before anything else, length 0, nothing written.' Else the text stands first in the room, and 'Bytes past the text
 -- stay'; where there is no text, that is 'code 0, length 0, nothing written'.
-pub record Message-given (code expected found : ℕ) (before after : List ℕ) (r : Message) : Type 0 where
+pub record MessageGiven (code expected found : ℕ) (before after : List ℕ) (r : Message) : Type 0 where
   pub refused : length before < 52 → r ≡ record { code = 13; length = 0 }
   pub untouched : length before < 52 → after ≡ before
   pub answer : 52 ≤ length before → r ≡ record { code = 0; length = length (text_of code expected found) }

@@ -47,8 +47,8 @@ own text code start = cond (eqb code 16) (cond (eqb (get_or text start 0) Quote)
 unfoldable pub reason_of : (text : List ℕ) (code start expected found : ℕ) → List ℕ
 reason_of text code start expected found = cond (from_to 8 11 code) (text_of code expected found) (own text code start)
 
--- as `Message-given` has it: under 52 bytes of room refusal 13, length 0, nothing written; else the text stands first in the room, and the bytes past it stay
-pub record Reason-given (text : List ℕ) (code start expected found : ℕ) (before after : List ℕ) (r : Message) : Type 0 where
+-- as `MessageGiven` has it: under 52 bytes of room refusal 13, length 0, nothing written; else the text stands first in the room, and the bytes past it stay
+pub record ReasonGiven (text : List ℕ) (code start expected found : ℕ) (before after : List ℕ) (r : Message) : Type 0 where
   pub refused : length before < 52 → r ≡ record { code = 13; length = 0 }
   pub untouched : length before < 52 → after ≡ before
   pub answer : 52 ≤ length before → r ≡ record { code = 0; length = length (reason_of text code start expected found) }
@@ -73,6 +73,6 @@ unfoldable pub begins : ℕ → ℕ
 begins i = length (one_by_one 0 i)
 
 -- a place of the table that has a code's text
-pub record Placed-at (text : List ℕ) (code start i : ℕ) : Type 0 where
+pub record PlacedAt (text : List ℕ) (code start i : ℕ) : Type 0 where
   pub inside : i ≤ last
   pub has : tabled i ≡ own text code start

@@ -2,7 +2,7 @@
 ghost use Rattle.std.specs.Prelude.{◌+◌, ◌≤◌, ◌<◌, ◌≡◌, length};
 ghost use Rattle.grammar.specs.Run.{Ran};
 ghost use Rattle.spelling.specs.Decides.{Decides};
-ghost use Rattle.diagnostics.specs.Line.{Byte-placed, Is_at, Placed, Offset-given, ends, line_of, inner};
+ghost use Rattle.diagnostics.specs.Line.{BytePlaced, Is_at, Placed, OffsetGiven, ends, line_of, inner};
 
 use crate::Place;
 
@@ -35,7 +35,7 @@ pub fn ends_line(text: &[u8], i: usize) -> bool
 
 // The place after byte i of a text, from the place of that byte.
 fn after(text: &[u8], i: usize, here: Place) -> Place
-    requires { Byte-placed text.now i here }
+    requires { BytePlaced text.now i here }
     ensures { result ≡ line_of text.now (i + 1) }
 {
     if ends_line(text, i) {
@@ -94,7 +94,7 @@ fn is_at(here: Place, line: u32, column: u32) -> bool
 // The offset that has a line and a column, by one pass over the bytes before it; the text's length and one where no offset has them, and for a text over 65,536 bytes.
 // Ruled out: the start of the next line for a column past a line's end; the text's length for a line that is not there.
 pub fn offset(text: &[u8], line: u32, column: u32) -> usize
-    ensures { Offset-given text.now line column result }
+    ensures { OffsetGiven text.now line column result }
 {
     let n = text.len();
     if n > 65536 {

@@ -2,7 +2,7 @@
 ghost use Rattle.std.specs.Prelude.{◌+◌, ◌≤◌, ◌≡◌, length};
 ghost use Rattle.grammar.specs.Pattern.{from_to};
 ghost use Rattle.spelling.specs.Display.{Put};
-ghost use Rattle.diagnostics.specs.Reason.{last, tabled, table, begins, Placed-at, Reason-given};
+ghost use Rattle.diagnostics.specs.Reason.{last, tabled, table, begins, PlacedAt, ReasonGiven};
 
 use crate::Message;
 use crate::text::message;
@@ -56,7 +56,7 @@ pub fn reason(
     found: u32,
     room: &mut [u8],
 ) -> Message
-    ensures { Reason-given text.now code start expected found room.old room.new result }
+    ensures { ReasonGiven text.now code start expected found room.old room.new result }
 {
     if has_message(code) {
         return message(code, expected, found, room);
@@ -86,7 +86,7 @@ fn has_message(code: u32) -> bool
 
 // Where in the table the text of a code stands.
 fn which(text: &[u8], code: u32, start: u32) -> usize
-    ensures { Placed-at text.now code start result }
+    ensures { PlacedAt text.now code start result }
 {
     if code > LAST_CODE {
         return NONE;

@@ -1,7 +1,7 @@
 // The texts of refusals 8 to 11: those of parser.rs for 8 and 9, with token.rs's names of the kinds; the others are added.
 ghost use Rattle.std.specs.Prelude.{◌≤◌, length};
 ghost use Rattle.spelling.specs.Display.{Put};
-ghost use Rattle.diagnostics.specs.Message.{text_of, Message-given};
+ghost use Rattle.diagnostics.specs.Message.{text_of, MessageGiven};
 
 use crate::Message;
 use spelling::display::{put, put_name};
@@ -10,7 +10,7 @@ use spelling::display::{put, put_name};
 // the text names is over 44.
 // Ruled out: a text in a room of 51 bytes, even where it would fit; the name of the expected kind in the text of 9; a byte past the text changed.
 pub fn message(code: u32, expected: u32, found: u32, room: &mut [u8]) -> Message
-    ensures { Message-given code expected found room.old room.new result }
+    ensures { MessageGiven code expected found room.old room.new result }
 {
     if room.len() < 52 {
         return Message {

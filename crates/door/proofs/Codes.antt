@@ -9,7 +9,7 @@ use borrow.Author.Tests.{ne_eqb}
 use lib.Dec.{eqb}
 use lib.ListN.{length, get_or, replicate, length-replicate}
 use Rattle.grammar.specs.Answer.{Answer, refuse, Answers}
-use Rattle.grammar.specs.Builtin.{Builtins, Right-names}
+use Rattle.grammar.specs.Builtin.{Builtins, RightNames}
 use Rattle.grammar.specs.Call.{Call}
 use Rattle.grammar.specs.Door.{RightSymbols, Ascii, Sound, Closed, Inside, Admitted, Wrong}
 use Rattle.grammar.specs.Profile.{Profile}
@@ -17,7 +17,7 @@ use Rattle.grammar.specs.Room.{Rooms}
 use Rattle.grammar.specs.Token.{count}
 use Rattle.grammar.proofs.Answers.{one_first as one_place, one_turn, lent_admitted, admitted_not_wrong}
 use Rattle.grammar.proofs.Demands.{turned_code}
-use Rattle.door.specs.Entry.{Searched, Highest, AsksLengths, lengths_code, Lengths-checked, Admits-code, at_token, Profile-checked, List-checked, entry_numbers, Enters, Told, Entered}
+use Rattle.door.specs.Entry.{Searched, Highest, AsksLengths, lengths_code, LengthsChecked, AdmitsCode, at_token, ProfileChecked, ListChecked, entry_numbers, Enters, Told, Entered}
 use Rattle.door.specs.declared.Entry.{Entry}
 use Rattle.door.specs.declared.Refusal.{Refusal}
 use Rattle.door.proofs.Searching.{Passed, passed_more, first_of}
@@ -28,7 +28,7 @@ not_over n k h = elim (dec_lt k n) [ yes z ↦ absurd (h z) | no z ↦ omega ari
 -- what the check whose turn it is asks of a call
 abbrev pub Asks : Call → ℕ → Type 0
 Asks c k =
-    cond (eqb k 6) (Right-names c.names)
+    cond (eqb k 6) (RightNames c.names)
     (cond (eqb k 7) (RightSymbols c.names (length c.rooms.symbols))
     (cond (eqb k 8) (Ascii c.text)
     (cond (eqb k 9) ((i : ℕ) → i < count c.tokens → Sound c.text c.tokens i)
@@ -66,36 +66,36 @@ no_turn (suc (suc (suc (suc (suc (suc t)))))) h e = absurd (omega arith)
 
 -- what is asked of lengths where these checks find nothing
 module _ {list text edition limit scratch : ℕ} where
-  pub right_lengths : Lengths-checked list text edition limit scratch 0 → (j : ℕ) → j < 6 → AsksLengths list text edition limit scratch j
-  right_lengths (Lengths-checked.wrong {turn = t} f e) = absurd (f.lacks (rw (no_turn t f.place e) tt))
-  right_lengths (Lengths-checked.right f) = f
+  pub right_lengths : LengthsChecked list text edition limit scratch 0 → (j : ℕ) → j < 6 → AsksLengths list text edition limit scratch j
+  right_lengths (LengthsChecked.wrong {turn = t} f e) = absurd (f.lacks (rw (no_turn t f.place e) tt))
+  right_lengths (LengthsChecked.right f) = f
 
   -- two outcomes of `lengths` are equal
-  pub one_measure : {k l : ℕ} → Lengths-checked list text edition limit scratch k → Lengths-checked list text edition limit scratch l → k ≡ l
-  one_measure (Lengths-checked.wrong f d) (Lengths-checked.wrong g e) = rw (d, e) (ap lengths_code (one_place _ 6 f g))
-  one_measure (Lengths-checked.wrong {turn = t} f d) (Lengths-checked.right g) = absurd (f.lacks (g t f.place))
-  one_measure (Lengths-checked.right f) (Lengths-checked.wrong {turn = t} g e) = absurd (g.lacks (f t g.place))
-  one_measure (Lengths-checked.right f) (Lengths-checked.right g) = refl
+  pub one_measure : {k l : ℕ} → LengthsChecked list text edition limit scratch k → LengthsChecked list text edition limit scratch l → k ≡ l
+  one_measure (LengthsChecked.wrong f d) (LengthsChecked.wrong g e) = rw (d, e) (ap lengths_code (one_place _ 6 f g))
+  one_measure (LengthsChecked.wrong {turn = t} f d) (LengthsChecked.right g) = absurd (f.lacks (g t f.place))
+  one_measure (LengthsChecked.right f) (LengthsChecked.wrong {turn = t} g e) = absurd (g.lacks (f t g.place))
+  one_measure (LengthsChecked.right f) (LengthsChecked.right g) = refl
 
 -- two outcomes of `admit` have the same code
 module _ {names : Builtins} {list text edition limit symbols scratch : ℕ} where
-  pub one_admit : {k l : ℕ} → Admits-code names list text edition limit symbols scratch k → Admits-code names list text edition limit symbols scratch l → k ≡ l
-  one_admit (Admits-code.lengths x n) (Admits-code.lengths y m) = one_measure x y
-  one_admit (Admits-code.lengths x n) (Admits-code.names y w) = absurd (n (one_measure x y))
-  one_admit (Admits-code.lengths x n) (Admits-code.names_room y r f) = absurd (n (one_measure x y))
-  one_admit (Admits-code.lengths x n) (Admits-code.right y r f) = absurd (n (one_measure x y))
-  one_admit (Admits-code.names x w) (Admits-code.lengths y n) = absurd (n (one_measure y x))
-  one_admit (Admits-code.names x w) (Admits-code.names y v) = refl
-  one_admit (Admits-code.names x w) (Admits-code.names_room y r f) = absurd (w r)
-  one_admit (Admits-code.names x w) (Admits-code.right y r f) = absurd (w r)
-  one_admit (Admits-code.names_room x r f) (Admits-code.lengths y n) = absurd (n (one_measure y x))
-  one_admit (Admits-code.names_room x r f) (Admits-code.names y w) = absurd (w r)
-  one_admit (Admits-code.names_room x r f) (Admits-code.names_room y q g) = refl
-  one_admit (Admits-code.names_room x r f) (Admits-code.right y q g) = absurd (omega arith)
-  one_admit (Admits-code.right x r f) (Admits-code.lengths y n) = absurd (n (one_measure y x))
-  one_admit (Admits-code.right x r f) (Admits-code.names y w) = absurd (w r)
-  one_admit (Admits-code.right x r f) (Admits-code.names_room y q g) = absurd (omega arith)
-  one_admit (Admits-code.right x r f) (Admits-code.right y q g) = refl
+  pub one_admit : {k l : ℕ} → AdmitsCode names list text edition limit symbols scratch k → AdmitsCode names list text edition limit symbols scratch l → k ≡ l
+  one_admit (AdmitsCode.lengths x n) (AdmitsCode.lengths y m) = one_measure x y
+  one_admit (AdmitsCode.lengths x n) (AdmitsCode.names y w) = absurd (n (one_measure x y))
+  one_admit (AdmitsCode.lengths x n) (AdmitsCode.names_room y r f) = absurd (n (one_measure x y))
+  one_admit (AdmitsCode.lengths x n) (AdmitsCode.right y r f) = absurd (n (one_measure x y))
+  one_admit (AdmitsCode.names x w) (AdmitsCode.lengths y n) = absurd (n (one_measure y x))
+  one_admit (AdmitsCode.names x w) (AdmitsCode.names y v) = refl
+  one_admit (AdmitsCode.names x w) (AdmitsCode.names_room y r f) = absurd (w r)
+  one_admit (AdmitsCode.names x w) (AdmitsCode.right y r f) = absurd (w r)
+  one_admit (AdmitsCode.names_room x r f) (AdmitsCode.lengths y n) = absurd (n (one_measure y x))
+  one_admit (AdmitsCode.names_room x r f) (AdmitsCode.names y w) = absurd (w r)
+  one_admit (AdmitsCode.names_room x r f) (AdmitsCode.names_room y q g) = refl
+  one_admit (AdmitsCode.names_room x r f) (AdmitsCode.right y q g) = absurd (omega arith)
+  one_admit (AdmitsCode.right x r f) (AdmitsCode.lengths y n) = absurd (n (one_measure y x))
+  one_admit (AdmitsCode.right x r f) (AdmitsCode.names y w) = absurd (w r)
+  one_admit (AdmitsCode.right x r f) (AdmitsCode.names_room y q g) = absurd (omega arith)
+  one_admit (AdmitsCode.right x r f) (AdmitsCode.right y q g) = refl
 
 -- a call with these names, lists and rooms
 module _ (p : Profile) (names : Builtins) (text ts : List ℕ) (edition limit : ℕ) (rooms : Rooms) where
@@ -106,7 +106,7 @@ module _ (p : Profile) (names : Builtins) (text ts : List ℕ) (edition limit : 
   asked = AsksLengths (length ts) (length text) edition limit (length rooms.scratch)
 
   abbrev Code : ℕ → Type 0
-  Code = Admits-code names (length ts) (length text) edition limit (length rooms.symbols) (length rooms.scratch)
+  Code = AdmitsCode names (length ts) (length text) edition limit (length rooms.symbols) (length rooms.scratch)
 
   of_lengths : (k : ℕ) → k < 6 → asked k → Asks call k
   of_lengths k h a = rw (ne_eqb k 6 (λ e. omega arith), ne_eqb k 7 (λ e. omega arith), ne_eqb k 8 (λ e. omega arith), ne_eqb k 9 (λ e. omega arith), ne_eqb k 10 (λ e. omega arith), ne_eqb k 11 (λ e. omega arith)) a
@@ -121,41 +121,41 @@ module _ (p : Profile) (names : Builtins) (text ts : List ℕ) (edition limit : 
   wrong_lengths (suc (suc (suc (suc (suc (suc k)))))) h f = absurd (omega arith)
 
   -- checks 1 to 3, 21 and 4
-  measured : {k : ℕ} → Lengths-checked (length ts) (length text) edition limit (length rooms.scratch) k → (k ≡ 0 → ⊥) → Enters call (refuse k 0 0 0 255)
-  measured (Lengths-checked.wrong {turn = t} f e) n = rw e (turned (wrong_lengths t f.place f.lacks) (record { most = omega (arith, f.place); before = λ j h. of_lengths j (omega (arith, f.place)) (f.before j h) }))
-  measured (Lengths-checked.right f) n = absurd (n refl)
+  measured : {k : ℕ} → LengthsChecked (length ts) (length text) edition limit (length rooms.scratch) k → (k ≡ 0 → ⊥) → Enters call (refuse k 0 0 0 255)
+  measured (LengthsChecked.wrong {turn = t} f e) n = rw e (turned (wrong_lengths t f.place f.lacks) (record { most = omega (arith, f.place); before = λ j h. of_lengths j (omega (arith, f.place)) (f.before j h) }))
+  measured (LengthsChecked.right f) n = absurd (n refl)
 
-  measures : Lengths-checked (length ts) (length text) edition limit (length rooms.scratch) 0 → Passed (Asks call) 12 6
+  measures : LengthsChecked (length ts) (length text) edition limit (length rooms.scratch) 0 → Passed (Asks call) 12 6
   measures x = record { most = omega arith; before = λ j h. of_lengths j h (right_lengths x j h) }
 
   -- and those of the built-in names
   pub unadmitted : {k : ℕ} → Code k → (k ≡ 0 → ⊥) → Enters call (refuse k 0 0 0 255)
-  unadmitted (Admits-code.lengths x n) m = measured x n
-  unadmitted (Admits-code.names x w) m = turned (Wrong.names w) (measures x)
-  unadmitted (Admits-code.names_room x r f) m = turned (Wrong.names_room f) (passed_more (measures x) (omega arith) r)
-  unadmitted (Admits-code.right x r f) m = absurd (m refl)
+  unadmitted (AdmitsCode.lengths x n) m = measured x n
+  unadmitted (AdmitsCode.names x w) m = turned (Wrong.names w) (measures x)
+  unadmitted (AdmitsCode.names_room x r f) m = turned (Wrong.names_room f) (passed_more (measures x) (omega arith) r)
+  unadmitted (AdmitsCode.right x r f) m = absurd (m refl)
 
   pub admits : {k : ℕ} → Code k → k ≡ 0 → Passed (Asks call) 12 8
-  admits (Admits-code.lengths x n) e = absurd (n e)
-  admits (Admits-code.names x w) e = absurd (omega arith)
-  admits (Admits-code.names_room x r f) e = absurd (omega arith)
-  admits (Admits-code.right x r f) e = passed_more (passed_more (measures x) (omega arith) r) (omega arith) f
+  admits (AdmitsCode.lengths x n) e = absurd (n e)
+  admits (AdmitsCode.names x w) e = absurd (omega arith)
+  admits (AdmitsCode.names_room x r f) e = absurd (omega arith)
+  admits (AdmitsCode.right x r f) e = passed_more (passed_more (measures x) (omega arith) r) (omega arith) f
 
   -- checks 6, 7 and 17
-  pub listing : {r : Entry} → Passed (Asks call) 12 9 → List-checked p text ts r → Enters call (entry_numbers r)
-  listing m (List-checked.unsound f) = turned (Wrong.token f) m
-  listing m (List-checked.unclosed s f) = turned (Wrong.eof f) (passed_more m (omega arith) s)
-  listing m (List-checked.lent l (Profile-checked.outside f)) = turned (Wrong.outside f) (passed_more (passed_more m (omega arith) l.sound) (omega arith) l.closed)
-  listing m (List-checked.lent l (Profile-checked.inside g)) =
+  pub listing : {r : Entry} → Passed (Asks call) 12 9 → ListChecked p text ts r → Enters call (entry_numbers r)
+  listing m (ListChecked.unsound f) = turned (Wrong.token f) m
+  listing m (ListChecked.unclosed s f) = turned (Wrong.eof f) (passed_more m (omega arith) s)
+  listing m (ListChecked.lent l (ProfileChecked.outside f)) = turned (Wrong.outside f) (passed_more (passed_more m (omega arith) l.sound) (omega arith) l.closed)
+  listing m (ListChecked.lent l (ProfileChecked.inside g)) =
       let (d, e) = m.before 3 (omega arith) in
       Enters.let_in (lent_admitted l (m.before 2 (omega arith)) d e (m.before 4 (omega arith)) (m.before 5 (omega arith)) (m.before 6 (omega arith)) (m.before 7 (omega arith)) g)
 
 -- what is asked of the list and the text where nothing is wrong so far
-pub right_so_far : {names : Builtins} {list text edition limit symbols scratch k : ℕ} → Admits-code names list text edition limit symbols scratch k → k ≡ 0 → (j : ℕ) → j < 6 → AsksLengths list text edition limit scratch j
-right_so_far (Admits-code.lengths x n) e = absurd (n e)
-right_so_far (Admits-code.names x w) e = absurd (omega arith)
-right_so_far (Admits-code.names_room x r f) e = absurd (omega arith)
-right_so_far (Admits-code.right x r f) e = right_lengths x
+pub right_so_far : {names : Builtins} {list text edition limit symbols scratch k : ℕ} → AdmitsCode names list text edition limit symbols scratch k → k ≡ 0 → (j : ℕ) → j < 6 → AsksLengths list text edition limit scratch j
+right_so_far (AdmitsCode.lengths x n) e = absurd (n e)
+right_so_far (AdmitsCode.names x w) e = absurd (omega arith)
+right_so_far (AdmitsCode.names_room x r f) e = absurd (omega arith)
+right_so_far (AdmitsCode.right x r f) e = right_lengths x
 
 -- no byte is over 127 where the highest is not; and where it is, the search finds one
 pub none_high : {text : List ℕ} {r : ℕ} → Highest text (length text) r → r ≤ 127 → Ascii text
@@ -166,11 +166,11 @@ found_high {text} {r} {i} x h f =
     let (j, l, e) = x.there (omega arith) in
     elim (dec_lt i (length text)) [ yes z ↦ z | no z ↦ absurd (omega (arith, f.before j (omega arith))) ]
 
-listed_told : {p : Profile} {text ts : List ℕ} {r : Entry} → List-checked p text ts r → Told r
-listed_told (List-checked.unsound f) = omega arith
-listed_told (List-checked.unclosed s f) = omega arith
-listed_told (List-checked.lent l (Profile-checked.outside f)) = omega arith
-listed_told (List-checked.lent l (Profile-checked.inside g)) = tt
+listed_told : {p : Profile} {text ts : List ℕ} {r : Entry} → ListChecked p text ts r → Told r
+listed_told (ListChecked.unsound f) = omega arith
+listed_told (ListChecked.unclosed s f) = omega arith
+listed_told (ListChecked.lent l (ProfileChecked.outside f)) = omega arith
+listed_told (ListChecked.lent l (ProfileChecked.inside g)) = tt
 
 -- what is turned away is not let in
 abbrev is_refused : Entry → ℕ
@@ -181,14 +181,14 @@ pub not_open : {q : Refusal} → Entry.Refused q ≡ Entry.Open → ⊥
 not_open e = omega (arith, ap is_refused e)
 
 -- the answers, for rooms of any content
-module _ {p : Profile} {names : Builtins} {text ts : List ℕ} {edition limit symbols scratch k : ℕ} (m : Admits-code names (length ts) (length text) edition limit symbols scratch k) where
+module _ {p : Profile} {names : Builtins} {text ts : List ℕ} {edition limit symbols scratch k : ℕ} (m : AdmitsCode names (length ts) (length text) edition limit symbols scratch k) where
   pub by_code : (k ≡ 0 → ⊥) → Entered p names text ts edition limit symbols scratch (Entry.Refused (record { code = k; at = 0; start = 0; end = 0 }))
   by_code n = record { told = omega arith; says = λ rooms e f. unadmitted p names text ts edition limit rooms (rw (e, f) m) n }
 
   pub by_byte : {r i : ℕ} → k ≡ 0 → Highest text (length text) r → 127 < r → Searched (λ j. get_or text j 0 ≤ 127) (length text) i → Entered p names text ts edition limit symbols scratch (Entry.Refused (record { code = 5; at = 0; start = i; end = i + 1 }))
   by_byte z x h g = record { told = omega arith; says = λ rooms e f. turned (Wrong.byte (first_of (found_high x h g) g)) (admits p names text ts edition limit rooms (rw (e, f) m) z) }
 
-  pub by_list : {q : Entry} → k ≡ 0 → Ascii text → List-checked p text ts q → Entered p names text ts edition limit symbols scratch q
+  pub by_list : {q : Entry} → k ≡ 0 → Ascii text → ListChecked p text ts q → Entered p names text ts edition limit symbols scratch q
   by_list z h l = record { told = listed_told l; says = λ rooms e f. listing p names text ts edition limit rooms (passed_more (admits p names text ts edition limit rooms (rw (e, f) m) z) (omega arith) h) l }
 
 -- what the numbers of an entry say
@@ -222,11 +222,11 @@ one_entry {symbols = m} {scratch = n} {r = r} {s = s} x y =
     same_entry r s x.told y.told (one_numbers (x.says rooms e f) (y.says rooms e f))
 
 -- two outcomes of `within` are equal
-pub one_within : {p : Profile} {ts : List ℕ} {r s : Entry} → Profile-checked p ts r → Profile-checked p ts s → r ≡ s
-one_within {ts = ts} (Profile-checked.outside x) (Profile-checked.outside y) = ap (at_token 17 ts) (one_place _ _ x y)
-one_within (Profile-checked.outside x) (Profile-checked.inside g) = absurd (x.lacks (g _ x.place))
-one_within (Profile-checked.inside f) (Profile-checked.outside y) = absurd (y.lacks (f _ y.place))
-one_within (Profile-checked.inside f) (Profile-checked.inside g) = refl
+pub one_within : {p : Profile} {ts : List ℕ} {r s : Entry} → ProfileChecked p ts r → ProfileChecked p ts s → r ≡ s
+one_within {ts = ts} (ProfileChecked.outside x) (ProfileChecked.outside y) = ap (at_token 17 ts) (one_place _ _ x y)
+one_within (ProfileChecked.outside x) (ProfileChecked.inside g) = absurd (x.lacks (g _ x.place))
+one_within (ProfileChecked.inside f) (ProfileChecked.outside y) = absurd (y.lacks (f _ y.place))
+one_within (ProfileChecked.inside f) (ProfileChecked.inside g) = refl
 
 -- two outcomes of `highest` are equal
 module _ {text : List ℕ} {n : ℕ} where

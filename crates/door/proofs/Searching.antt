@@ -4,7 +4,7 @@ use mathlib.Core.Path.{◌≡◌}
 use native.Mathlib.Decide.{dec_lt}
 use native.Mathlib.Omega.{arith}
 use borrow.Author.Count.{below_more}
-use Rattle.grammar.specs.Door.{First-without}
+use Rattle.grammar.specs.Door.{FirstWithout}
 use Rattle.door.specs.Entry.{Searched}
 
 -- every place below i has it
@@ -26,11 +26,11 @@ module _ {asked : ℕ → Type 0} {n : ℕ} where
   pub found_none : {i : ℕ} → Passed asked n i → n ≤ i → Searched asked n n
   found_none p h = record { most = omega arith; before = λ j k. p.before j (omega arith); lacks = λ k. absurd (omega arith) }
 
-  pub first_here : {i : ℕ} → Passed asked n i → i < n → (asked i → ⊥) → First-without asked n i
+  pub first_here : {i : ℕ} → Passed asked n i → i < n → (asked i → ⊥) → FirstWithout asked n i
   first_here p h a = record { place = h; lacks = a; before = p.before }
 
   -- what is found before the end is the first; and every place has it where the search found none
-  pub first_of : {i : ℕ} → i < n → Searched asked n i → First-without asked n i
+  pub first_of : {i : ℕ} → i < n → Searched asked n i → FirstWithout asked n i
   first_of h f = record { place = h; lacks = f.lacks h; before = f.before }
 
   pub all_have : {r : ℕ} → Searched asked n r → n ≤ r → (j : ℕ) → j < n → asked j

@@ -2,9 +2,9 @@
 use Rattle.std.specs.Prelude.{ℕ, ◌*◌, ◌/◌, ◌≤◌, ◌<◌, cond, List, ◌≡◌, eqb, length, get_or}
 use Rattle.builtins.specs.Known.{Known}
 use Rattle.grammar.specs.Answer.{Answer, refuse}
-use Rattle.grammar.specs.Builtin.{Builtins, built, Right-names}
+use Rattle.grammar.specs.Builtin.{Builtins, built, RightNames}
 use Rattle.grammar.specs.Call.{Call}
-use Rattle.grammar.specs.Door.{Right-list, RightScratch, RightSymbols, RightEdition, Sound, Closed, Inside, Lent, Admitted, First-without, Turned-away}
+use Rattle.grammar.specs.Door.{RightList, RightScratch, RightSymbols, RightEdition, Sound, Closed, Inside, Lent, Admitted, FirstWithout, TurnedAway}
 use Rattle.grammar.specs.Profile.{Profile}
 use Rattle.grammar.specs.Room.{Rooms, symbol_width}
 use Rattle.grammar.specs.Token.{count, start, end}
@@ -24,7 +24,7 @@ pub record Highest (text : List ℕ) (n r : ℕ) : Type 0 where
 -- what the check whose turn it is asks of lengths, the edition and the limit alone
 abbrev pub AsksLengths : (list text edition limit scratch turn : ℕ) → Type 0
 AsksLengths list text edition limit scratch k =
-    cond (eqb k 1) (Right-list list)
+    cond (eqb k 1) (RightList list)
     (cond (eqb k 2) (text ≤ 65536)
     (cond (eqb k 3) ((1 ≤ limit) × (limit ≤ 64))
     (cond (eqb k 4) (RightEdition edition)
@@ -36,20 +36,20 @@ abbrev pub lengths_code : (turn : ℕ) → ℕ
 lengths_code k = cond (eqb k 4) 21 (cond (eqb k 5) 4 k)
 
 -- the code of the first of these checks without what it asks, or 0 where there is none
-pub data Lengths-checked (list text edition limit scratch : ℕ) : ℕ → Type 0 where
-  wrong : {turn k : ℕ} → First-without (AsksLengths list text edition limit scratch) 6 turn → k ≡ lengths_code turn → Lengths-checked list text edition limit scratch k
-  right : ((turn : ℕ) → turn < 6 → AsksLengths list text edition limit scratch turn) → Lengths-checked list text edition limit scratch 0
+pub data LengthsChecked (list text edition limit scratch : ℕ) : ℕ → Type 0 where
+  wrong : {turn k : ℕ} → FirstWithout (AsksLengths list text edition limit scratch) 6 turn → k ≡ lengths_code turn → LengthsChecked list text edition limit scratch k
+  right : ((turn : ℕ) → turn < 6 → AsksLengths list text edition limit scratch turn) → LengthsChecked list text edition limit scratch 0
 
 -- the code of these, of 18 and of the 4 after it, whichever is first, or 0 where there is nothing wrong
-pub data Admits-code (names : Builtins) (list text edition limit symbols scratch : ℕ) : ℕ → Type 0 where
-  lengths : {k : ℕ} → Lengths-checked list text edition limit scratch k → (k ≡ 0 → ⊥) → Admits-code names list text edition limit symbols scratch k
-  names : Lengths-checked list text edition limit scratch 0 → (Right-names names → ⊥) → Admits-code names list text edition limit symbols scratch 18
-  names_room : Lengths-checked list text edition limit scratch 0 → Right-names names → symbols < symbol_width * built names → Admits-code names list text edition limit symbols scratch 4
-  right : Lengths-checked list text edition limit scratch 0 → Right-names names → RightSymbols names symbols → Admits-code names list text edition limit symbols scratch 0
+pub data AdmitsCode (names : Builtins) (list text edition limit symbols scratch : ℕ) : ℕ → Type 0 where
+  lengths : {k : ℕ} → LengthsChecked list text edition limit scratch k → (k ≡ 0 → ⊥) → AdmitsCode names list text edition limit symbols scratch k
+  names : LengthsChecked list text edition limit scratch 0 → (RightNames names → ⊥) → AdmitsCode names list text edition limit symbols scratch 18
+  names_room : LengthsChecked list text edition limit scratch 0 → RightNames names → symbols < symbol_width * built names → AdmitsCode names list text edition limit symbols scratch 4
+  right : LengthsChecked list text edition limit scratch 0 → RightNames names → RightSymbols names symbols → AdmitsCode names list text edition limit symbols scratch 0
 
 -- and the names' index, where there is nothing wrong
 pub record Admits (names : Builtins) (list text edition limit symbols scratch : ℕ) (index : List ℕ) (r : ℕ) : Type 0 where
-  pub code : Admits-code names list text edition limit symbols scratch r
+  pub code : AdmitsCode names list text edition limit symbols scratch r
   pub known : r ≡ 0 → Known names index
 
 -- a refusal at token i
@@ -57,15 +57,15 @@ abbrev pub at_token : (code : ℕ) (ts : List ℕ) → ℕ → Entry
 at_token code ts i = Entry.Refused (record { code = code; at = i; start = start ts i; end = end ts i })
 
 -- check 17: the first token outside the profile, or none is
-pub data Profile-checked (p : Profile) (ts : List ℕ) : Entry → Type 0 where
-  outside : {i : ℕ} → First-without (Inside p ts) (count ts) i → Profile-checked p ts (at_token 17 ts i)
-  inside : ((i : ℕ) → i < count ts → Inside p ts i) → Profile-checked p ts Entry.Open
+pub data ProfileChecked (p : Profile) (ts : List ℕ) : Entry → Type 0 where
+  outside : {i : ℕ} → FirstWithout (Inside p ts) (count ts) i → ProfileChecked p ts (at_token 17 ts i)
+  inside : ((i : ℕ) → i < count ts → Inside p ts i) → ProfileChecked p ts Entry.Open
 
 -- checks 6, 7 and 17: the first token that is not sound, or then the first that is not closed, or all that is asked of text and list, and then of the profile
-pub data List-checked (p : Profile) (text ts : List ℕ) : Entry → Type 0 where
-  unsound : {i : ℕ} → First-without (Sound text ts) (count ts) i → List-checked p text ts (at_token 6 ts i)
-  unclosed : {i : ℕ} → ((j : ℕ) → j < count ts → Sound text ts j) → First-without (Closed ts) (count ts) i → List-checked p text ts (at_token 7 ts i)
-  lent : {r : Entry} → Lent text ts → Profile-checked p ts r → List-checked p text ts r
+pub data ListChecked (p : Profile) (text ts : List ℕ) : Entry → Type 0 where
+  unsound : {i : ℕ} → FirstWithout (Sound text ts) (count ts) i → ListChecked p text ts (at_token 6 ts i)
+  unclosed : {i : ℕ} → ((j : ℕ) → j < count ts → Sound text ts j) → FirstWithout (Closed ts) (count ts) i → ListChecked p text ts (at_token 7 ts i)
+  lent : {r : Entry} → Lent text ts → ProfileChecked p ts r → ListChecked p text ts r
 
 -- the eight numbers of each case
 abbrev pub entry_numbers : Entry → Answer
@@ -75,7 +75,7 @@ entry_numbers (Entry.Refused q) = refuse q.code q.at q.start q.end 255
 -- a call is let in or turned away with these numbers
 pub data Enters (c : Call) : Answer → Type 0 where
   let_in : Admitted c → Enters c (refuse 0 0 0 0 255)
-  turned : {code at from upto : ℕ} → Turned-away c code at from upto → Enters c (refuse code at from upto 255)
+  turned : {code at from upto : ℕ} → TurnedAway c code at from upto → Enters c (refuse code at from upto 255)
 
 -- a refusal's code is never 0
 abbrev pub Told : Entry → Type 0

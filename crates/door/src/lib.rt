@@ -12,7 +12,7 @@ ghost use Rattle.grammar.specs.Token.{count};
 ghost use Rattle.spelling.specs.Decides.{Decides};
 ghost use Rattle.spelling.specs.Words.{table};
 ghost use Rattle.token.specs.Profiled.{profiled};
-ghost use Rattle.door.specs.Entry.{Searched, Highest, Lengths-checked, Admits, Profile-checked, List-checked, Checked};
+ghost use Rattle.door.specs.Entry.{Searched, Highest, LengthsChecked, Admits, ProfileChecked, ListChecked, Checked};
 
 use builtins::{NAME_WIDTH, right};
 use lexeme::fits;
@@ -54,7 +54,7 @@ pub enum Entry {
 // The first of checks 1 to 3, 21 and 4 that finds something wrong, of lengths, the edition and the limit alone, or 0.
 // Ruled out: 21 where the limit is 0; an edition 0 let in; 4 where the edition is 3; 0 for a list of 4,097 tokens.
 pub fn lengths(list: usize, text: usize, edition: u32, limit: u32, scratch: usize) -> u32
-    ensures { Lengths-checked list text edition limit scratch result }
+    ensures { LengthsChecked list text edition limit scratch result }
 {
     let tokens = list / TOKEN_WIDTH;
     if list % TOKEN_WIDTH != 0 {
@@ -243,7 +243,7 @@ fn first_outside(tokens: &[u32]) -> usize
 // Ruled out: 17 at a later token; a script turned away for a `{`.
 pub fn within(tokens: &[u32], profile: Profile) -> Entry
     requires { Whole tokens.now }
-    ensures { Profile-checked (profiled profile) tokens.now result }
+    ensures { ProfileChecked (profiled profile) tokens.now result }
 {
     match profile {
         Profile::Script => Entry::Open,
@@ -265,7 +265,7 @@ pub fn within(tokens: &[u32], profile: Profile) -> Entry
 // Checks 6, 7 and 17, of what checks 1 and 5 let through.
 fn listed(text: &[u8], tokens: &[u32], profile: Profile) -> Entry
     requires { Whole tokens.now × Ascii text.now }
-    ensures { List-checked (profiled profile) text.now tokens.now result }
+    ensures { ListChecked (profiled profile) text.now tokens.now result }
 {
     let count = tokens.len() / TOKEN_WIDTH;
     let bad = first_unsound(text, tokens);

@@ -19,11 +19,11 @@ use Rattle.grammar.proofs.Stopping.{marks, Meets, under_mark}
 use Rattle.grammar.proofs.Tests.{within}
 use Rattle.grammar.proofs.Verdicts.{Verdict, takes, passes, refuses, unknown, Sees, look}
 use Rattle.expected.specs.Cells.{states, cell, joined, list, opens_of, entry, taken, passed, barred, unsaid, Plain, plain, barred_by, only_marks, decoded, sound, Sound, bare, more, Acts, Pushed}
-use Rattle.expected.specs.Steps.{Too-deep, Fills, Taken, Ends, Bars, Admits}
+use Rattle.expected.specs.Steps.{TooDeep, Fills, Taken, Ends, Bars, Admits}
 use Rattle.expected.proofs.Laws.{opens_right}
 
 -- an opening passes the limit before P and K: what comes of it, by what P is seen to do
-deep_comes : {e : Edition} {x c limit : ℕ} {kind : ℕ → ℕ} {q : Refused} {M : Stack Table Label} (P K : Stack Table Label) → Too-deep e x c kind limit q M (P ++ K) → Comes e kind limit c K q M (look e x c 40 P).verdict
+deep_comes : {e : Edition} {x c limit : ℕ} {kind : ℕ → ℕ} {q : Refused} {M : Stack Table Label} (P K : Stack Table Label) → TooDeep e x c kind limit q M (P ++ K) → Comes e kind limit c K q M (look e x c 40 P).verdict
 deep_comes {e} {x} {c} {limit} {kind} {q} {M} P K d = subst (λ y. Comes e kind limit c K q M (look e y c 40 P).verdict) d.here (overflow e kind limit c K 40 P d.opens d.there d.meets d.within)
 
 -- that two numbers are the same which are not
@@ -32,7 +32,7 @@ apart z = absurd (omega (arith, z))
 
 -- where an opening passes the limit with K left, it does with J left
 pub record Deepens (e : Edition) (x c : ℕ) (K J : Stack Table Label) : Type 0 where
-  pub deeper : {limit : ℕ} {kind : ℕ → ℕ} {q : Refused} {M : Stack Table Label} → Too-deep e x c kind limit q M K → Too-deep e x c kind limit q M J
+  pub deeper : {limit : ℕ} {kind : ℕ → ℕ} {q : Refused} {M : Stack Table Label} → TooDeep e x c kind limit q M K → TooDeep e x c kind limit q M J
 
 -- what a verdict means, once the code and the marks alone are kept of what bars: the items P take the kind, pass it on or bar it
 module _ (e : Edition) (x c : ℕ) (P : Stack Table Label) where
@@ -52,7 +52,7 @@ module _ (e : Edition) (x c : ℕ) (P : Stack Table Label) where
 
   -- what a verdict says of an opening that passes the limit
   record Deep (v : Verdict) : Type 0 where
-    comes : {limit : ℕ} {kind : ℕ → ℕ} {q : Refused} {M : Stack Table Label} (K : Stack Table Label) → Too-deep e x c kind limit q M (P ++ K) → Comes e kind limit c K q M v
+    comes : {limit : ℕ} {kind : ℕ → ℕ} {q : Refused} {M : Stack Table Label} (K : Stack Table Label) → TooDeep e x c kind limit q M (P ++ K) → Comes e kind limit c K q M v
 
   as_passes : (v : Verdict) → Sees e x c v P → Deep v → plain v ≡ passed → Passes
   as_passes (takes J) s d k = apart cc
@@ -164,8 +164,8 @@ module _ {e : Edition} {x c top : ℕ} {before room : List ℕ} {t : ℕ} (p : P
   going : (r : Result Table Label) → Goes (kaori e) x c (cell (get_or room t 0) ++ decoded (drop (suc t) room)) r → Goes (kaori e) x c (decoded (drop top before)) r
   going r g = p.on r (rw split g)
 
-  deep_in : {limit : ℕ} {kind : ℕ → ℕ} {q : Refused} {M : Stack Table Label} → Too-deep e x c kind limit q M (decoded (drop top before)) → Too-deep e x c kind limit q M (cell (get_or room t 0) ++ decoded (drop (suc t) room))
-  deep_in {limit} {kind} {q} {M} d = subst (Too-deep e x c kind limit q M) split (p.deepens.deeper d)
+  deep_in : {limit : ℕ} {kind : ℕ → ℕ} {q : Refused} {M : Stack Table Label} → TooDeep e x c kind limit q M (decoded (drop top before)) → TooDeep e x c kind limit q M (cell (get_or room t 0) ++ decoded (drop (suc t) room))
+  deep_in {limit} {kind} {q} {M} d = subst (TooDeep e x c kind limit q M) split (p.deepens.deeper d)
 
   pub state_number : get_or room t 0 < 64 → get_or room t 0 < 54
   state_number l = sound_state (get_or room t 0) l (heads top_first).0
@@ -191,7 +191,7 @@ module _ {e : Edition} {x c top : ℕ} {before room : List ℕ} {t : ℕ} (p : P
       shut : {k o : ℕ} {K : Stack Table Label} (r : Result Table Label) → Goes (kaori e) x c K r → Goes (kaori e) x c (mark k o ∷ K) r
       shut r g = Goes.turn Turn.shuts g
 
-      under : {k o limit : ℕ} {K M : Stack Table Label} {kind : ℕ → ℕ} {q : Refused} → Too-deep e x c kind limit q M (mark k o ∷ K) → Too-deep e x c kind limit q M K
+      under : {k o limit : ℕ} {K M : Stack Table Label} {kind : ℕ → ℕ} {q : Refused} → TooDeep e x c kind limit q M (mark k o ∷ K) → TooDeep e x c kind limit q M K
       under d = let (m, l) = under_mark d.meets in record { here = d.here; opens = d.opens; there = d.there; within = l; meets = m }
 
   pub mark_less : 64 ≤ get_or room t 0 → marks (decoded (drop t room)) ≡ suc (marks (decoded (drop (t + 1) room)))
@@ -271,7 +271,7 @@ finished {e} {x} {c} {top} {before} {room} {t} p h =
     let d : drop t room ≡ [] = drop_of_length-le room h in
     record { goes = p.on over (rw d Goes.done); never = λ z. none ((subst (λ vs. Deepens e x c (decoded (drop top before)) (decoded vs)) d p.deepens).deeper z) }
   where
-    none : {limit : ℕ} {kind : ℕ → ℕ} {q : Refused} {M : Stack Table Label} → Too-deep e x c kind limit q M [] → ⊥
+    none : {limit : ℕ} {kind : ℕ → ℕ} {q : Refused} {M : Stack Table Label} → TooDeep e x c kind limit q M [] → ⊥
     none d = let m = d.meets in elim m [ ]
 
 -- wherever the token is

@@ -11,7 +11,7 @@ use lib.Dec.{T}
 use lib.ListN.{length, take, drop}
 use lib.Seq.{take_all, take-append-le}
 use Rattle.grammar.specs.Edition.{Edition, edition}
-use Rattle.grammar.specs.Expected.{Opening as Open, opening, openings, Could-stand, Met, Expects, gathered, how_many, lowest_from}
+use Rattle.grammar.specs.Expected.{Opening as Open, opening, openings, CouldStand, Met, Expects, gathered, how_many, lowest_from}
 use Rattle.grammar.specs.Kaori.{Table, kaori, script, an_expression, a_block}
 use Rattle.grammar.specs.Kind.{Eof}
 use Rattle.grammar.specs.Label.{Label}
@@ -26,9 +26,9 @@ use Rattle.grammar.proofs.Stack.{want, links, mark, Stack, Result, took, over, b
 use Rattle.grammar.proofs.Stopping.{opened, marks, Meets, Opens, meets, met_chain, one_met, onward_over, stood}
 use Rattle.expected.specs.Cells.{decoded, entry, barred, barred_by, only_marks, Sound}
 use Rattle.expected.specs.Chains.{Chained}
-use Rattle.expected.specs.Left.{Asked-of, Reached, ComesTo, Left-at}
+use Rattle.expected.specs.Left.{AskedOf, Reached, ComesTo, LeftAt}
 use Rattle.expected.specs.Parts.{Inner, Inside, lowest_of, Filled, Nothing, code_of, opened_by}
-use Rattle.expected.specs.Steps.{Too-deep, Taken, Ends, Bars, Case, Stepped, Admits, Gathers}
+use Rattle.expected.specs.Steps.{TooDeep, Taken, Ends, Bars, Case, Stepped, Admits, Gathers}
 use Rattle.expected.specs.Tells.{Tells}
 use Rattle.expected.specs.declared.Chain.{Chain}
 use Rattle.expected.specs.declared.Rest.{Rest}
@@ -152,13 +152,13 @@ module _ {n : ℕ} {ts : List ℕ} {limit code place : ℕ} where
   }
 
   -- nothing may be told
-  pub unasked : (Asked-of (length ts) n limit code place → ⊥) → 8 ≤ code → code ≤ 11 → Met n ts limit code place → ⊥
+  pub unasked : (AskedOf (length ts) n limit code place → ⊥) → 8 ≤ code → code ≤ 11 → Met n ts limit code place → ⊥
   unasked f a b m = f (record { least = a; most = b; some_depth = m.some_depth; least_depth = m.least_depth; right = m.right; whole = m.whole; inside = m.inside })
 
   pub unknown_kind : Eof < kind ts place → Met n ts limit code place → ⊥
   unknown_kind h m = omega (arith, m.known place (omega arith))
 
-  module _ (asked : Asked-of (length ts) n limit code place) {room : List ℕ} {top depth : ℕ} (w : Reached (edition n) ts limit place room top depth) (k : kind ts place ≤ Eof) where
+  module _ (asked : AskedOf (length ts) n limit code place) {room : List ℕ} {top depth : ℕ} (w : Reached (edition n) ts limit place room top depth) (k : kind ts place ≤ Eof) where
     known_upto : (i : ℕ) → i ≤ place → kind ts i ≤ Eof
     known_upto i h = elim (ℕ_discrete i place) [ yes e ↦ rw e k | no e ↦ w.known i (omega (arith, e)) ]
 
@@ -175,10 +175,10 @@ module _ {n : ℕ} {ts : List ℕ} {limit code place : ℕ} where
     met_here : (m : Met n ts limit code place) → (M : Stack Table Label) × Meets (kaori (edition n)) (kind ts) limit (decoded (drop top room)) place (refused code place m.expected) M
     met_here m = let (M, c) = met_from m in (M, (onward_over w.within.after c (omega arith) (omega arith)).0)
 
-    deep_here : {code' expected : ℕ} {M : Stack Table Label} → Opens M → Meets (kaori (edition n)) (kind ts) limit (want script ∷ []) 0 (refused code' place expected) M → Too-deep (edition n) (kind ts place) place (kind ts) limit (refused code' place expected) M (decoded (drop top room))
+    deep_here : {code' expected : ℕ} {M : Stack Table Label} → Opens M → Meets (kaori (edition n)) (kind ts) limit (want script ∷ []) 0 (refused code' place expected) M → TooDeep (edition n) (kind ts place) place (kind ts) limit (refused code' place expected) M (decoded (drop top room))
     deep_here o m = let (c, b) = onward_over w.within.after m (omega arith) (omega arith) in record { here = refl; opens = o; there = omega arith; within = b; meets = c }
 
-    met_deep : (m : Met n ts limit code place) → code ≡ 11 → (M : Stack Table Label) × Too-deep (edition n) (kind ts place) place (kind ts) limit (refused code place m.expected) M (decoded (drop top room))
+    met_deep : (m : Met n ts limit code place) → code ≡ 11 → (M : Stack Table Label) × TooDeep (edition n) (kind ts place) place (kind ts) limit (refused code place m.expected) M (decoded (drop top room))
     met_deep m e = let (M, c) = met_from m in (M, deep_here (script_opens (edition n) c e) c)
 
     -- an opening passes the limit: the chain is the first of what is open
@@ -309,7 +309,7 @@ module _ {n : ℕ} {ts : List ℕ} {limit code place : ℕ} where
               chained = subst (λ y. Chained (openings m.refusal) y) (sym f.chain_is) (subst (λ os. Chained os c) (sym (q ∙ opened_are)) (inner_chain a place (whole_chain k) i (λ y. room_inside k y)));
             }
           where
-            right : (x : ℕ) → x ≤ Eof → T (g.member x) ↔ Could-stand (edition n) (kind ts) place x
+            right : (x : ℕ) → x ≤ Eof → T (g.member x) ↔ CouldStand (edition n) (kind ts) place x
             right x l = let p = subst (λ z. Admits (edition n) x (decoded (drop top z)) (g.member x)) s.kept (g.right x (omega (arith, l))) in (λ y. could (edition n) w.within.after (p.result place) (p.goes place) (p.yes y place), λ y. p.no place (stands (edition n) w.within.after (p.result place) (p.goes place) y))
 
         pub barred_told : {kinds : ℕ} {o c : Chain} {r : Told} → code ≡ code_of a → Gathers (edition n) (decoded (drop top after)) 45 kinds → Chained (take limit (opened (decoded (drop (t + 1) after)))) o → Inside o a place c → Filled kinds c r → Tells ts n limit code place r
@@ -332,11 +332,11 @@ module _ {e : Edition} {x c top : ℕ} {before after : List ℕ} where
 
 -- and what is left before the place
 module _ {n : ℕ} {ts : List ℕ} {limit place : ℕ} {room : List ℕ} where
-  pub as_reached : {top depth : ℕ} (r : Rest) → r ≡ Rest.At top depth → Left-at n ts limit place room r → Reached (edition n) ts limit place room top depth
+  pub as_reached : {top depth : ℕ} (r : Rest) → r ≡ Rest.At top depth → LeftAt n ts limit place room r → Reached (edition n) ts limit place room top depth
   unfolding ComesTo
-  as_reached r k l = (subst (Left-at n ts limit place room) k l).says
+  as_reached r k l = (subst (LeftAt n ts limit place room) k l).says
 
-  pub as_gone : (r : Rest) → ((top depth : ℕ) → r ≡ Rest.At top depth → ⊥) → Left-at n ts limit place room r → (code : ℕ) → 8 ≤ code → Met n ts limit code place → ⊥
+  pub as_gone : (r : Rest) → ((top depth : ℕ) → r ≡ Rest.At top depth → ⊥) → LeftAt n ts limit place room r → (code : ℕ) → 8 ≤ code → Met n ts limit code place → ⊥
   unfolding ComesTo
   as_gone (Rest.At top depth) f l = absurd (f top depth refl)
   as_gone Rest.Gone f l = l.says

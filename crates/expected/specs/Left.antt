@@ -1,6 +1,6 @@
 -- What is left to read at a place, if the tokens before it are taken within the limit.
 use Rattle.std.specs.Prelude.{ℕ, ◌/◌, ◌≤◌, ◌<◌, Bool, true, false, List, [], ◌∷◌, ◌≡◌, length, drop}
-use Rattle.grammar.specs.Door.{RightEdition, Right-list, Whole}
+use Rattle.grammar.specs.Door.{RightEdition, RightList, Whole}
 use Rattle.grammar.specs.Edition.{Edition, edition}
 use Rattle.grammar.specs.Expected.{Met}
 use Rattle.grammar.specs.Kaori.{kaori, script}
@@ -13,18 +13,18 @@ use Rattle.expected.specs.Cells.{decoded, Sound}
 use Rattle.expected.specs.declared.Rest.{Rest}
 
 -- something may be told of this code: in a list of so many numbers, an edition and a limit that the door lets in, and at a token of the list
-pub record Asked-of (numbers n limit code place : ℕ) : Type 0 where
+pub record AskedOf (numbers n limit code place : ℕ) : Type 0 where
   pub least : 8 ≤ code
   pub most : code ≤ 11
   pub some_depth : 1 ≤ limit
   pub least_depth : limit ≤ 64
   pub right : RightEdition n
-  pub whole : Right-list numbers
+  pub whole : RightList numbers
   pub inside : place < numbers / 3
 
 pub record Asks (numbers n limit code place : ℕ) (r : Bool) : Type 0 where
-  pub yes : r ≡ true → Asked-of numbers n limit code place
-  pub no : r ≡ false → Asked-of numbers n limit code place → ⊥
+  pub yes : r ≡ true → AskedOf numbers n limit code place
+  pub no : r ≡ false → AskedOf numbers n limit code place → ⊥
 
 pub record Asked (ts : List ℕ) (limit place : ℕ) : Type 0 where
   pub shallow : limit ≤ 64
@@ -46,5 +46,5 @@ unfoldable pub ComesTo : (n : ℕ) (ts : List ℕ) (limit place : ℕ) (room : L
 ComesTo n ts limit place room (Rest.At top depth) = Reached (edition n) ts limit place room top depth
 ComesTo n ts limit place room Rest.Gone = (code : ℕ) → 8 ≤ code → Met n ts limit code place → ⊥
 
-pub record Left-at (n : ℕ) (ts : List ℕ) (limit place : ℕ) (room : List ℕ) (r : Rest) : Type 0 where
+pub record LeftAt (n : ℕ) (ts : List ℕ) (limit place : ℕ) (room : List ℕ) (r : Rest) : Type 0 where
   pub says : ComesTo n ts limit place room r

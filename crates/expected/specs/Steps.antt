@@ -14,7 +14,7 @@ use Rattle.expected.specs.Cells.{decoded, barred, barred_by, entry, only_marks, 
 use Rattle.expected.specs.declared.stack.Step.{Step}
 
 -- with K left before token c, of kind x, an opening passes the limit there
-pub record Too-deep (e : Edition) (x c : ℕ) (kind : ℕ → ℕ) (limit : ℕ) (q : Refused) (M K : Stack Table Label) : Type 0 where
+pub record TooDeep (e : Edition) (x c : ℕ) (kind : ℕ → ℕ) (limit : ℕ) (q : Refused) (M K : Stack Table Label) : Type 0 where
   pub here : kind c ≡ x
   pub opens : Opens M
   pub there : place_of q ≤ c
@@ -23,7 +23,7 @@ pub record Too-deep (e : Edition) (x c : ℕ) (kind : ℕ → ℕ) (limit : ℕ)
 
 -- then more is open in J than the limit allows, and what is open at the refusal is the first of it
 pub record Fills (e : Edition) (x c : ℕ) (K J : Stack Table Label) : Type 0 where
-  pub full : {kind : ℕ → ℕ} {limit : ℕ} {q : Refused} {M : Stack Table Label} → Too-deep e x c kind limit q M K → Overflows limit M J
+  pub full : {kind : ℕ → ℕ} {limit : ℕ} {q : Refused} {M : Stack Table Label} → TooDeep e x c kind limit q M K → Overflows limit M J
 
 -- the kind is taken: the top is then at t, and d constructs are open
 pub record Taken (e : Edition) (x c top : ℕ) (before after : List ℕ) (t d : ℕ) : Type 0 where
@@ -37,7 +37,7 @@ pub record Taken (e : Edition) (x c top : ℕ) (before after : List ℕ) (t d : 
 -- nothing is left to read, and no opening passes a limit
 pub record Ends (e : Edition) (x c : ℕ) (K : Stack Table Label) : Type 0 where
   pub goes : Goes (kaori e) x c K over
-  pub never : {kind : ℕ → ℕ} {limit : ℕ} {q : Refused} {M : Stack Table Label} → Too-deep e x c kind limit q M K → ⊥
+  pub never : {kind : ℕ → ℕ} {limit : ℕ} {q : Refused} {M : Stack Table Label} → TooDeep e x c kind limit q M K → ⊥
 
 -- the cell at t bars it, and d constructs are open below it; of what stands for it there the code and the marks are those that the number says
 pub record Bars (e : Edition) (x c top : ℕ) (before after : List ℕ) (t d a : ℕ) : Type 0 where

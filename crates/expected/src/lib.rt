@@ -13,7 +13,7 @@ ghost use Rattle.expected.specs.Cells.{decoded, Sound};
 ghost use Rattle.expected.specs.Steps.{Gathers};
 ghost use Rattle.expected.specs.Chains.{Chained};
 ghost use Rattle.expected.specs.Tables.{tables};
-ghost use Rattle.expected.specs.Left.{Asked-of, Asks, Asked, Reached, Left-at};
+ghost use Rattle.expected.specs.Left.{AskedOf, Asks, Asked, Reached, LeftAt};
 ghost use Rattle.expected.specs.Tells.{Tells};
 ghost use Rattle.expected.specs.Parts.{Extends, Inside, lowest_of, Filled, Nothing, code_of, opened_by};
 
@@ -174,7 +174,7 @@ fn left(table: &[u8], tokens: &[u32], edition: u32, limit: u32, at: usize, room:
     requires table_value { table.now ≡ tables }
     requires asked { Asked tokens.now limit at }
     requires room_len { length room.old ≡ 1024 }
-    ensures { Left-at edition tokens.now limit at room.new result }
+    ensures { LeftAt edition tokens.now limit at room.new result }
 {
     room[ROOM - 1] = 0;
     let mut top = ROOM - 1;
@@ -300,7 +300,7 @@ fn tell(
     depth: usize,
 ) -> Told
     requires table_value { table.now ≡ tables }
-    requires asked_of { Asked-of (length tokens.now) edition limit code at }
+    requires asked_of { AskedOf (length tokens.now) edition limit code at }
     requires reached { Reached (the-edition edition) tokens.now limit at room.old top depth }
     ensures { Tells tokens.now edition limit code at result }
 {

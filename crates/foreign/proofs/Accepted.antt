@@ -15,7 +15,7 @@ use Rattle.grammar.specs.Edition.{Edition, edition}
 use Rattle.grammar.specs.Handle.{absent}
 use Rattle.grammar.specs.Kaori.{Script}
 use Rattle.grammar.specs.Label.{Node, Label, number_of}
-use Rattle.grammar.specs.Naming.{height, Rising, One-tree}
+use Rattle.grammar.specs.Naming.{height, Rising, OneTree}
 use Rattle.grammar.specs.Outcome.{Outcome, Comes}
 use Rattle.grammar.specs.Parent.{parent, own, parented, written}
 use Rattle.grammar.specs.Phrase.{Tree}
@@ -102,7 +102,7 @@ unfolding parent
 same_parent w x j zero h = refl
 same_parent w x j (suc n) h = rw (parented_names w x.nodes n h, same_parent w x j n (omega arith))
 
-parented_checked : (e : Edition) (s : ℕ) (w : Rows) → Whole w → Lawful e s w → One-tree (parented w) → Rooted (parented w) → height w ≤ absent → Checked e s (parented w)
+parented_checked : (e : Edition) (s : ℕ) (w : Rows) → Whole w → Lawful e s w → OneTree (parented w) → Rooted (parented w) → height w ≤ absent → Checked e s (parented w)
 parented_checked e s w x f tree root few =
     let tall = parented_height w x.nodes in
     let keeps = f.keeps (later_self w) in

@@ -19,7 +19,7 @@ use Rattle.grammar.proofs.Decoding.{Whole, gathered, write_whole, found, fill_no
 use Rattle.grammar.proofs.Forest.{Begins, Later, later_both}
 use Rattle.grammar.proofs.Growth.{links_length, filled}
 use Rattle.grammar.proofs.Sizes.{Sort}
-use Rattle.foreign.specs.Check.{Item, node_items, name_items, entry_items, items, items_of, link_count, Each, nil, cons, Known-kind, Before, lists, counted, Consecutive, covered, Follows}
+use Rattle.foreign.specs.Check.{Item, node_items, name_items, entry_items, items, items_of, link_count, Each, nil, cons, KnownKind, Before, lists, counted, Consecutive, covered, Follows}
 use Rattle.foreign.proofs.Sitting.{Is, Sits}
 
 -- what holds of what stands in row n, where there are so many symbols and links
@@ -32,14 +32,14 @@ Fine s m n (Item.list f c) = f + c ≤ m
 Fine s m n (Item.unused x) = x ≡ 0
 
 -- all that stands in row n, where the links before it end at `from`, and with its own at `upto`
-record Reads-well (s m n from upto : ℕ) (is : List Item) : Type 0 where
+record ReadsWell (s m n from upto : ℕ) (is : List Item) : Type 0 where
   pub fine : Each (Fine s m n) is
   pub follows : Consecutive from (lists is)
   pub sum : from + counted (lists is) ≡ upto
 
 module _ (s m n : ℕ) where
   -- an item that is no list
-  plain : {from upto : ℕ} {x : Item} {is : List Item} → Fine s m n x → lists (x ∷ []) ≡ [] → Reads-well s m n from upto is → Reads-well s m n from upto (x ∷ is)
+  plain : {from upto : ℕ} {x : Item} {is : List Item} → Fine s m n x → lists (x ∷ []) ≡ [] → ReadsWell s m n from upto is → ReadsWell s m n from upto (x ∷ is)
   plain {x = Item.number l y} f e r = record { fine = cons f r.fine; follows = r.follows; sum = r.sum }
   plain {x = Item.child y} f e r = record { fine = cons f r.fine; follows = r.follows; sum = r.sum }
   plain {x = Item.option y} f e r = record { fine = cons f r.fine; follows = r.follows; sum = r.sum }
@@ -48,29 +48,29 @@ module _ (s m n : ℕ) where
   plain {x = Item.unused y} f e r = record { fine = cons f r.fine; follows = r.follows; sum = r.sum }
 
   -- numbers left over
-  left : (from r k : ℕ) → r ≤ k → Reads-well s m n from from (map Item.unused (take r (replicate k 0)))
+  left : (from r k : ℕ) → r ≤ k → ReadsWell s m n from from (map Item.unused (take r (replicate k 0)))
   left from zero k h = record { fine = nil; follows = tt; sum = omega arith }
   left from (suc r) zero h = absurd (omega arith)
   left from (suc r) (suc k) h = plain refl refl (left from r k (omega arith))
 
   -- a list and its items
-  listed : {from c upto last : ℕ} {is : List Item} → upto ≡ from + c → upto ≤ m → Reads-well s m n upto last is → Reads-well s m n from last (Item.list from c ∷ is)
+  listed : {from c upto last : ℕ} {is : List Item} → upto ≡ from + c → upto ≤ m → ReadsWell s m n upto last is → ReadsWell s m n from last (Item.list from c ∷ is)
   listed {from} {c} e h r = let l : from + c ≤ m = omega arith in record { fine = cons l r.fine; follows = (refl, rw e at r.follows); sum = omega (arith, r.sum) }
 
-  module _ (us : List ℕ) {from upto : ℕ} {is : List Item} (r : Reads-well s m n from upto is) where
+  module _ (us : List ℕ) {from upto : ℕ} {is : List Item} (r : ReadsWell s m n from upto is) where
     -- the items of links that hold these handles
-    nodes_well : {hs : List Handle} → Each (Is n s Sort.node) hs → Reads-well s m n from upto (node_items (length hs) (links_of hs ++ us) ++ is)
+    nodes_well : {hs : List Handle} → Each (Is n s Sort.node) hs → ReadsWell s m n from upto (node_items (length hs) (links_of hs ++ us) ++ is)
     unfolding node_items links_of
     nodes_well nil = r
     nodes_well (cons (Is.node l) e) = plain l refl (plain refl refl (plain refl refl (nodes_well e)))
     nodes_well (cons (Is.ended l) e) = plain l refl (plain refl refl (plain refl refl (nodes_well e)))
 
-    names_well : {hs : List Handle} → Each (Is n s Sort.name) hs → Reads-well s m n from upto (name_items (length hs) (links_of hs ++ us) ++ is)
+    names_well : {hs : List Handle} → Each (Is n s Sort.name) hs → ReadsWell s m n from upto (name_items (length hs) (links_of hs ++ us) ++ is)
     unfolding name_items links_of
     names_well nil = r
     names_well (cons (Is.name l) e) = plain l refl (names_well e)
 
-    entries_well : {hs : List Handle} → Each (Is n s Sort.entry) hs → Reads-well s m n from upto (entry_items (length hs) (links_of hs ++ us) ++ is)
+    entries_well : {hs : List Handle} → Each (Is n s Sort.entry) hs → ReadsWell s m n from upto (entry_items (length hs) (links_of hs ++ us) ++ is)
     unfolding entry_items links_of
     entries_well nil = r
     entries_well (cons (Is.entry k y) e) = plain k refl (plain y refl (plain refl refl (entries_well e)))
@@ -85,7 +85,7 @@ kept_links : (fs : List Field) (xs : List ℕ) (w : Rows) {ls : List ℕ} → Be
 kept_links fs xs w b = omega (arith, (filled fs xs w).links, ap length b.same, length-append (fill fs xs w).links b.rest)
 
 module _ (ls : List ℕ) {n s : ℕ} where
-  well : {r : ℕ} {ss : List Slot} {fs : List Field} → Sits n s r ss fs → r ≤ own_width → (xs : List ℕ) {w : Rows} → Whole w → Begins (fill fs xs w).links ls → Reads-well s (length ls / link_width) n (link_count w) (link_count (fill fs xs w)) (items ls ss (take r (gathered fs w ++ replicate own_width 0)))
+  well : {r : ℕ} {ss : List Slot} {fs : List Field} → Sits n s r ss fs → r ≤ own_width → (xs : List ℕ) {w : Rows} → Whole w → Begins (fill fs xs w).links ls → ReadsWell s (length ls / link_width) n (link_count w) (link_count (fill fs xs w)) (items ls ss (take r (gathered fs w ++ replicate own_width 0)))
   unfolding items gathered fill numbers write
   well (Sits.done {r = r}) q xs h b = left _ _ _ _ r own_width q
   well (Sits.number l x) q xs h b = plain _ _ _ l refl (well x (omega arith) _ h b)
@@ -106,7 +106,7 @@ module _ (ls : List ℕ) {n s : ℕ} where
 module _ (e : Edition) (s : ℕ) where
   -- row i of v keeps the rules that speak of one row
   pub record Keeps (v : Rows) (i : ℕ) : Type 0 where
-    pub kind : Known-kind v i
+    pub kind : KnownKind v i
     pub fine : Each (Fine s (link_count v) i) (items_of e v i)
     pub follows : Follows e v i
 
@@ -127,7 +127,7 @@ module _ (e : Edition) {s : ℕ} (k from upto : ℕ) {fs : List Field} {w : Rows
       let l : length (take own_width (k ∷ from ∷ upto ∷ gathered fs w ++ replicate own_width 0)) ≡ own_width = simp (length-take, length-append, length-replicate) (omega arith) in
       ap (λ ns. take own_width (drop (node_width * height w) ns)) q ∙ ap (take own_width) (drop_at w.nodes (z ++ r) (node_width * height w) (sym h.nodes)) ∙ ap (take own_width) (append_assoc (take own_width (k ∷ from ∷ upto ∷ gathered fs w ++ replicate own_width 0)) (0 ∷ []) r) ∙ take_at (take own_width (k ∷ from ∷ upto ∷ gathered fs w ++ replicate own_width 0)) (0 ∷ r) own_width l
 
-  new_row : {v : Rows} → Later next v → Reads-well s (link_count v) (height w) (link_count w) (link_count next) (items_of e v (height w))
+  new_row : {v : Rows} → Later next v → ReadsWell s (link_count v) (height w) (link_count w) (link_count next) (items_of e v (height w))
   unfolding items_of
   new_row {v} n = rw (own_row n) (well v.links x (omega arith) (k ∷ from ∷ upto ∷ []) h n.links)
 

@@ -3,7 +3,7 @@
 -- links in node order; absent only where allowed; unused numbers 0'. L11: 'L8 adds the parent rule last'. L14: 'L2, L8 and L9 take the edition'. Spans and symbol rows
 -- have no rule.
 use Rattle.std.specs.Prelude.{ℕ, zero, suc, ◌+◌, ◌-◌, ◌*◌, ◌/◌, ◌≤◌, ◌<◌, List, [], ◌∷◌, ◌++◌, map, ◌⊎◌, ◌≡◌, length, get_or, take, drop}
-use Rattle.grammar.specs.Door.{First-without, RightEdition}
+use Rattle.grammar.specs.Door.{FirstWithout, RightEdition}
 use Rattle.grammar.specs.Edition.{Edition, edition}
 use Rattle.grammar.specs.Handle.{absent}
 use Rattle.grammar.specs.Label.{Node, number_of}
@@ -62,7 +62,7 @@ pub data Each {A : Type 0} (P : A → Type 0) : List A → Type 0 where
   cons : {x : A} {xs : List A} → P x → Each P xs → Each P (x ∷ xs)
 
 -- 1: 'kinds 1 to 26'
-pub record Known-kind (w : Rows) (i : ℕ) : Type 0 where
+pub record KnownKind (w : Rows) (i : ℕ) : Type 0 where
   pub least : 1 ≤ kind_of w i
   pub most : kind_of w i ≤ 26
 
@@ -156,7 +156,7 @@ ParentRight w i = tenth w i ≡ parent w (height w) i
 module _ (e : Edition) (s : ℕ) (w : Rows) where
   -- 'It accepts exactly when all hold'
   pub record Checked : Type 0 where
-    pub kinds : (i : ℕ) → i < height w → Known-kind w i
+    pub kinds : (i : ℕ) → i < height w → KnownKind w i
     pub ranges : (i : ℕ) → i < height w → Ranged e s w i
     pub earlier : (i : ℕ) → i < height w → Earlier w i
     pub once : (i : ℕ) → i < height w - 1 → Once w i
@@ -169,16 +169,16 @@ module _ (e : Edition) (s : ℕ) (w : Rows) where
 
   -- 'the first row that breaks it, itself or in its links (the last row where links are left over, 0 where there are no rows)'
   pub data Breaks : (rule row : ℕ) → Type 0 where
-    kinds : {i : ℕ} → First-without (Known-kind w) (height w) i → Breaks 1 i
-    ranges : {i : ℕ} → First-without (Ranged e s w) (height w) i → Breaks 2 i
-    earlier : {i : ℕ} → First-without (Earlier w) (height w) i → Breaks 3 i
-    once : {i : ℕ} → First-without (Once w) (height w - 1) i → Breaks 4 i
+    kinds : {i : ℕ} → FirstWithout (KnownKind w) (height w) i → Breaks 1 i
+    ranges : {i : ℕ} → FirstWithout (Ranged e s w) (height w) i → Breaks 2 i
+    earlier : {i : ℕ} → FirstWithout (Earlier w) (height w) i → Breaks 3 i
+    once : {i : ℕ} → FirstWithout (Once w) (height w - 1) i → Breaks 4 i
     rooted : (Rooted w → ⊥) → Breaks 5 (height w - 1)
-    follows : {i : ℕ} → First-without (Follows e w) (height w) i → Breaks 6 i
+    follows : {i : ℕ} → FirstWithout (Follows e w) (height w) i → Breaks 6 i
     left_over : ((i : ℕ) → i < height w → Follows e w i) → (Covering e w → ⊥) → Breaks 6 (height w - 1)
-    present : {i : ℕ} → First-without (Present e w) (height w) i → Breaks 7 i
-    clean : {i : ℕ} → First-without (Clean e w) (height w) i → Breaks 8 i
-    parents : {i : ℕ} → First-without (ParentRight w) (height w) i → Breaks 9 i
+    present : {i : ℕ} → FirstWithout (Present e w) (height w) i → Breaks 7 i
+    clean : {i : ℕ} → FirstWithout (Clean e w) (height w) i → Breaks 8 i
+    parents : {i : ℕ} → FirstWithout (ParentRight w) (height w) i → Breaks 9 i
 
   -- 'the first failed rule'
   pub record Fails (rule row : ℕ) : Type 0 where

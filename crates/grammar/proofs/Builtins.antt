@@ -12,7 +12,7 @@ use lib.Dec.{eqb, ltb, leb}
 use borrow.Author.Tests.{eqb-true, lt-ltb, le-ltb}
 use lib.ListN.{length, get_or, take, drop, length-drop}
 use lib.Seq.{take-take, take-append-le, drop-append-le, get_or-take, get_or-drop}
-use Rattle.grammar.specs.Builtin.{Builtins, none, built, built_rows, Right-names}
+use Rattle.grammar.specs.Builtin.{Builtins, none, built, built_rows, RightNames}
 use Rattle.grammar.specs.Door.{Whole, RightSymbols}
 use Rattle.grammar.specs.Edition.{Edition}
 use Rattle.grammar.specs.Handle.{absent}
@@ -36,7 +36,7 @@ use Rattle.grammar.proofs.Seek.{seek_found, seek_front, seek_behind, seek_one, s
 use Rattle.grammar.proofs.Symbols.{built_length, seek_below, look_up_none, look_up_built, look_up_behind, row_more, rows_grow, rows_built, rows_whole, name_has_row}
 
 -- no names are right, and ask for no room
-pub right_none : Right-names none
+pub right_none : RightNames none
 right_none = record { short = omega arith; few = omega arith; table = record { parts = λ i r. absurd (omega arith); different = λ i j l r. absurd (omega arith) }; identifiers = λ i r. absurd (omega arith) }
 
 pub fits_none : (numbers : ℕ) → RightSymbols none numbers
@@ -189,7 +189,7 @@ module _ (names : Builtins) (text ts : List ℕ) where
       pick false c h = h
 
   -- a built-in name has the number of its row, whatever the text and the tokens are
-  pub same_in_every_script : Right-names names → (i j : ℕ) → is_name ts i ≡ true → j < built names → word_of text ts i ≡ word names.text names.rows j → symbol names text ts i ≡ j
+  pub same_in_every_script : RightNames names → (i j : ℕ) → is_name ts i ≡ true → j < built names → word_of text ts i ≡ word names.text names.rows j → symbol names text ts i ≡ j
   unfolding symbol
   same_in_every_script r i j h l e =
       let z : seek names.text (word_of text ts i) names.rows ≡ j = seek_held r.table (record { row = omega arith; bytes_are = sym e }) in

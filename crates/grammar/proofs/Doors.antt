@@ -8,10 +8,10 @@ use native.Mathlib.Decide.{ℕ_discrete, dec_le, dec_lt}
 use native.Mathlib.Omega.{arith}
 use lib.Dec.{T}
 use lib.ListN.{length, get_or}
-use Rattle.grammar.specs.Builtin.{Builtins, built, Right-names}
+use Rattle.grammar.specs.Builtin.{Builtins, built, RightNames}
 use Rattle.grammar.specs.Call.{Call}
 use Rattle.grammar.specs.Derivative.{matches}
-use Rattle.grammar.specs.Door.{Whole, Roomy, RightSymbols, RightEdition, Ascii, Sound, Closed, Inside, Admitted, First-without, Wrong, Turned-away}
+use Rattle.grammar.specs.Door.{Whole, Roomy, RightSymbols, RightEdition, Ascii, Sound, Closed, Inside, Admitted, FirstWithout, Wrong, TurnedAway}
 use Rattle.grammar.specs.Kind.{And, Nil, Identifier, Eof}
 use Rattle.grammar.specs.Lexeme.{spelling, pattern, Fits}
 use Rattle.grammar.specs.Pattern.{Pattern, Matches}
@@ -54,7 +54,7 @@ denied (no z) = yes z
 -- all of the first n places have what is asked, or one is the first that has not
 pub data Search (asked : ℕ → Type 0) (n : ℕ) : Type 0 where
   all : ((i : ℕ) → i < n → asked i) → Search asked n
-  lacking : {i : ℕ} → First-without asked n i → Search asked n
+  lacking : {i : ℕ} → FirstWithout asked n i → Search asked n
 
 module _ (asked : ℕ → Type 0) where
   pub one_more : (n : ℕ) → ((i : ℕ) → i < n → asked i) → asked n → (i : ℕ) → i < suc n → asked i
@@ -131,7 +131,7 @@ module _ (names : Builtins) where
   unfoldable pub in_identifiers : Search (λ i. Fits Identifier (name_of i)) (built names)
   in_identifiers = look_through (λ i. Fits Identifier (name_of i)) (λ i. fitting Identifier (name_of i)) (built names)
 
-  unfoldable pub right_names : Dec (Right-names names)
+  unfoldable pub right_names : Dec (RightNames names)
   right_names =
       carried
       (λ p. record { short = p.0; few = p.1.0; table = record { parts = λ i r. p.1.1.0 i (omega arith); different = λ i j l r. p.1.1.1.0 j (omega arith) i l }; identifiers = λ i r. p.1.1.1.1 i (omega arith) })
@@ -159,7 +159,7 @@ module _ (c : Call) where
   Asked (suc (suc (suc zero))) = (1 ≤ c.limit) × (c.limit ≤ 64)
   Asked (suc (suc (suc (suc zero)))) = RightEdition c.edition
   Asked (suc (suc (suc (suc (suc zero))))) = Roomy c
-  Asked (suc (suc (suc (suc (suc (suc zero)))))) = Right-names c.names
+  Asked (suc (suc (suc (suc (suc (suc zero)))))) = RightNames c.names
   Asked (suc (suc (suc (suc (suc (suc (suc zero))))))) = RightSymbols c.names (length c.rooms.symbols)
   Asked (suc (suc (suc (suc (suc (suc (suc (suc zero)))))))) = Ascii c.text
   Asked (suc (suc (suc (suc (suc (suc (suc (suc (suc zero))))))))) = (i : ℕ) → i < count c.tokens → Sound c.text c.tokens i
@@ -218,9 +218,9 @@ module _ (c : Call) where
   -- what the door says of a call
   pub data Verdict : Type 0 where
     inside : Admitted c → Verdict
-    turned : (code at from upto : ℕ) → Turned-away c code at from upto → Verdict
+    turned : (code at from upto : ℕ) → TurnedAway c code at from upto → Verdict
 
-  pub away : {turn code at from upto : ℕ} → First-without Asked 12 turn → Wrong c turn code at from upto → Turned-away c code at from upto
+  pub away : {turn code at from upto : ℕ} → FirstWithout Asked 12 turn → Wrong c turn code at from upto → TurnedAway c code at from upto
   away {turn} x w = record { turn = turn; wrong = w; first = λ {t} v. elim (dec_lt t turn) [ yes h ↦ absurd (not_had v (x.before t h)) | no h ↦ omega arith ] }
 
   unfoldable pub verdict : Verdict

@@ -8,7 +8,7 @@ use lib.Dec.{ltb}
 use lib.ListN.{get_or}
 use borrow.Author.Tests.{lt-ltb, le-ltb}
 use Rattle.grammar.specs.Edition.{Edition}
-use Rattle.grammar.specs.Expected.{Could-stand}
+use Rattle.grammar.specs.Expected.{CouldStand}
 use Rattle.grammar.specs.Kaori.{Table, kaori, script, Script}
 use Rattle.grammar.specs.Kind.{Eof}
 use Rattle.grammar.specs.Label.{Label}
@@ -42,13 +42,13 @@ whole_script : (e : Edition) {kinds : ℕ → ℕ} {b : ℕ} → All (kaori e) k
 whole_script e (then r end) = (_, r)
 
 module _ (e : Edition) {kind : ℕ → ℕ} {place x : ℕ} {K : Stack Table Label} (left : After (kaori e) kind (want script ∷ []) 0 K place) where
-  found : {r : Result Table Label} → Goes (kaori e) x place K r → (w : List ℕ) (b : ℕ) → place ≤ b → Left (kaori e) (splice kind place (x ∷ w)) r place b → Could-stand e kind place x
+  found : {r : Result Table Label} → Goes (kaori e) x place K r → (w : List ℕ) (b : ℕ) → place ≤ b → Left (kaori e) (splice kind place (x ∷ w)) r place b → CouldStand e kind place x
   found g w b h k =
       let there = splice_after kind place (x ∷ w) place 0 (omega arith) in
       let (t, r) = whole_script e (back_over left (splice_before kind place (x ∷ w)) (back g there k)) in
       record { kinds = splice kind place (x ∷ w); before = splice_before kind place (x ∷ w); there = there; end = b; reaches = h; tree = t; script = r }
 
-  pub could : (r : Result Table Label) → Goes (kaori e) x place K r → Stands r → Could-stand e kind place x
+  pub could : (r : Result Table Label) → Goes (kaori e) x place K r → Stands r → CouldStand e kind place x
   could (took M) g s =
       let f = can_end e left g in
       let (b, h, k) = f.finish (at_list f.tokens (place + 1) (λ i j d. splice_after kind place (x ∷ f.tokens) j (suc i) (omega arith))) in
@@ -56,7 +56,7 @@ module _ (e : Edition) {kind : ℕ → ℕ} {place x : ℕ} {K : Stack Table Lab
   could over g s = found g [] place (omega arith) refl
   could (bars M) g s = absurd s
 
-  pub stands : (r : Result Table Label) → Goes (kaori e) x place K r → Could-stand e kind place x → Stands r
+  pub stands : (r : Result Table Label) → Goes (kaori e) x place K r → CouldStand e kind place x → Stands r
   stands (took M) g c = tt
   stands over g c = tt
   stands (bars M) g c = forth g c.there (forth_over left c.before (then c.script end))

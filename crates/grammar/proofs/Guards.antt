@@ -25,13 +25,13 @@ use Rattle.grammar.proofs.Halves.{traits, least, takes}
 use Rattle.grammar.proofs.Outcomes.{guard_parts}
 use Rattle.grammar.proofs.Room.{all_room}
 use Rattle.grammar.proofs.Rooting.{then_root, with_root, root_later, root_put}
-use Rattle.grammar.proofs.Steady.{Same-token, Carried, expression_carried}
+use Rattle.grammar.proofs.Steady.{SameToken, Carried, expression_carried}
 use Rattle.grammar.proofs.Tables.{unlisted, unkeyed}
 use Rattle.grammar.proofs.Tops.{tops, Top, top}
 use Rattle.grammar.proofs.Trees.{one_tree, all_whole, later_names}
 
 -- us is the list ts with a `;` before its Eof, in the same text
-pub record With-semicolon (ts us : List ℕ) : Type 0 where
+pub record WithSemicolon (ts us : List ℕ) : Type 0 where
   pub more : count us ≡ count ts + 1
   pub same : (i : ℕ) → i + 1 < count ts → (kind us i ≡ kind ts i) × (start us i ≡ start ts i) × (end us i ≡ end ts i)
   pub semicolon : kind us (count ts - 1) ≡ Semicolon
@@ -39,7 +39,7 @@ pub record With-semicolon (ts us : List ℕ) : Type 0 where
 
 -- a list that reads as the guard t reads, with a `;` before its Eof, as a script: as deep, with the same symbols, and with the rows of t and then the root, before
 -- parents are put in and after
-pub record As-script (e : Edition) (names : Builtins) (text ts us : List ℕ) (t : Tree Label) : Type 0 where
+pub record AsScript (e : Edition) (names : Builtins) (text ts us : List ℕ) (t : Tree Label) : Type 0 where
   pub tree : Tree Label
   pub reads : Script e (kind us) (count us - 1) tree
   pub deep : depth tree ≡ depth t
@@ -48,7 +48,7 @@ pub record As-script (e : Edition) (names : Builtins) (text ts us : List ℕ) (t
   pub all_rows : written us (symbol names text us) tree ≡ with_root (written ts (symbol names text ts) t)
 
 -- lists that are the same below n have the same symbols there, and a token that has no word adds no row
-module _ (names : Builtins) (text ts us : List ℕ) (n : ℕ) (same : (i : ℕ) → i < n → Same-token ts us i) where
+module _ (names : Builtins) (text ts us : List ℕ) (n : ℕ) (same : (i : ℕ) → i < n → SameToken ts us i) where
   rows_same : (i : ℕ) → i ≤ n → symbol_rows names text ts i ≡ symbol_rows names text us i
   unfolding symbol_rows
   rows_same zero h = refl
@@ -95,7 +95,7 @@ unfolding sole unparented walk make put fill numbers write links_of
 sole_rows ts σ n x t = rw t.made
 
 -- a guard whose expression is x
-module _ (e : Edition) (names : Builtins) (text ts us : List ℕ) (x : Tree Label) (l : Whole ts) (h : T (allowed Profile.guard (kind ts 0))) (s : With-semicolon ts us) (r : Reads (kaori e) (kind ts) (whole expression) 0 (count ts - 1) x) (z : kind ts (count ts - 1) ≡ Eof) (y : ReadsAll Profile.guard e (kind ts) (count ts) (more x none)) where
+module _ (e : Edition) (names : Builtins) (text ts us : List ℕ) (x : Tree Label) (l : Whole ts) (h : T (allowed Profile.guard (kind ts 0))) (s : WithSemicolon ts us) (r : Reads (kaori e) (kind ts) (whole expression) 0 (count ts - 1) x) (z : kind ts (count ts - 1) ≡ Eof) (y : ReadsAll Profile.guard e (kind ts) (count ts) (more x none)) where
   abbrev n : ℕ
   n = count ts - 1
 
@@ -105,7 +105,7 @@ module _ (e : Edition) (names : Builtins) (text ts us : List ℕ) (x : Tree Labe
   abbrev τ : ℕ → ℕ
   τ = symbol names text us
 
-  same : (i : ℕ) → i < n → Same-token ts us i
+  same : (i : ℕ) → i < n → SameToken ts us i
   same i k = let q = s.same i (omega arith) in record { kinds = sym q.0; starts = sym q.1; ends = sym q.2 }
 
   ends : kind us (n + 1) ≡ Eof
@@ -141,15 +141,15 @@ module _ (e : Edition) (names : Builtins) (text ts us : List ℕ) (x : Tree Labe
       let o = one_tree e us τ Profile.script (count us) reads (omega (arith, s.more)) (omega (arith, l.most, s.more)) in
       ap parented rows ∙ root_put w a (omega (arith, (all_room e ts σ Profile.guard (count ts) y m).nodes, l.most)) (later_names e ts σ Profile.guard (count ts) y (root_later w a)) (rw rows at o) (one_tree e ts σ Profile.guard (count ts) y m (omega (arith, l.most))).some
 
-  of_expression : As-script e names text ts us (more x none)
+  of_expression : AsScript e names text ts us (more x none)
   of_expression = record { tree = sole n x; reads = reads; deep = sole_depth n x; symbols = symbols; rows = rows; all_rows = all_rows }
 
 -- any guard, of a list without the four kinds
-pub guard_as_script : {e : Edition} (names : Builtins) {text ts us : List ℕ} {t : Tree Label} → Whole ts → ((i : ℕ) → i < count ts → Inside Profile.guard ts i) → With-semicolon ts us → ReadsAll Profile.guard e (kind ts) (count ts) t → As-script e names text ts us t
-guard_as_script {e} names {text} {ts} {us} l h s y = let g = guard_parts y in subst (As-script e names text ts us) (sym g.is) (of_expression e names text ts us g.inner l (h 0 l.some) s g.reads g.eof (subst (ReadsAll Profile.guard e (kind ts) (count ts)) g.is y))
+pub guard_as_script : {e : Edition} (names : Builtins) {text ts us : List ℕ} {t : Tree Label} → Whole ts → ((i : ℕ) → i < count ts → Inside Profile.guard ts i) → WithSemicolon ts us → ReadsAll Profile.guard e (kind ts) (count ts) t → AsScript e names text ts us t
+guard_as_script {e} names {text} {ts} {us} l h s y = let g = guard_parts y in subst (AsScript e names text ts us) (sym g.is) (of_expression e names text ts us g.inner l (h 0 l.some) s g.reads g.eof (subst (ReadsAll Profile.guard e (kind ts) (count ts)) g.is y))
 
 -- what comes of a guard comes of its script, in rooms that have the root's rows too
-pub guard_comes_script : {e : Edition} {names : Builtins} {text ts us : List ℕ} {limit room : ℕ} {space z : Space} {w : Rows} {ss : List ℕ} → Whole ts → ((i : ℕ) → i < count ts → Inside Profile.guard ts i) → With-semicolon ts us → Comes Profile.guard e names text ts limit space room (accepted w ss) → Enough z (with_root w) → Comes Profile.script e names text us limit z room (accepted (with_root w) ss)
+pub guard_comes_script : {e : Edition} {names : Builtins} {text ts us : List ℕ} {limit room : ℕ} {space z : Space} {w : Rows} {ss : List ℕ} → Whole ts → ((i : ℕ) → i < count ts → Inside Profile.guard ts i) → WithSemicolon ts us → Comes Profile.guard e names text ts limit space room (accepted w ss) → Enough z (with_root w) → Comes Profile.script e names text us limit z room (accepted (with_root w) ss)
 guard_comes_script {e} {names} {text} {ts} {us} {limit} {room} {z = z} l h s (Comes.read y d i j) k =
     let a = guard_as_script names {text = text} {us = us} l h s y in
     let c : Comes Profile.script e names text us limit z room (accepted (written us (symbol names text us) a.tree) (symbol_rows names text us (count us))) = Comes.read a.reads (rw a.deep d) (rw a.all_rows k) (rw a.symbols j) in

@@ -25,7 +25,7 @@ use Rattle.grammar.specs.Rows.{Rows, blank, then, unparented}
 use Rattle.grammar.specs.Space.{Space, Enough, Worded, Named, Lacks, space_of}
 use Rattle.grammar.specs.Symbol.{symbol_rows, symbol, symbol_in}
 use Rattle.grammar.specs.Token.{kind, count}
-use Rattle.grammar.proofs.Demands.{last_token, Refused-at}
+use Rattle.grammar.proofs.Demands.{last_token, RefusedAt}
 use Rattle.grammar.proofs.Lengths.{Alike, alike_self, then_alike, tree_whole, written_alike, enough_written, enough_then}
 use Rattle.grammar.proofs.Machine.{asked, read_not_refused}
 use Rattle.grammar.proofs.Outcomes.{reading_not_refused}
@@ -151,13 +151,13 @@ same_refusal {names = names} {others} {text} {other} {ts} {space = space} {room 
     there : (σ : ℕ → ℕ) (ns : Builtins) (u : List ℕ) → built ns ≤ 64 → {n : ℕ} → length (symbol_rows ns u ts (count ts)) ≤ n → Keeps space space σ (symbol_in ns u ts n)
     there σ ns u f k = record { nodes = omega arith; links = omega arith; words = λ j a. absurd (symbol_there ns u ts l f k j a) }
 
-pub record Same-tree (p : Profile) (e : Edition) (names others : Builtins) (text other ts : List ℕ) (limit : ℕ) (space : Space) (room : ℕ) (w : Rows) (ss : List ℕ) : Type 0 where
+pub record SameTree (p : Profile) (e : Edition) (names others : Builtins) (text other ts : List ℕ) (limit : ℕ) (space : Space) (room : ℕ) (w : Rows) (ss : List ℕ) : Type 0 where
   pub tree : Tree Label
   pub rows : w ≡ written ts (symbol names text ts) tree
   pub symbols : ss ≡ symbol_rows names text ts (count ts)
   pub comes : Comes p e others other ts limit space room (accepted (written ts (symbol others other ts) tree) (symbol_rows others other ts (count ts)))
 
-pub same_tree : {p : Profile} {e : Edition} {names others : Builtins} {text other ts : List ℕ} {limit : ℕ} {space : Space} {room room' : ℕ} {w : Rows} {ss : List ℕ} → length (symbol_rows others other ts (count ts)) ≤ room' → Comes p e names text ts limit space room (accepted w ss) → Same-tree p e names others text other ts limit space room' w ss
+pub same_tree : {p : Profile} {e : Edition} {names others : Builtins} {text other ts : List ℕ} {limit : ℕ} {space : Space} {room room' : ℕ} {w : Rows} {ss : List ℕ} → length (symbol_rows others other ts (count ts)) ≤ room' → Comes p e names text ts limit space room (accepted w ss) → SameTree p e names others text other ts limit space room' w ss
 same_tree {names = names} {others} {text} {other} {ts} k (Comes.read {t = t} x h i j) = record { tree = t; rows = refl; symbols = refl; comes = Comes.read x h (enough_written ts (symbol names text ts) (symbol others other ts) t (enough_then ts (symbol names text ts) (symbol names text ts) t i)) k }
 
 -- rows that the tokens before a pay for
@@ -244,7 +244,7 @@ module _ (p : Profile) (e : Edition) (names : Builtins) (text ts : List ℕ) {sp
       (omega (arith, l.some, h.nodes, h.links, f, a), symbols_enough)
 
 -- of a call whose rooms have a row for each token, and each built-in name: what is let in has a code from 8 where it is refused, as before
-pub ample_codes : {c : Call} {a : Answer} {after : Rooms} → Admitted c → Ample c.names (count c.tokens) (space_of c.rooms) (length c.rooms.symbols) → Refused-at c a after → 8 ≤ a.code
+pub ample_codes : {c : Call} {a : Answer} {after : Rooms} → Admitted c → Ample c.names (count c.tokens) (space_of c.rooms) (length c.rooms.symbols) → RefusedAt c a after → 8 ≤ a.code
 ample_codes {c} {a} d h x =
     let never : a.code ≡ 4 → ⊥ = ample_never_short c.profile (edition c.edition) c.names c.text c.tokens d.whole h d.named.few (last_token d) x.refusal in
     x.codes.others (omega (arith, never, x.codes.least))

@@ -12,8 +12,8 @@ use lib.Seq.{drop-append-le, drop_at, get_or-take, get_or-drop, take_at, get_or_
 use Rattle.grammar.specs.Edition.{Edition}
 use Rattle.grammar.specs.Handle.{absent}
 use Rattle.grammar.specs.Layout.{Slot, below, child, option, symbol, name, nodes, names, entries, layouts, layout}
-use Rattle.grammar.specs.Naming.{naming, height, named_by, named_below, times, Rising, One-tree}
-use Rattle.grammar.specs.Parent.{parent, own, tenth, parented_below, parented, Parent-of, Parents}
+use Rattle.grammar.specs.Naming.{naming, height, named_by, named_below, times, Rising, OneTree}
+use Rattle.grammar.specs.Parent.{parent, own, tenth, parented_below, parented, ParentOf, Parents}
 use Rattle.grammar.specs.Room.{node_width, own_width}
 use Rattle.grammar.specs.Rows.{Rows, lined, padded}
 use Rattle.grammar.proofs.Growth.{padded_length}
@@ -78,13 +78,13 @@ width (names ∷ ss) = 2 + width ss
 width (entries ∷ ss) = 2 + width ss
 
 -- the first n numbers are the same
-pub record Same-first (n : ℕ) (xs ys : List ℕ) : Type 0 where
+pub record SameFirst (n : ℕ) (xs ys : List ℕ) : Type 0 where
   pub at : (k : ℕ) → k < n → get_or xs k 0 ≡ get_or ys k 0
 
-past : (m : ℕ) {n : ℕ} {xs ys : List ℕ} → Same-first (m + n) xs ys → Same-first n (drop m xs) (drop m ys)
+past : (m : ℕ) {n : ℕ} {xs ys : List ℕ} → SameFirst (m + n) xs ys → SameFirst n (drop m xs) (drop m ys)
 past m {n} {xs} {ys} a = record { at = λ k h. get_or-drop m xs k 0 ∙ a.at (m + k) (omega arith) ∙ sym (get_or-drop m ys k 0) }
 
-naming_alike : (ls : List ℕ) (ss : List Slot) {xs ys : List ℕ} → Same-first (width ss) xs ys → naming ls ss xs ≡ naming ls ss ys
+naming_alike : (ls : List ℕ) (ss : List Slot) {xs ys : List ℕ} → SameFirst (width ss) xs ys → naming ls ss xs ≡ naming ls ss ys
 unfolding naming
 naming_alike ls [] a = refl
 naming_alike ls (below n ∷ ss) a = naming_alike ls ss (past 1 a)
@@ -119,7 +119,7 @@ module _ (v w : Rows) (i : ℕ) (e : own v i ≡ own w i) where
   kind_own : get_or v.nodes (node_width * i) 0 ≡ get_or w.nodes (node_width * i) 0
   kind_own = let z : node_width * i + 0 ≡ node_width * i = omega arith in rw z at (own_at 0 (omega arith))
 
-  fields_own : Same-first 6 (drop (node_width * i + 3) v.nodes) (drop (node_width * i + 3) w.nodes)
+  fields_own : SameFirst 6 (drop (node_width * i + 3) v.nodes) (drop (node_width * i + 3) w.nodes)
   fields_own = record { at = λ m h. let f : node_width * i + (3 + m) ≡ node_width * i + 3 + m = omega arith in get_or-drop (node_width * i + 3) v.nodes m 0 ∙ (rw f at (own_at (3 + m) (omega arith))) ∙ sym (get_or-drop (node_width * i + 3) w.nodes m 0) }
 
   pub named_own : v.links ≡ w.links → named_by v i ≡ named_by w i
@@ -168,7 +168,7 @@ module _ (w : Rows) where
     parented_named zero h = refl
     parented_named (suc n) h = rw (parented_named n (omega arith), parented_names n h)
 
-    pub parented_tree : One-tree w → One-tree (parented w)
+    pub parented_tree : OneTree w → OneTree (parented w)
     parented_tree t =
         let h = parented_height in
         record {
@@ -178,13 +178,13 @@ module _ (w : Rows) where
           root = rw (h, parented_named (height w) (omega arith)) t.root;
         }
 
-    pub parents_put : One-tree w → height w ≤ absent → Parents (parented w)
+    pub parents_put : OneTree w → height w ≤ absent → Parents (parented w)
     parents_put t m = record { parents = parents; root = root }
       where
         h : height (parented w) ≡ height w
         h = parented_height
 
-        parents : (j : ℕ) → j + 1 < height (parented w) → Parent-of (parented w) j (tenth (parented w) j)
+        parents : (j : ℕ) → j + 1 < height (parented w) → ParentOf (parented w) j (tenth (parented w) j)
         parents j k =
             let l : j + 1 < height w = rw h at k in
             let f = found w j (height w) (t.once j l) in
@@ -206,7 +206,7 @@ module _ (w : Rows) where
         let m : length y ≡ node_width * (height w - 1) = omega (arith, x, ap length e, length-append y (padded xs), padded_length xs) in
         ap (λ zs. take own_width (drop (node_width * (height w - 1)) zs)) e ∙ rw (drop_at y (padded xs) (node_width * (height w - 1)) m) (take_at (take own_width (xs ++ replicate own_width 0)) (0 ∷ []) own_width l)
 
-    pub parented_root : One-tree w → (y xs : List ℕ) → w.nodes ≡ y ++ padded xs → (parented w).nodes ≡ parented_below w (height w - 1) ++ lined xs absent
+    pub parented_root : OneTree w → (y xs : List ℕ) → w.nodes ≡ y ++ padded xs → (parented w).nodes ≡ parented_below w (height w - 1) ++ lined xs absent
     unfolding parented_below
     parented_root t y xs e =
         let h : height w ≡ suc (height w - 1) = omega (arith, t.some) in

@@ -9,7 +9,7 @@ use lib.Seq.{take-append-le, drop-append-le, take_at}
 use Rattle.grammar.specs.Handle.{Handle, absent}
 use Rattle.grammar.specs.Label.{Node, number_of}
 use Rattle.grammar.specs.Layout.{layout}
-use Rattle.grammar.specs.Naming.{height, named_by, times, One-tree}
+use Rattle.grammar.specs.Naming.{height, named_by, times, OneTree}
 use Rattle.grammar.specs.Parent.{parent, own, parented_below, parented}
 use Rattle.grammar.specs.Room.{node_width, own_width, link_width}
 use Rattle.grammar.specs.Rows.{Rows, lined, padded, links_of, numbers, write, fill}
@@ -79,7 +79,7 @@ module _ (w : Rows) (whole : Whole w) where
     below_kept zero h = refl
     below_kept (suc n) h = rw (below_kept n (omega arith), own_kept n (omega arith), parent_kept n (omega arith))
 
-    pub root_put : One-tree (then_root w) → 0 < height w → parented (then_root w) ≡ with_root (parented w)
+    pub root_put : OneTree (then_root w) → 0 < height w → parented (then_root w) ≡ with_root (parented w)
     root_put t h = same_rows (front ∙ sym back) (ap (λ n. w.links ++ ((n - 1) ∷ 0 ∷ 0 ∷ [])) (sym (parented_height w whole.nodes)))
       where
         rest : List ℕ

@@ -143,13 +143,13 @@ solid_takes (Reads.alone x k) h = absurd h
 solid_takes (Reads.joined x k y) h = absurd h
 
 -- token i is the same in two lists
-pub record Same-token (ts us : List ℕ) (i : ℕ) : Type 0 where
+pub record SameToken (ts us : List ℕ) (i : ℕ) : Type 0 where
   pub kinds : kind ts i ≡ kind us i
   pub starts : start ts i ≡ start us i
   pub ends : end ts i ≡ end us i
 
 -- two lists with their symbols that are the same below n, where the one has Eof and the other `;`
-module _ (e : Edition) (ts us : List ℕ) (σ τ : ℕ → ℕ) (n : ℕ) (eof : kind ts n ≡ Eof) (semicolon : kind us n ≡ Semicolon) (same : (i : ℕ) → i < n → Same-token ts us i) (symbols : (i : ℕ) → i < n → σ i ≡ τ i) where
+module _ (e : Edition) (ts us : List ℕ) (σ τ : ℕ → ℕ) (n : ℕ) (eof : kind ts n ≡ Eof) (semicolon : kind us n ≡ Semicolon) (same : (i : ℕ) → i < n → SameToken ts us i) (symbols : (i : ℕ) → i < n → σ i ≡ τ i) where
   -- what is read of the one is read of the other, with the same rows
   pub record Carried (m : Aim Table Label) (a b : ℕ) (t : Tree Label) : Type 0 where
     pub reads : Reads (kaori e) (kind us) m a b t

@@ -173,35 +173,35 @@ module _ (names : Builtins) (text : List ℕ) where
     wordless i h = rw h
 
     -- in a room of so many numbers a token has its symbol, or absent where its row does not fit
-    pub data In-room (room i : ℕ) : ℕ → Type 0 where
-      there : (is_name ts i ≡ true → length (symbol_rows names text ts (suc i)) ≤ room) → In-room room i (symbol names text ts i)
-      missing : is_name ts i ≡ true → room < length (symbol_rows names text ts (suc i)) → In-room room i absent
+    pub data InRoom (room i : ℕ) : ℕ → Type 0 where
+      there : (is_name ts i ≡ true → length (symbol_rows names text ts (suc i)) ≤ room) → InRoom room i (symbol names text ts i)
+      missing : is_name ts i ≡ true → room < length (symbol_rows names text ts (suc i)) → InRoom room i absent
 
-    pub in_room : (room i : ℕ) → In-room room i (symbol_in names text ts room i)
+    pub in_room : (room i : ℕ) → InRoom room i (symbol_in names text ts room i)
     unfolding symbol_in
     in_room room i = pick (is_name ts i) refl (leb (length (symbol_rows names text ts (suc i))) room) refl
       where
-        pick : (b : Bool) → is_name ts i ≡ b → (c : Bool) → leb (length (symbol_rows names text ts (suc i))) room ≡ c → In-room room i (cond (b && not c) absent (symbol names text ts i))
-        pick false e c f = In-room.there (λ h. absurd (let z : ◌≡◌ {A = ℕ} 0 1 = cc in omega arith))
-        pick true e true f = In-room.there (λ h. leb-true _ _ f)
-        pick true e false f = In-room.missing e (leb-false _ _ f)
+        pick : (b : Bool) → is_name ts i ≡ b → (c : Bool) → leb (length (symbol_rows names text ts (suc i))) room ≡ c → InRoom room i (cond (b && not c) absent (symbol names text ts i))
+        pick false e c f = InRoom.there (λ h. absurd (let z : ◌≡◌ {A = ℕ} 0 1 = cc in omega arith))
+        pick true e true f = InRoom.there (λ h. leb-true _ _ f)
+        pick true e false f = InRoom.missing e (leb-false _ _ f)
 
     -- a word that has its symbol has its row
     pub has_row : (room i : ℕ) → (symbol_in names text ts room i ≡ absent → ⊥) → is_name ts i ≡ true → length (symbol_rows names text ts (suc i)) ≤ room
     has_row room i = by (in_room room i)
       where
-        by : {x : ℕ} → In-room room i x → (x ≡ absent → ⊥) → is_name ts i ≡ true → length (symbol_rows names text ts (suc i)) ≤ room
-        by (In-room.there h) n e = h e
-        by (In-room.missing e k) n f = absurd (n refl)
+        by : {x : ℕ} → InRoom room i x → (x ≡ absent → ⊥) → is_name ts i ≡ true → length (symbol_rows names text ts (suc i)) ≤ room
+        by (InRoom.there h) n e = h e
+        by (InRoom.missing e k) n f = absurd (n refl)
 
     -- what has no symbol in a larger room had none
     pub symbol_in_kept : (room larger i : ℕ) → room ≤ larger → symbol_in names text ts larger i ≡ absent → symbol_in names text ts room i ≡ absent
     symbol_in_kept room larger i l = kept (in_room room i) (in_room larger i)
       where
-        kept : {x y : ℕ} → In-room room i x → In-room larger i y → y ≡ absent → x ≡ absent
-        kept (In-room.there h) (In-room.there k) e = e
-        kept (In-room.there h) (In-room.missing n k) e = absurd (omega (arith, h n))
-        kept (In-room.missing n k) y e = refl
+        kept : {x y : ℕ} → InRoom room i x → InRoom larger i y → y ≡ absent → x ≡ absent
+        kept (InRoom.there h) (InRoom.there k) e = e
+        kept (InRoom.there h) (InRoom.missing n k) e = absurd (omega (arith, h n))
+        kept (InRoom.missing n k) y e = refl
 
     pub symbol_few : Whole ts → (i : ℕ) → symbol names text ts i ≤ built names + 4096
     symbol_few w i = pick (is_name ts i) refl
@@ -215,9 +215,9 @@ module _ (names : Builtins) (text : List ℕ) where
       pub symbol_in_all : symbol_in names text ts room ≡ symbol names text ts
       symbol_in_all = fun_ext (λ i. all_in i (in_room room i))
         where
-          all_in : (i : ℕ) {x : ℕ} → In-room room i x → x ≡ symbol names text ts i
-          all_in i (In-room.there k) = refl
-          all_in i (In-room.missing e k) = absurd (omega (arith, rows_grow (suc i) (count ts) (word_inside ts w i e)))
+          all_in : (i : ℕ) {x : ℕ} → InRoom room i x → x ≡ symbol names text ts i
+          all_in i (InRoom.there k) = refl
+          all_in i (InRoom.missing e k) = absurd (omega (arith, rows_grow (suc i) (count ts) (word_inside ts w i e)))
 
     -- so no symbol is absent, and every tree is named
     module _ (w : Whole ts) (few : built names ≤ 64) {room : ℕ} (h : length (symbol_rows names text ts (count ts)) ≤ room) where

@@ -10,7 +10,7 @@ use lib.Dec.{T, leb, leb→le, le→leb}
 use lib.ListN.{length}
 use Rattle.grammar.specs.Door.{RightEdition, Whole}
 use Rattle.grammar.specs.Edition.{Edition, edition}
-use Rattle.grammar.specs.Expected.{Could-stand, Opening, opening, openings, Met, Expects, gathered, how_many, lowest_from}
+use Rattle.grammar.specs.Expected.{CouldStand, Opening, opening, openings, Met, Expects, gathered, how_many, lowest_from}
 use Rattle.grammar.specs.Handle.{block_tail, block_list}
 use Rattle.grammar.specs.Kaori.{Table, above, rules, kaori, script}
 use Rattle.grammar.specs.Kind.{Eof}
@@ -22,7 +22,7 @@ use Rattle.grammar.specs.Rows.{blank, links_of, numbers, write, fill, put, make,
 use Rattle.grammar.specs.Rule.{rule}
 use Rattle.grammar.specs.Space.{has_word}
 use Rattle.grammar.specs.Token.{kind, count}
-use Rattle.grammar.specs.Told.{Telling, tokens_of, ToldSo, Numbers-so, AllTold, tellings}
+use Rattle.grammar.specs.Told.{Telling, tokens_of, ToldSo, NumbersSo, AllTold, tellings}
 use Rattle.grammar.proofs.Expected.{could, stands}
 use Rattle.grammar.proofs.Reader.{Answer, read, refuse, unknown, fit_rows, fit_word, fit, reader}
 use Rattle.grammar.proofs.Stack.{Item, want, links, mark, Stack, Turn, Result, took, over, bars, Goes, After, one_more}
@@ -106,7 +106,7 @@ module _ (e : Edition) where
     lefts (suc n) = next (lefts n)
 
     -- whether a kind could stand there, as a test says
-    decided : {K : Stack Table Label} {place x : ℕ} → After (kaori e) kinds (want script ∷ []) 0 K place → (b : Bool) → Ran x place K → Found (T b ↔ Could-stand e kinds place x)
+    decided : {K : Stack Table Label} {place x : ℕ} → After (kaori e) kinds (want script ∷ []) 0 K place → (b : Bool) → Ran x place K → Found (T b ↔ CouldStand e kinds place x)
     decided w true (found (took M, g)) = found (λ t. could e w (took M) g tt, λ c. tt)
     decided w true (found (over, g)) = found (λ t. could e w over g tt, λ c. tt)
     decided w true (found (bars M, g)) = lost
@@ -117,12 +117,12 @@ module _ (e : Edition) where
     decided w false lost = lost
 
     module _ (set : List ℕ) {K : Stack Table Label} {place : ℕ} (w : After (kaori e) kinds (want script ∷ []) 0 K place) where
-      both_found : (n : ℕ) → Found ((x : ℕ) → x < n → T (among set x) ↔ Could-stand e kinds place x) → Found (T (among set n) ↔ Could-stand e kinds place n) → Found ((x : ℕ) → x < suc n → T (among set x) ↔ Could-stand e kinds place x)
-      both_found n (found f) (found s) = found (λ x h. elim (ℕ_discrete n x) [ yes d ↦ subst (λ y. T (among set y) ↔ Could-stand e kinds place y) d s | no d ↦ f x (omega (arith, d)) ])
+      both_found : (n : ℕ) → Found ((x : ℕ) → x < n → T (among set x) ↔ CouldStand e kinds place x) → Found (T (among set n) ↔ CouldStand e kinds place n) → Found ((x : ℕ) → x < suc n → T (among set x) ↔ CouldStand e kinds place x)
+      both_found n (found f) (found s) = found (λ x h. elim (ℕ_discrete n x) [ yes d ↦ subst (λ y. T (among set y) ↔ CouldStand e kinds place y) d s | no d ↦ f x (omega (arith, d)) ])
       both_found n (found f) lost = lost
       both_found n lost s = lost
 
-      all_decided : (n : ℕ) → Found ((x : ℕ) → x < n → T (among set x) ↔ Could-stand e kinds place x)
+      all_decided : (n : ℕ) → Found ((x : ℕ) → x < n → T (among set x) ↔ CouldStand e kinds place x)
       all_decided zero = found (λ x h. absurd (omega arith))
       all_decided (suc n) = both_found n (all_decided n) (decided w (among set n) (run 60 n place K))
 
@@ -182,7 +182,7 @@ module _ (t : Telling) where
 
   -- the kinds of the set
   abbrev RightSet : Type 0
-  RightSet = (x : ℕ) → x < 45 → T (among t.set x) ↔ Could-stand (edition t.edition) (kind ts) t.place x
+  RightSet = (x : ℕ) → x < 45 → T (among t.set x) ↔ CouldStand (edition t.edition) (kind ts) t.place x
 
   set_right : Left (edition t.edition) (kind ts) → Found RightSet
   set_right (left K i w) = asked (ℕ_discrete i t.place) (λ d. all_decided (edition t.edition) (kind ts) t.set (subst (After (kaori (edition t.edition)) (kind ts) (want script ∷ []) 0 K) d w) 45)
@@ -250,7 +250,7 @@ module _ (t : Telling) where
       go : Found (ToldSo t)
       go = elim (dec_le (suc t.place) (count ts)) [ yes h ↦ right_kinds (passes (λ i. leb (kind ts i) Eof) 0 (suc t.place)) refl read_so | no h ↦ nothing_told (λ l u m. absurd (h m.inside)) t.set refl t.chain refl ]
 
-  numbered : Found (Numbers-so t)
+  numbered : Found (NumbersSo t)
   numbered = asked (ℕ_discrete (gathered (among t.set) 45) t.number) (λ a. asked (ℕ_discrete (how_many (among t.set) 45) t.count) (λ b. asked (ℕ_discrete (lowest_from (among t.set) 0 45) t.lowest) (λ c. found (record { number = a; count = b; lowest = c }))))
 
 abbrev each : List Telling → Bool

@@ -5,7 +5,7 @@ use mathlib.Core.List.{List, []}
 use mathlib.Core.Path.{◌≡◌, refl, sym, ◌∙◌}
 use native.Mathlib.Omega.{arith}
 use Rattle.grammar.specs.Edition.{edition}
-use Rattle.grammar.specs.Expected.{Could-stand, Opening, Met, Expects}
+use Rattle.grammar.specs.Expected.{CouldStand, Opening, Met, Expects}
 use Rattle.grammar.specs.Kind.{Eof}
 use Rattle.grammar.specs.Token.{kind}
 use Rattle.grammar.proofs.Expected.{stands}
@@ -13,7 +13,7 @@ use Rattle.grammar.proofs.Stack.{bars}
 use Rattle.grammar.proofs.Stopping.{meets, splits, one_chain}
 use Rattle.grammar.proofs.Tests.{same_truth}
 
-pub unexpected : {n : ℕ} {ts : List ℕ} {limit code place : ℕ} → Met n ts limit code place → 8 ≤ code → code ≤ 10 → Could-stand (edition n) (kind ts) place (kind ts place) → ⊥
+pub unexpected : {n : ℕ} {ts : List ℕ} {limit code place : ℕ} → Met n ts limit code place → 8 ≤ code → code ≤ 10 → CouldStand (edition n) (kind ts) place (kind ts place) → ⊥
 unexpected {n} m l u c =
     let (M, x, d) = meets m.refusal (λ i. omega arith) [] refl (omega arith) in
     let (J, y, g) = splits x (λ i. omega arith) in

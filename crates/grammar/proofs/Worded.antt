@@ -102,14 +102,14 @@ pub spoken_entry : (e : Edition) (n : Table) (x : ℕ) {p : Form} → kaori e n 
 spoken_entry e n x h = rw h at (in_tables e (λ n. spoken) (spoken_tables e) n x)
 
 -- one token that has a word, and no more
-pub record One-word (kind : ℕ → ℕ) (a b : ℕ) (t : Tree Label) : Type 0 where
+pub record OneWord (kind : ℕ → ℕ) (a b : ℕ) (t : Tree Label) : Type 0 where
   pub ends : b ≡ a + 1
   pub bare : t ≡ none
   pub spells : a_name (kind a) ≡ true
 
 -- a node is such a token, or has no word
 pub data Speech (kind : ℕ → ℕ) (f : Label) (p : Form) (a b : ℕ) (t : Tree Label) : Type 0 where
-  word : has_word f ≡ true → One-word kind a b t → Speech kind f p a b t
+  word : has_word f ≡ true → OneWord kind a b t → Speech kind f p a b t
   wordless : has_word f ≡ false → T (spoken p) → Speech kind f p a b t
 
 module _ (e : Edition) {kind : ℕ → ℕ} where
@@ -124,7 +124,7 @@ module _ (e : Edition) {kind : ℕ → ℕ} where
   nothing_taken (Reads.alone x k) h = absurd h
   nothing_taken (Reads.joined x k y) h = absurd h
 
-  one_word : {p : Form} {a b : ℕ} {t : Tree Label} → Reads (kaori e) kind (whole p) a b t → T (alone p) → One-word kind a b t
+  one_word : {p : Form} {a b : ℕ} {t : Tree Label} → Reads (kaori e) kind (whole p) a b t → T (alone p) → OneWord kind a b t
   one_word Reads.nothing h = absurd h
   one_word (Reads.taken {x = x} {p = p} k y) h = let (u, v) = both (a_name x) (is_empty p) h in let (i, j) = nothing_taken y v in record { ends = i; bare = j; spells = rw k (as_true (a_name x) u) }
   one_word (Reads.both x y) h = absurd h

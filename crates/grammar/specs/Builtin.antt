@@ -26,7 +26,7 @@ abbrev pub built_rows : Builtins → List ℕ
 built_rows names = take (symbol_width * built names) names.rows
 
 -- none of what refusal 18 is for: 'a built-in text over 65,536 bytes, over 64 names, a bad span, a name that isn't an identifier, or the same name twice'
-pub record Right-names (names : Builtins) : Type 0 where
+pub record RightNames (names : Builtins) : Type 0 where
   pub short : length names.text ≤ 65536
   pub few : built names ≤ 64
   pub table : Table names.text names.rows  -- spans are good, and names differ

@@ -14,7 +14,7 @@ use Rattle.grammar.specs.Token.{kind, count}
 -- 'A kind is in the set exactly when some script accepted by the grammar, with no bound on length or depth, begins with the tokens before the place and then
 -- that kind; for Eof, when the tokens before it form a whole script': the kinds before the place stay, x stands there, and what follows is free. A script ends
 -- at its first Eof, so with Eof at the place it ends there.
-pub record Could-stand (e : Edition) (kind : ℕ → ℕ) (place x : ℕ) : Type 0 where
+pub record CouldStand (e : Edition) (kind : ℕ → ℕ) (place x : ℕ) : Type 0 where
   pub kinds : ℕ → ℕ
   pub before : (i : ℕ) → i < place → kinds i ≡ kind i
   pub there : kinds place ≡ x
@@ -64,7 +64,7 @@ pub record Met (n : ℕ) (ts : List ℕ) (limit code place : ℕ) : Type 0 where
 -- what is told of a list, an edition, a limit, a code and a token: which kinds are in the set, and the chain
 pub data Expects (n : ℕ) (ts : List ℕ) (limit code place : ℕ) (could : ℕ → Bool) : List Opening → Type 0 where
   -- 'For refusals 8, 9 and 10 give the kinds .. give also the chain'
-  unread : 8 ≤ code → code ≤ 10 → (m : Met n ts limit code place) → ((x : ℕ) → x ≤ Eof → T (could x) ↔ Could-stand (edition n) (kind ts) place x) → Expects n ts limit code place could (openings m.refusal)
+  unread : 8 ≤ code → code ≤ 10 → (m : Met n ts limit code place) → ((x : ℕ) → x ≤ Eof → T (could x) ↔ CouldStand (edition n) (kind ts) place x) → Expects n ts limit code place could (openings m.refusal)
   -- 'For 11 the set is empty and the chain holds as many as the limit'
   too_deep : code ≡ 11 → (m : Met n ts limit code place) → ((x : ℕ) → x ≤ Eof → could x ≡ false) → Expects n ts limit code place could (openings m.refusal)
   -- 'other codes give an empty set and an empty chain'; so does a token at which reading is not refused by the code

@@ -3,7 +3,7 @@ use Rattle.std.specs.Prelude.{ℕ, zero, suc, List, [], ◌∷◌, ◌++◌, ◌
 use Rattle.grammar.specs.Edition.{Edition}
 use Rattle.grammar.specs.Kind.{False, True}
 use Rattle.grammar.specs.Layout.{below, child, option, layout}
-use Rattle.grammar.specs.Naming.{height, named_by, One-tree}
+use Rattle.grammar.specs.Naming.{height, named_by, OneTree}
 use Rattle.grammar.specs.Operator.{binary_operators, unary_operators}
 use Rattle.grammar.specs.Parent.{parented, Parents}
 use Rattle.grammar.specs.Rows.{Rows}
@@ -57,12 +57,12 @@ pub record NamingRight : Type 0 where
   -- a Return's child is absent in edition 2 alone
   pub returns : (layout Edition.first 23 ≡ child ∷ []) × (layout Edition.second 23 ≡ option ∷ [])
   -- what is not one tree: no row; a row that is not named; one that is named twice; one that names itself; one that an earlier row names; names that fall
-  pub no_row : One-tree (rows [] []) → ⊥
-  pub unnamed : One-tree (rows (row 10 0 1 0 0 1 0 0 0 4294967295 ++ row 20 0 0 0 0 4294967295 0 0 0 4294967295) []) → ⊥
-  pub twice : One-tree (rows (row 10 0 1 0 0 1 0 0 0 1 ++ row 20 0 0 0 2 4294967295 0 0 0 4294967295) (0 ∷ 0 ∷ 0 ∷ 0 ∷ 0 ∷ 0 ∷ [])) → ⊥
-  pub itself : One-tree (rows (row 4 0 3 0 0 0 0 0 0 4294967295 ++ row 20 0 0 0 0 4294967295 0 0 0 4294967295) []) → ⊥
-  pub earlier : One-tree (rows (row 4 0 3 1 0 0 0 0 0 2 ++ row 10 4 5 0 4 5 0 0 0 4294967295 ++ row 20 0 0 0 1 4294967295 0 0 0 4294967295) (0 ∷ 0 ∷ 0 ∷ [])) → ⊥
-  pub falling : One-tree (rows (row 10 0 1 0 0 1 0 0 0 2 ++ row 10 4 5 1 4 5 0 0 0 2 ++ row 6 0 5 1 0 0 0 0 0 3 ++ row 20 0 0 0 1 4294967295 0 0 0 4294967295) (2 ∷ 0 ∷ 0 ∷ [])) → ⊥
+  pub no_row : OneTree (rows [] []) → ⊥
+  pub unnamed : OneTree (rows (row 10 0 1 0 0 1 0 0 0 4294967295 ++ row 20 0 0 0 0 4294967295 0 0 0 4294967295) []) → ⊥
+  pub twice : OneTree (rows (row 10 0 1 0 0 1 0 0 0 1 ++ row 20 0 0 0 2 4294967295 0 0 0 4294967295) (0 ∷ 0 ∷ 0 ∷ 0 ∷ 0 ∷ 0 ∷ [])) → ⊥
+  pub itself : OneTree (rows (row 4 0 3 0 0 0 0 0 0 4294967295 ++ row 20 0 0 0 0 4294967295 0 0 0 4294967295) []) → ⊥
+  pub earlier : OneTree (rows (row 4 0 3 1 0 0 0 0 0 2 ++ row 10 4 5 0 4 5 0 0 0 4294967295 ++ row 20 0 0 0 1 4294967295 0 0 0 4294967295) (0 ∷ 0 ∷ 0 ∷ [])) → ⊥
+  pub falling : OneTree (rows (row 10 0 1 0 0 1 0 0 0 2 ++ row 10 4 5 1 4 5 0 0 0 2 ++ row 6 0 5 1 0 0 0 0 0 3 ++ row 20 0 0 0 1 4294967295 0 0 0 4294967295) (2 ∷ 0 ∷ 0 ∷ [])) → ⊥
   -- each row's parent is the tenth of its numbers above
   pub parents : parented all_kinds ≡ all_kinds
   -- what are no parents: 0 at the root; 0 where it was left so; a row further out

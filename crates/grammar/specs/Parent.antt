@@ -33,7 +33,7 @@ unfoldable pub written : (ts : List ℕ) (symbol : ℕ → ℕ) → Tree Label �
 written ts symbol t = parented (unparented ts symbol t)
 
 -- p is the one row that names row j, and it is a later one
-pub record Parent-of (w : Rows) (j p : ℕ) : Type 0 where
+pub record ParentOf (w : Rows) (j p : ℕ) : Type 0 where
   pub later : j < p
   pub row : p < height w
   pub names : times j (named_by w p) ≡ 1
@@ -41,5 +41,5 @@ pub record Parent-of (w : Rows) (j p : ℕ) : Type 0 where
 
 -- the tenth number of every row but the last is that row; the last row's is absent
 pub record Parents (w : Rows) : Type 0 where
-  pub parents : (j : ℕ) → j + 1 < height w → Parent-of w j (tenth w j)
+  pub parents : (j : ℕ) → j + 1 < height w → ParentOf w j (tenth w j)
   pub root : tenth w (height w - 1) ≡ absent

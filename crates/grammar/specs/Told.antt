@@ -24,14 +24,14 @@ tokens_of (k ∷ ks) = k ∷ 0 ∷ 0 ∷ tokens_of ks
 abbrev pub ToldSo : Telling → Type 0
 ToldSo t = Expects t.edition (tokens_of t.kinds) t.limit t.code t.place (among t.set) t.chain
 
-pub record Numbers-so (t : Telling) : Type 0 where
+pub record NumbersSo (t : Telling) : Type 0 where
   pub number : gathered (among t.set) 45 ≡ t.number
   pub count : how_many (among t.set) 45 ≡ t.count
   pub lowest : lowest_from (among t.set) 0 45 ≡ t.lowest
 
 abbrev pub AllTold : List Telling → Type 0
 AllTold [] = Unit {0}
-AllTold (t ∷ ts) = ToldSo t × Numbers-so t × AllTold ts
+AllTold (t ∷ ts) = ToldSo t × NumbersSo t × AllTold ts
 
 abbrev pub telling : (edition limit : ℕ) → List ℕ → (code place : ℕ) → List ℕ → (number count lowest : ℕ) → List Opening → Telling
 telling e l ks c p xs n k x os = record { edition = e; limit = l; kinds = ks; code = c; place = p; set = xs; number = n; count = k; lowest = x; chain = os }

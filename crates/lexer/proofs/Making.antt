@@ -12,7 +12,7 @@ use Rattle.ast.specs.Written.{Written, Cleared}
 use Rattle.grammar.specs.Kind.{Eof}
 use Rattle.grammar.specs.Room.{cleared, filled}
 use Rattle.grammar.specs.Token.{count}
-use Rattle.lexer.specs.Reads.{blank, Stands, Longest, Blank, Text-reads, Stops}
+use Rattle.lexer.specs.Reads.{blank, Stands, Longest, Blank, TextReads, Stops}
 use Rattle.lexer.specs.Parts.{StartCase, Starts, Capacity, Kept}
 use Rattle.lexer.specs.Lexes.{success, refuse, Readable, Lexes}
 use Rattle.lexer.specs.declared.Found.{Found}
@@ -43,7 +43,7 @@ module _ {text : List ℕ} {i : ℕ} where
 pub record Made (text room : List ℕ) (rows : ℕ) (list : List ℕ) (n at : ℕ) : Type 0 where
   pub ts : List ℕ
   pub size : length ts ≡ 3 * n
-  pub reads : (us : List ℕ) → Text-reads text at us → Text-reads text 0 (ts ++ us)
+  pub reads : (us : List ℕ) → TextReads text at us → TextReads text 0 (ts ++ us)
   pub stops : (j : ℕ) → Stops text at j → Stops text 0 j
   pub written : n ≤ rows → take (3 * n) list ≡ ts
   pub same : length list ≡ length room
@@ -59,7 +59,7 @@ module _ {text room : List ℕ} {rows : ℕ} {list : List ℕ} {n at : ℕ} (m :
       record {
         ts = m.ts;
         size = m.size;
-        reads = λ us r. m.reads us (Text-reads.skip b (rw add-one at r));
+        reads = λ us r. m.reads us (TextReads.skip b (rw add-one at r));
         stops = λ j s. m.stops j (Stops.skip b (rw add-one at s));
         written = m.written;
         same = m.same;
@@ -72,7 +72,7 @@ module _ {text room : List ℕ} {rows : ℕ} {list : List ℕ} {n at : ℕ} (m :
       record {
         ts = m.ts ++ k ∷ at ∷ e ∷ [];
         size = length-append m.ts (k ∷ at ∷ e ∷ []) ∙ omega (arith, m.size);
-        reads = λ us r. rw append_assoc (m.reads (k ∷ at ∷ e ∷ us) (Text-reads.token l r));
+        reads = λ us r. rw append_assoc (m.reads (k ∷ at ∷ e ∷ us) (TextReads.token l r));
         stops = λ j s. m.stops j (Stops.token l s);
         written = λ h. (w.row (omega arith)).rows ∙ ap (λ (x : List ℕ). x ++ k ∷ at ∷ e ∷ []) (m.written (omega arith));
         same = w.size ∙ m.same;
@@ -88,8 +88,8 @@ module _ {text room : List ℕ} {rows : ℕ} {list : List ℕ} {n at : ℕ} (m :
   stopped r h b s z = rw (all_zeros z) (Lexes.no_token r (m.stops at (Stops.here h b s)))
 
   -- the list of all tokens, Eof last
-  whole : at ≡ length text → Text-reads text 0 (m.ts ++ Eof ∷ at ∷ at ∷ [])
-  whole e = m.reads (Eof ∷ at ∷ at ∷ []) (Text-reads.end e)
+  whole : at ≡ length text → TextReads text 0 (m.ts ++ Eof ∷ at ∷ at ∷ [])
+  whole e = m.reads (Eof ∷ at ∷ at ∷ []) (TextReads.end e)
 
   counted : count (m.ts ++ Eof ∷ at ∷ at ∷ []) ≡ n + 1
   counted = rw (length-append m.ts (Eof ∷ at ∷ at ∷ [])) (omega (arith, m.size))

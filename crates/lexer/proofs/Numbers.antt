@@ -15,7 +15,7 @@ use Rattle.grammar.specs.Run.{Ran}
 use Rattle.lexeme.proofs.Numbers.{rest, rest_none, power_shy, rest_other, rest_point, power_none, power_first, signed_none, signed_sign, signed_digits}
 use Rattle.grammar.proofs.Lexemes.{at_first, at_end}
 use Rattle.grammar.proofs.Matching.{either_says, no_byte}
-use Rattle.lexer.specs.Parts.{Stretch-ends}
+use Rattle.lexer.specs.Parts.{StretchEnds}
 use Rattle.lexer.proofs.Stretches.{Becomes, stays, run_none}
 
 -- two patterns that say the same at a place, of the empty text and of any other
@@ -41,7 +41,7 @@ module _ {text : List ℕ} {i : ℕ} where
   pub a_point : get_or text i 0 ≡ 46 → i < length text → Becomes rest (sequence (some (byte digit)) (maybe power)) text i (i + 1)
   a_point d h = record { onward = omega arith; alike = λ e l m. at_first rest text i e (omega arith) m ∙ rest_point _ _ d }
 
-  pub lone_point : {r : ℕ} → get_or text i 0 ≡ 46 → i < length text → Ran digit text (i + 1) (length text) r → r ≡ i + 1 → Stretch-ends rest text i i
+  pub lone_point : {r : ℕ} → get_or text i 0 ≡ 46 → i < length text → Ran digit text (i + 1) (length text) r → r ≡ i + 1 → StretchEnds rest text i i
   lone_point d h ran z = stays (omega arith) rest_none (λ e l m. (a_point d h).alike e (omega arith) m ∙ run_none ran power_shy z e (omega arith) m)
 
   -- a sign, or none
@@ -52,5 +52,5 @@ module _ {text : List ℕ} {i : ℕ} where
   no_sign s = alike_here (signed_none ∙ sym no_digits) (λ e h m. at_first signed text i e h m ∙ signed_digits _ _ s ∙ sym (at_first (some (byte digit)) text i e h m))
 
   -- no exponent
-  pub no_power : i ≤ length text → among (bytes "eE") (get_or text i 0) ≡ false → Stretch-ends (maybe power) text i i
+  pub no_power : i ≤ length text → among (bytes "eE") (get_or text i 0) ≡ false → StretchEnds (maybe power) text i i
   no_power h n = stays h power_none (λ e l m. at_first (maybe power) text i e l m ∙ power_first _ _ ∙ rw n)

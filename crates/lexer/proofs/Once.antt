@@ -5,13 +5,13 @@ use mathlib.Core.List.{List, [], ◌∷◌}
 use mathlib.Core.Path.{◌≡◌, refl, sym, ap, ◌∙◌}
 use native.Mathlib.Omega.{arith}
 use lib.ListN.{length, get_or}
-use Rattle.grammar.specs.Door.{First-without}
+use Rattle.grammar.specs.Door.{FirstWithout}
 use Rattle.grammar.specs.Kind.{Eof}
 use Rattle.grammar.specs.Room.{filled}
 use Rattle.grammar.specs.Token.{count, lexeme}
 use Rattle.grammar.proofs.Answers.{one_first}
 use Rattle.grammar.proofs.Tests.{as_true}
-use Rattle.lexer.specs.Reads.{Stands, Longest, Blank, Text-reads, Stops}
+use Rattle.lexer.specs.Reads.{Stands, Longest, Blank, TextReads, Stops}
 use Rattle.lexer.specs.Lexes.{success, Readable, Lexes}
 use Rattle.lexer.specs.declared.Lexed.{Lexed}
 use Rattle.lexer.proofs.Sorts.{Sort, blank_none, one_kind}
@@ -47,10 +47,10 @@ data Goes (text : List ℕ) : ℕ → Outcome → Type 0 where
   skip : {i : ℕ} {o : Outcome} → Blank text i → Goes text (suc i) o → Goes text i o
   token : {k i e : ℕ} {o p : Outcome} → Longest text k i e → Goes text e o → p ≡ put_before k i e o → Goes text i p
 
-reading : {text ts : List ℕ} {i : ℕ} → Text-reads text i ts → Goes text i (Outcome.tokens ts)
-reading (Text-reads.end e) = Goes.end e
-reading (Text-reads.skip b r) = Goes.skip b (reading r)
-reading (Text-reads.token l r) = Goes.token l (reading r) refl
+reading : {text ts : List ℕ} {i : ℕ} → TextReads text i ts → Goes text i (Outcome.tokens ts)
+reading (TextReads.end e) = Goes.end e
+reading (TextReads.skip b r) = Goes.skip b (reading r)
+reading (TextReads.token l r) = Goes.token l (reading r) refl
 
 stopping : {text : List ℕ} {i j : ℕ} → Stops text i j → Goes text i (Outcome.stop j)
 stopping (Stops.here h b s) = Goes.here h b s
@@ -81,17 +81,17 @@ one_outcome (Goes.token {k = k} {i = i} {e = e} {o = o} l r z) (Goes.token {k = 
 
 -- a text reads as one list at most, stops at one byte at most, and not both
 module _ {text : List ℕ} {i : ℕ} where
-  pub one_list : {ts us : List ℕ} → Text-reads text i ts → Text-reads text i us → ts ≡ us
+  pub one_list : {ts us : List ℕ} → TextReads text i ts → TextReads text i us → ts ≡ us
   one_list r s = let e = one_outcome (reading r) (reading s) in cc
 
   pub one_stop : {j k : ℕ} → Stops text i j → Stops text i k → j ≡ k
   one_stop r s = let e = one_outcome (stopping r) (stopping s) in cc
 
-  pub read_not_stopped : {ts : List ℕ} {j : ℕ} → Text-reads text i ts → Stops text i j → ⊥
+  pub read_not_stopped : {ts : List ℕ} {j : ℕ} → TextReads text i ts → Stops text i j → ⊥
   read_not_stopped r s = let e = one_outcome (reading r) (stopping s) in let z : ◌≡◌ {A = ℕ} 0 1 = cc in omega arith
 
 -- a text that codes 2 and 5 let through has no byte over 127
-not_high : {text : List ℕ} {i : ℕ} → Readable text → First-without (λ j. get_or text j 0 ≤ 127) (length text) i → ⊥
+not_high : {text : List ℕ} {i : ℕ} → Readable text → FirstWithout (λ j. get_or text j 0 ≤ 127) (length text) i → ⊥
 not_high r f = f.lacks (r.ascii _ f.place)
 
 -- two answers are equal, and all that they leave in the room

@@ -9,7 +9,7 @@ use Rattle.grammar.specs.Door.{Ascii, Sound, Closed, Lent}
 use Rattle.grammar.specs.Kind.{Eof}
 use Rattle.grammar.specs.Token.{count, kind, start, end, lexeme}
 use Rattle.lexeme.proofs.Fitting.{fits_at_end}
-use Rattle.lexer.specs.Reads.{Longest, Text-reads}
+use Rattle.lexer.specs.Reads.{Longest, TextReads}
 use Rattle.lexer.specs.Lexes.{Lexes}
 use Rattle.lexer.specs.declared.Lexed.{Lexed}
 
@@ -78,19 +78,19 @@ good_token {text} {ts} {k} {i} {e} l g =
     closed zero h = record { only = λ z. absurd (omega (arith, l.stands.known)); last = λ z. absurd (omega (arith, count_on k i e ts, g.some)) }
     closed (suc j) h = closed_on k i e ts j (g.closed j (omega (arith, count_on k i e ts)))
 
-good : {text ts : List ℕ} {i : ℕ} → Text-reads text i ts → Good text ts i
-good (Text-reads.end e) = good_end e
-good (Text-reads.skip b r) = let g = good r in record { rows = g.rows; some = g.some; begins = omega (arith, g.begins); sound = g.sound; closed = g.closed }
-good (Text-reads.token l r) = good_token l (good r)
+good : {text ts : List ℕ} {i : ℕ} → TextReads text i ts → Good text ts i
+good (TextReads.end e) = good_end e
+good (TextReads.skip b r) = let g = good r in record { rows = g.rows; some = g.some; begins = omega (arith, g.begins); sound = g.sound; closed = g.closed }
+good (TextReads.token l r) = good_token l (good r)
 
 -- a list of at most 4,096 tokens that a text without bytes over 127 reads as
-pub reads_lent : {text ts : List ℕ} {i : ℕ} → Ascii text → Text-reads text i ts → count ts ≤ 4096 → Lent text ts
+pub reads_lent : {text ts : List ℕ} {i : ℕ} → Ascii text → TextReads text i ts → count ts ≤ 4096 → Lent text ts
 reads_lent a r h = let g = good r in record { whole = record { rows = g.rows; some = g.some; most = h }; ascii = a; sound = g.sound; closed = g.closed }
 
 -- the tokens of a list room that the maker leaves with code 0: those that the text reads as, and what checks 1, 2, 5, 6 and 7 let through
 pub record Made (text ts : List ℕ) : Type 0 where
   pub short : length text ≤ 65536
-  pub reads : Text-reads text 0 ts
+  pub reads : TextReads text 0 ts
   pub lent : Lent text ts
 
 pub made_list : {text room after : List ℕ} {a : Lexed} → Lexes text room a after → a.code ≡ 0 → Made text (take (3 * a.count) after)

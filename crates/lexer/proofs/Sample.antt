@@ -10,7 +10,7 @@ use Rattle.lexeme.specs.Parts.{Word}
 use Rattle.grammar.specs.Run.{Ran}
 use Rattle.lexeme.proofs.Keywords.{too_short}
 use Rattle.lexeme.proofs.Numbers.{rest_shy}
-use Rattle.lexer.specs.Reads.{Longest, Text-reads}
+use Rattle.lexer.specs.Reads.{Longest, TextReads}
 use Rattle.lexer.specs.Parts.{Spelt}
 use Rattle.lexer.proofs.Numbers.{lone_point}
 use Rattle.lexer.proofs.Sorts.{other_byte}
@@ -36,5 +36,5 @@ point = one_byte (other_byte 46 (λ z. omega arith) (λ z. omega arith) (λ z. a
 x : Longest text Identifier 2 3
 x = a_word refl (ended (byte_on (omega arith) refl) (many_stop (omega arith) (λ h. absurd (omega arith)))) (Word.name (too_short (bytes "x") (omega arith)))
 
-pub sample : Text-reads text 0 (NumberLiteral ∷ 0 ∷ 1 ∷ Dot ∷ 1 ∷ 2 ∷ Identifier ∷ 2 ∷ 3 ∷ Eof ∷ 3 ∷ 3 ∷ [])
-sample = Text-reads.token one (Text-reads.token point (Text-reads.token x (Text-reads.end refl)))
+pub sample : TextReads text 0 (NumberLiteral ∷ 0 ∷ 1 ∷ Dot ∷ 1 ∷ 2 ∷ Identifier ∷ 2 ∷ 3 ∷ Eof ∷ 3 ∷ 3 ∷ [])
+sample = TextReads.token one (TextReads.token point (TextReads.token x (TextReads.end refl)))

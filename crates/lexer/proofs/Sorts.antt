@@ -24,7 +24,7 @@ use Rattle.grammar.proofs.Ranges.{member}
 use Rattle.grammar.proofs.Matching.{literal_same}
 use Rattle.grammar.proofs.Tests.{both, as_true, within, same_means}
 use Rattle.lexer.specs.Reads.{blanks, blank}
-use Rattle.lexer.specs.Parts.{Other-byte}
+use Rattle.lexer.specs.Parts.{OtherByte}
 
 -- a text that is not empty, and its first byte
 pub record First (test : ℕ → Bool) (x : List ℕ) : Type 0 where
@@ -132,7 +132,7 @@ module _ {x : List ℕ} (b : ℕ) (xs : List ℕ) (cut : x ≡ b ∷ xs) where
           (rw s (matches_sound identifier (spelling k) m), Word.keyword (leb→le 22 k u) (leb→le k 39 w) s)
 
   -- any other byte, alone or with `=`
-  pub other_only : {k : ℕ} → Other-byte b → Sort x k → (k < 42) × (k ≡ NumberLiteral → ⊥) × (x ≡ spelling k) × ((x ≡ b ∷ []) ⊎ (x ≡ b ∷ 61 ∷ []))
+  pub other_only : {k : ℕ} → OtherByte b → Sort x k → (k < 42) × (k ≡ NumberLiteral → ⊥) × (x ≡ spelling k) × ((x ≡ b ∷ []) ⊎ (x ≡ b ∷ 61 ∷ []))
   unfolding spelling same
   other_only o (Sort.a_number m) = never_both (digit b) (as_true _ (at_head b xs (digit_first m) cut)) (rw o.no_digit tt)
   other_only o (Sort.a_string m) = absurd (o.no_quote (quoted (at_head b xs (quote_first m) cut)))
@@ -163,7 +163,7 @@ one_kind {x} {k} {l} b xs cut s t = go (digit b) refl (eqb b 34) refl (letter b)
     go false d true e a f = let z = eqb-true b 34 e in (quote_only b xs cut z s).0 ∙ sym (quote_only b xs cut z t).0
     go false d false e true f = one_word (letter_only b xs cut f s).1 (letter_only b xs cut f t).1
     go false d false e false f =
-        let o : Other-byte b = record { no_letter = f; no_digit = d; no_quote = eqb-false b 34 e } in
+        let o : OtherByte b = record { no_letter = f; no_digit = d; no_quote = eqb-false b 34 e } in
         let (h, n, y, u) = other_only b xs cut o s in
         let (i, m, z, v) = other_only b xs cut o t in
         one_spelling h n y i m z
@@ -176,5 +176,5 @@ outside low high x f = go (leb low x) refl
     go true e = lt-leb x high (f (leb-true low x e))
     go false e = refl
 
-pub other_byte : (x : ℕ) → (x ≡ 34 → ⊥) → (x ≡ 95 → ⊥) → (48 ≤ x → 57 < x) → (65 ≤ x → 90 < x) → (97 ≤ x → 122 < x) → Other-byte x
+pub other_byte : (x : ℕ) → (x ≡ 34 → ⊥) → (x ≡ 95 → ⊥) → (48 ≤ x → 57 < x) → (65 ≤ x → 90 < x) → (97 ≤ x → 122 < x) → OtherByte x
 other_byte x q u d a z = record { no_letter = rw (outside 97 122 x z, outside 65 90 x a, ne_eqb x 95 u); no_digit = outside 48 57 x d; no_quote = q }

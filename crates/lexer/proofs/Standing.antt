@@ -16,7 +16,7 @@ use Rattle.lexeme.proofs.Fitting.{spelled_pattern}
 use Rattle.grammar.proofs.Lexemes.{lexeme_none, lexeme_first, lexeme_length}
 use Rattle.grammar.proofs.Matching.{literal_made}
 use Rattle.lexer.specs.Reads.{Stands, Longest}
-use Rattle.lexer.specs.Parts.{Stretch-ends, Other-byte, Spelt}
+use Rattle.lexer.specs.Parts.{StretchEnds, OtherByte, Spelt}
 use Rattle.lexer.proofs.Sorts.{Sort, sort_of, not_empty, digit_only, quote_only, letter_only, other_only}
 
 module _ {text : List ℕ} {k i e : ℕ} where
@@ -31,18 +31,18 @@ module _ {text : List ℕ} {k i e : ℕ} where
   cut_there s = lexeme_first text i e (stands_some s) s.inside
 
 -- the longest stretch that matches p is the longest token where all that can stand there match p
-longest_by : {p : Pattern} {text : List ℕ} {k i r : ℕ} → Stretch-ends p text i r → k < Eof → Fits k (lexeme text i r) → ((l e : ℕ) → Stands text l i e → Matches p (lexeme text i e)) → Longest text k i r
+longest_by : {p : Pattern} {text : List ℕ} {k i r : ℕ} → StretchEnds p text i r → k < Eof → Fits k (lexeme text i r) → ((l e : ℕ) → Stands text l i e → Matches p (lexeme text i e)) → Longest text k i r
 longest_by {r = r} n h f only =
     record { stands = record { known = h; forward = n.forward; inside = n.inside; fits = f }; longest = λ l e s. elim (dec_lt r e) [ yes z ↦ absurd (n.longest e z s.inside (only l e s)) | no z ↦ omega arith ] }
 
 module _ {text : List ℕ} {i r : ℕ} where
-  pub a_number : digit (get_or text i 0) ≡ true → Stretch-ends number text i r → Longest text NumberLiteral i r
+  pub a_number : digit (get_or text i 0) ≡ true → StretchEnds number text i r → Longest text NumberLiteral i r
   a_number d n = longest_by n (omega arith) (record { lexeme = λ h. n.match; no_keyword = λ z. absurd (omega arith) }) (λ l e s. (digit_only _ _ (cut_there s) d (sort s)).1)
 
-  pub a_string : get_or text i 0 ≡ 34 → Stretch-ends string text i r → Longest text StringLiteral i r
+  pub a_string : get_or text i 0 ≡ 34 → StretchEnds string text i r → Longest text StringLiteral i r
   a_string q n = longest_by n (omega arith) (record { lexeme = λ h. n.match; no_keyword = λ z. absurd (omega arith) }) (λ l e s. (quote_only _ _ (cut_there s) q (sort s)).1)
 
-  pub no_string : get_or text i 0 ≡ 34 → Stretch-ends (maybe string) text i r → r ≡ i → (k e : ℕ) → Stands text k i e → ⊥
+  pub no_string : get_or text i 0 ≡ 34 → StretchEnds (maybe string) text i r → r ≡ i → (k e : ℕ) → Stands text k i e → ⊥
   no_string q n z k e s = let h = stands_some s in n.longest e (omega arith) s.inside (Matches.left (quote_only _ _ (cut_there s) q (sort s)).1)
 
 word_fits : {k : ℕ} {x : List ℕ} → Matches identifier x → Word x k → Fits k x
@@ -53,7 +53,7 @@ word_known : {k : ℕ} {x : List ℕ} → Word x k → k < Eof
 word_known (Word.keyword l h e) = omega arith
 word_known (Word.name n) = omega arith
 
-pub a_word : {text : List ℕ} {k i r : ℕ} → letter (get_or text i 0) ≡ true → Stretch-ends identifier text i r → Word (lexeme text i r) k → Longest text k i r
+pub a_word : {text : List ℕ} {k i r : ℕ} → letter (get_or text i 0) ≡ true → StretchEnds identifier text i r → Word (lexeme text i r) k → Longest text k i r
 a_word l n w = longest_by n (word_known w) (word_fits n.match w) (λ k e s. (letter_only _ _ (cut_there s) l (sort s)).0)
 
 -- a text that is the spelling of a kind fits it, unless it is empty
@@ -73,7 +73,7 @@ not_spelt (Spelt.sign h e) l = absurd (omega arith)
 not_spelt (Spelt.none f) l = f
 
 -- signs
-module _ {text : List ℕ} {i : ℕ} (o : Other-byte (get_or text i 0)) where
+module _ {text : List ℕ} {i : ℕ} (o : OtherByte (get_or text i 0)) where
   -- a token here is one byte, or two with `=` second
   one_or_two : {k e : ℕ} → Stands text k i e → ((e ≡ i + 1) × (get_or text i 0 ∷ [] ≡ spelling k)) ⊎ ((e ≡ i + 1 + 1) × (get_or text (i + 1) 0 ≡ 61) × (get_or text i 0 ∷ 61 ∷ [] ≡ spelling k))
   one_or_two {k} {e} s = let (h, n, x, y) = other_only _ _ (cut_there s) o (sort s) in ⊎_elim (λ z. inl (one z, sym z ∙ x)) (λ z. inr (two z, equals z, sym z ∙ x)) y

@@ -18,7 +18,7 @@ use Rattle.lexeme.proofs.Runs.{some_read, none_read}
 use Rattle.grammar.proofs.Lexemes.{at_first, at_end}
 use Rattle.grammar.proofs.Matching.{Shy, byte_then, either_says, many_none, many_on, only_empty, shy_nothing, then_nothing, whole_empty}
 use Rattle.grammar.proofs.Tests.{as_true}
-use Rattle.lexer.specs.Parts.{Stretch-ends}
+use Rattle.lexer.specs.Parts.{StretchEnds}
 
 -- a test that is not true is false
 pub unmatched : (p : Pattern) (xs : List ℕ) → (Matches p xs → ⊥) → matches p xs ≡ false
@@ -41,7 +41,7 @@ pub record Becomes (p q : Pattern) (text : List ℕ) (i j : ℕ) : Type 0 where
 pub becomes_then : {p q s : Pattern} {text : List ℕ} {i j k : ℕ} → Becomes p q text i j → Becomes q s text j k → Becomes p s text i k
 becomes_then b d = record { onward = omega (arith, b.onward, d.onward); alike = λ e h m. b.alike e (omega (arith, d.onward)) m ∙ d.alike e h m }
 
-pub ended : {p q : Pattern} {text : List ℕ} {i j r : ℕ} → Becomes p q text i j → Stretch-ends q text j r → Stretch-ends p text i r
+pub ended : {p q : Pattern} {text : List ℕ} {i j r : ℕ} → Becomes p q text i j → StretchEnds q text j r → StretchEnds p text i r
 ended {p} {q} {text} {i} {j} {r} b n =
     record {
       forward = omega (arith, b.onward, n.forward);
@@ -51,15 +51,15 @@ ended {p} {q} {text} {i} {j} {r} b n =
     }
 
 -- the longest match is the empty one
-pub stays : {p : Pattern} {text : List ℕ} {i : ℕ} → i ≤ length text → matches p [] ≡ true → ((e : ℕ) → i < e → e ≤ length text → matches p (lexeme text i e) ≡ false) → Stretch-ends p text i i
+pub stays : {p : Pattern} {text : List ℕ} {i : ℕ} → i ≤ length text → matches p [] ≡ true → ((e : ℕ) → i < e → e ≤ length text → matches p (lexeme text i e) ≡ false) → StretchEnds p text i i
 stays {p} {text} {i} h n f = record { forward = omega arith; inside = h; match = matched p (lexeme text i i) (at_end p text i i refl ∙ n); longest = λ e l m. unlike (f e l m) }
 
 -- at the text's end there is no other
-pub at_text_end : {p : Pattern} {text : List ℕ} {i : ℕ} → i ≡ length text → matches p [] ≡ true → Stretch-ends p text i i
+pub at_text_end : {p : Pattern} {text : List ℕ} {i : ℕ} → i ≡ length text → matches p [] ≡ true → StretchEnds p text i i
 at_text_end h n = stays (omega arith) n (λ e l m. absurd (omega arith))
 
 -- nothing more is asked for
-pub ends_nothing : {text : List ℕ} {i : ℕ} → i ≤ length text → Stretch-ends Pattern.nothing text i i
+pub ends_nothing : {text : List ℕ} {i : ℕ} → i ≤ length text → StretchEnds Pattern.nothing text i i
 ends_nothing {text} {i} h = stays h (whole_empty [] refl) (λ e l m. at_first Pattern.nothing text i e l m ∙ only_empty _ _)
 
 -- what may be left out
@@ -69,14 +69,14 @@ maybe_some p text i e h m = either_says p Pattern.nothing (lexeme text i e) ∙ 
 maybe_none : (p : Pattern) → matches (maybe p) [] ≡ true
 maybe_none p = as_true _ (matches_whole (maybe p) [] (Matches.right Matches.nothing))
 
-pub left_out : {p : Pattern} {text : List ℕ} {i : ℕ} → i ≤ length text → ((e : ℕ) → i < e → e ≤ length text → matches p (lexeme text i e) ≡ false) → Stretch-ends (maybe p) text i i
+pub left_out : {p : Pattern} {text : List ℕ} {i : ℕ} → i ≤ length text → ((e : ℕ) → i < e → e ≤ length text → matches p (lexeme text i e) ≡ false) → StretchEnds (maybe p) text i i
 left_out {p} {text} {i} h f = stays h (maybe_none p) (λ e l m. maybe_some p text i e l m ∙ f e l m)
 
-pub put_in : {p : Pattern} {text : List ℕ} {i r : ℕ} → Stretch-ends p text i r → Stretch-ends (maybe p) text i r
+pub put_in : {p : Pattern} {text : List ℕ} {i r : ℕ} → StretchEnds p text i r → StretchEnds (maybe p) text i r
 put_in {p} {text} {i} {r} n =
     record { forward = n.forward; inside = n.inside; match = Matches.left n.match; longest = λ e h m. unlike (maybe_some p text i e (omega (arith, n.forward)) m ∙ unmatched p (lexeme text i e) (n.longest e h m)) }
 
-pub taken_out : {p : Pattern} {text : List ℕ} {i r : ℕ} → Stretch-ends (maybe p) text i r → (r ≡ i → ⊥) → Stretch-ends p text i r
+pub taken_out : {p : Pattern} {text : List ℕ} {i r : ℕ} → StretchEnds (maybe p) text i r → (r ≡ i → ⊥) → StretchEnds p text i r
 taken_out {p} {text} {i} {r} n apart =
     record {
       forward = n.forward;
@@ -86,18 +86,18 @@ taken_out {p} {text} {i} {r} n apart =
     }
 
 -- a first byte that is taken, with what follows it or, where that is missing, not at all
-pub taken_on : {p q : Pattern} {text : List ℕ} {i j r : ℕ} → Becomes p q text i j → Stretch-ends (maybe q) text j r → (r ≡ j → ⊥) → Stretch-ends (maybe p) text i r
+pub taken_on : {p q : Pattern} {text : List ℕ} {i j r : ℕ} → Becomes p q text i j → StretchEnds (maybe q) text j r → (r ≡ j → ⊥) → StretchEnds (maybe p) text i r
 taken_on b n apart = put_in (ended b (taken_out n apart))
 
 -- q is missing from j on
-pub missing : {q : Pattern} {text : List ℕ} {j r : ℕ} → Stretch-ends (maybe q) text j r → r ≡ j → matches q [] ≡ false → (e : ℕ) → j ≤ e → e ≤ length text → matches q (lexeme text j e) ≡ false
+pub missing : {q : Pattern} {text : List ℕ} {j r : ℕ} → StretchEnds (maybe q) text j r → r ≡ j → matches q [] ≡ false → (e : ℕ) → j ≤ e → e ≤ length text → matches q (lexeme text j e) ≡ false
 missing {q} {text} {j} {r} n z none e h m = go (eqb j e) refl
   where
     go : (b : Bool) → eqb j e ≡ b → matches q (lexeme text j e) ≡ false
     go true y = at_end q text j e (eqb-true j e y) ∙ none
     go false y = let apart : j ≡ e → ⊥ = eqb-false j e y in unmatched q _ (λ x. n.longest e (omega arith) m (Matches.left x))
 
-pub given_back : {p q : Pattern} {text : List ℕ} {i r : ℕ} → i < length text → Becomes p q text i (i + 1) → Stretch-ends (maybe q) text (i + 1) r → r ≡ i + 1 → matches q [] ≡ false → Stretch-ends (maybe p) text i i
+pub given_back : {p q : Pattern} {text : List ℕ} {i r : ℕ} → i < length text → Becomes p q text i (i + 1) → StretchEnds (maybe q) text (i + 1) r → r ≡ i + 1 → matches q [] ≡ false → StretchEnds (maybe p) text i i
 given_back {i = i} h b n z none = left_out (omega arith) (λ e l m. b.alike e (omega arith) m ∙ missing n z none e (omega arith) m)
 
 -- one byte
@@ -109,7 +109,7 @@ module _ {test : ℕ → Bool} {text : List ℕ} {i : ℕ} where
   pub many_more : i < length text → test (get_or text i 0) ≡ true → Becomes (many (byte test)) (many (byte test)) text i (i + 1)
   many_more h t = record { onward = omega arith; alike = λ e l m. at_first (many (byte test)) text i e (omega arith) m ∙ many_on test _ _ ∙ rw t }
 
-  pub many_stop : i ≤ length text → (i < length text → test (get_or text i 0) ≡ false) → Stretch-ends (many (byte test)) text i i
+  pub many_stop : i ≤ length text → (i < length text → test (get_or text i 0) ≡ false) → StretchEnds (many (byte test)) text i i
   many_stop h f = stays h (many_none (byte test)) (λ e l m. at_first (many (byte test)) text i e l m ∙ many_on test _ _ ∙ rw (f (omega arith)))
 
 -- a run to the text's end is a run to any end past it
@@ -143,10 +143,10 @@ module _ {test : ℕ → Bool} {text : List ℕ} {i r : ℕ} (ran : Ran test tex
   run_none {q} shy z e h m = none_read test q shy text i e r h m (ran_to e run_forward (omega arith) m) z
 
   -- a run that is all, or none
-  pub run_ends : Stretch-ends (maybe (some (byte test))) text i r
+  pub run_ends : StretchEnds (maybe (some (byte test))) text i r
   run_ends = go (eqb r i) refl
     where
-      go : (b : Bool) → eqb r i ≡ b → Stretch-ends (maybe (some (byte test))) text i r
+      go : (b : Bool) → eqb r i ≡ b → StretchEnds (maybe (some (byte test))) text i r
       go true y =
           let z : r ≡ i = eqb-true r i y in
           rw z (left_out (omega (arith, ran.within)) (λ e l m. sym (then_nothing (some (byte test)) (lexeme text i e)) ∙ run_none (shy_nothing test) z e (omega arith) m))

@@ -15,7 +15,7 @@ use Rattle.grammar.specs.Token.{lexeme}
 use Rattle.lexeme.specs.Parts.{inside}
 use Rattle.lexeme.proofs.Texts.{inside_quote, inside_plain, inside_cut, inside_escape, inside_open}
 use Rattle.grammar.proofs.Lexemes.{lexeme_none, lexeme_first, at_first, at_end}
-use Rattle.lexer.specs.Parts.{Stretch-ends}
+use Rattle.lexer.specs.Parts.{StretchEnds}
 use Rattle.lexer.proofs.Stretches.{Becomes, becomes_then, ended, ends_nothing, left_out, put_in, byte_on}
 
 -- no stretch that ends before `at` is a string, and one that ends later is where the rest of it is the inside of one
@@ -50,18 +50,18 @@ module _ {text : List ℕ} {start at : ℕ} (o : Open text start at) where
       further (record { onward = omega arith; alike = λ e l m. two_bytes text at e b (omega arith) m ∙ rw (ne_eqb (get_or text (at + 1) 0) 10 n) }) (omega arith)
       (λ e l m. elim (dec_lt at e) [ yes k ↦ after_backslash text at e b (omega arith) (omega arith) | no k ↦ ends_here text at e (omega arith) ])
 
-  pub closed : at < length text → get_or text at 0 ≡ 34 → Stretch-ends (maybe string) text start (at + 1)
+  pub closed : at < length text → get_or text at 0 ≡ 34 → StretchEnds (maybe string) text start (at + 1)
   closed h q = put_in (ended (becomes_then o.on (record { onward = omega arith; alike = λ e l m. at_first inside text at e (omega arith) m ∙ inside_quote _ _ q })) (ends_nothing (omega arith)))
 
   -- it is never closed
-  never : ((e : ℕ) → at ≤ e → e ≤ length text → matches inside (lexeme text at e) ≡ false) → Stretch-ends (maybe string) text start start
+  never : ((e : ℕ) → at ≤ e → e ≤ length text → matches inside (lexeme text at e) ≡ false) → StretchEnds (maybe string) text start start
   never f = left_out (omega (arith, o.within, o.on.onward)) (λ e l m. elim (dec_lt e at) [ yes h ↦ o.none e l h | no h ↦ o.on.alike e (omega arith) m ∙ f e (omega arith) m ])
 
-  pub ends_open : length text ≤ at → Stretch-ends (maybe string) text start start
+  pub ends_open : length text ≤ at → StretchEnds (maybe string) text start start
   ends_open h = never (λ e l m. ends_here text at e (omega arith))
 
-  pub ends_cut : get_or text at 0 ≡ 92 → at + 1 ≡ length text → Stretch-ends (maybe string) text start start
+  pub ends_cut : get_or text at 0 ≡ 92 → at + 1 ≡ length text → StretchEnds (maybe string) text start start
   ends_cut b h = never (λ e l m. elim (dec_lt at e) [ yes k ↦ after_backslash text at e b (omega arith) m | no k ↦ ends_here text at e (omega arith) ])
 
-  pub ends_broken : get_or text at 0 ≡ 92 → get_or text (at + 1) 0 ≡ 10 → Stretch-ends (maybe string) text start start
+  pub ends_broken : get_or text at 0 ≡ 92 → get_or text (at + 1) 0 ≡ 10 → StretchEnds (maybe string) text start start
   ends_broken b n = never (λ e l m. elim (dec_lt (at + 1) e) [ yes k ↦ two_bytes text at e b k m ∙ rw n | no k ↦ elim (dec_lt at e) [ yes i ↦ after_backslash text at e b (omega arith) m | no i ↦ ends_here text at e (omega arith) ] ])

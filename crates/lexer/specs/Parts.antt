@@ -9,14 +9,14 @@ use Rattle.lexer.specs.Reads.{Stands, Longest}
 use Rattle.lexer.specs.declared.Found.{Found}
 
 -- the longest stretch from i that matches p ends at r
-pub record Stretch-ends (p : Pattern) (text : List ℕ) (i r : ℕ) : Type 0 where
+pub record StretchEnds (p : Pattern) (text : List ℕ) (i r : ℕ) : Type 0 where
   pub forward : i ≤ r
   pub inside : r ≤ length text
   pub match : Matches p (lexeme text i r)
   pub longest : (e : ℕ) → r < e → e ≤ length text → Matches p (lexeme text i e) → ⊥
 
 -- no word, number or string starts with this byte
-pub record Other-byte (x : ℕ) : Type 0 where
+pub record OtherByte (x : ℕ) : Type 0 where
   pub no_letter : letter x ≡ false
   pub no_digit : digit x ≡ false
   pub no_quote : x ≡ 34 → ⊥

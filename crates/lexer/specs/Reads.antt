@@ -31,10 +31,10 @@ pub record Blank (text : List ℕ) (i : ℕ) : Type 0 where
   pub test : T (blank (get_or text i 0))
 
 -- the text from i on reads as these tokens, three numbers each
-pub data Text-reads (text : List ℕ) : ℕ → List ℕ → Type 0 where
-  end : {i : ℕ} → i ≡ length text → Text-reads text i (Eof ∷ i ∷ i ∷ [])
-  skip : {i : ℕ} {ts : List ℕ} → Blank text i → Text-reads text (suc i) ts → Text-reads text i ts
-  token : {k i e : ℕ} {ts : List ℕ} → Longest text k i e → Text-reads text e ts → Text-reads text i (k ∷ i ∷ e ∷ ts)
+pub data TextReads (text : List ℕ) : ℕ → List ℕ → Type 0 where
+  end : {i : ℕ} → i ≡ length text → TextReads text i (Eof ∷ i ∷ i ∷ [])
+  skip : {i : ℕ} {ts : List ℕ} → Blank text i → TextReads text (suc i) ts → TextReads text i ts
+  token : {k i e : ℕ} {ts : List ℕ} → Longest text k i e → TextReads text e ts → TextReads text i (k ∷ i ∷ e ∷ ts)
 
 -- reading the text from i on, j is the first byte where no token starts
 pub data Stops (text : List ℕ) : ℕ → ℕ → Type 0 where

@@ -5,7 +5,7 @@ ghost use Rattle.grammar.specs.Pattern.{digit, maybe};
 ghost use Rattle.lexeme.specs.Parts.{signed, power};
 ghost use Rattle.spelling.specs.Words.{table};
 ghost use Rattle.lexer.specs.Reads.{blank};
-ghost use Rattle.lexer.specs.Parts.{Stretch-ends, Other-byte, Spelt, Starts};
+ghost use Rattle.lexer.specs.Parts.{StretchEnds, OtherByte, Spelt, Starts};
 
 use crate::Found;
 use lexeme::{digits, is_letter_or_digit, keyword};
@@ -46,7 +46,7 @@ pub(crate) fn token_at(words: &[u8], text: &[u8], start: usize) -> Found
 // The end of the word that starts with a letter: [a-zA-Z_][a-zA-Z0-9_]*
 fn word_end(words: &[u8], text: &[u8], start: usize) -> usize
     requires { (words.now ≡ table) × (start < length text.now) × (letter (get_or text.now start 0) ≡ true) }
-    ensures { Stretch-ends identifier text.now start result }
+    ensures { StretchEnds identifier text.now start result }
 {
     let mut at = start + 1;
     while at < text.len() {
@@ -61,7 +61,7 @@ fn word_end(words: &[u8], text: &[u8], start: usize) -> usize
 // The end of the number that starts with a digit: [0-9]+(\.[0-9]+)?([eE][+-]?[0-9]+)?
 fn number_end(text: &[u8], start: usize) -> usize
     requires { (start < length text.now) × (digit (get_or text.now start 0) ≡ true) }
-    ensures { Stretch-ends number text.now start result }
+    ensures { StretchEnds number text.now start result }
 {
     let at = digits(text, start, text.len());
     if at == text.len() {
@@ -82,7 +82,7 @@ fn number_end(text: &[u8], start: usize) -> usize
 // The end of an exponent, [eE][+-]?[0-9]+, or the start where there is none.
 fn power_end(text: &[u8], start: usize) -> usize
     requires { start ≤ length text.now }
-    ensures { Stretch-ends (maybe power) text.now start result }
+    ensures { StretchEnds (maybe power) text.now start result }
 {
     if start == text.len() {
         return start;
@@ -103,7 +103,7 @@ fn power_end(text: &[u8], start: usize) -> usize
 // The end of digits with a sign or none, or the start where there is none.
 fn signed_end(text: &[u8], start: usize) -> usize
     requires { start ≤ length text.now }
-    ensures { Stretch-ends (maybe signed) text.now start result }
+    ensures { StretchEnds (maybe signed) text.now start result }
 {
     if start == text.len() {
         return start;
@@ -124,7 +124,7 @@ fn signed_end(text: &[u8], start: usize) -> usize
 // The end of the string that starts with a quote, or the start where it is not closed.
 fn string_end(text: &[u8], start: usize) -> usize
     requires { (start < length text.now) × (get_or text.now start 0 ≡ 34) }
-    ensures { Stretch-ends (maybe string) text.now start result }
+    ensures { StretchEnds (maybe string) text.now start result }
 {
     let mut at = start + 1;
     while at < text.len() {
@@ -150,7 +150,7 @@ fn string_end(text: &[u8], start: usize) -> usize
 
 // The sign that starts at a byte: with `=` after it, or alone.
 fn sign_at(text: &[u8], start: usize) -> Found
-    requires { (start < length text.now) × Other-byte (get_or text.now start 0) }
+    requires { (start < length text.now) × OtherByte (get_or text.now start 0) }
     ensures { Starts text.now start result }
 {
     let first = text[start];

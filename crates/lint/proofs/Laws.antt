@@ -19,8 +19,8 @@ use Rattle.grammar.specs.Token.{count, kind, start, end}
 use Rattle.spelling.specs.Decides.{Decides}
 use Rattle.spelling.proofs.Deciding.{holds, fails, carried}
 use Rattle.diagnostics.specs.Line.{ends}
-use Rattle.lint.specs.Reach.{number, kind_of, start_of, end_of, parent_of, last_numbers, last, Takes, next, Ends, here, Past, First-past, left_number, Sign, opens, closes, counted, after, brackets, encloses, enclosing, in_block}
-use Rattle.lint.specs.Rules.{Line-ends, On-new-line, joining, closed, going_on, Reached, Reaching-not, Cut-at, Cut-off, GoingOn, Long-string, Any, Next}
+use Rattle.lint.specs.Reach.{number, kind_of, start_of, end_of, parent_of, last_numbers, last, Takes, next, Ends, here, Past, FirstPast, left_number, Sign, opens, closes, counted, after, brackets, encloses, enclosing, in_block}
+use Rattle.lint.specs.Rules.{LineEnds, OnNewLine, joining, closed, going_on, Reached, ReachingNot, CutAt, CutOff, GoingOn, LongString, Any, Next}
 
 -- a search from a number on: it has come to i, and none of those before is what is looked for
 pub record Passed (P : ℕ → Type 0) (from i : ℕ) : Type 0 where
@@ -46,29 +46,29 @@ past_text : (text : List ℕ) (i : ℕ) → length text ≤ i → ends text i �
 unfolding ends
 past_text text i l = rw (get_or-eq_default text 0 l) refl
 
-pub line_found : {text : List ℕ} {from upto i : ℕ} → Passed (λ j. ends text j ≡ true) from i → i < upto → ends text i ≡ true → Decides (Line-ends text from upto) true
+pub line_found : {text : List ℕ} {from upto i : ℕ} → Passed (λ j. ends text j ≡ true) from i → i < upto → ends text i ≡ true → Decides (LineEnds text from upto) true
 line_found {i = i} s l e = holds (record { at = i; after = s.reached; before = l; there = e })
 
-pub no_line : {text : List ℕ} {from upto i : ℕ} → Passed (λ j. ends text j ≡ true) from i → upto ≤ i → Decides (Line-ends text from upto) false
+pub no_line : {text : List ℕ} {from upto i : ℕ} → Passed (λ j. ends text j ≡ true) from i → upto ≤ i → Decides (LineEnds text from upto) false
 no_line s l = fails λ r. s.none r.at r.after (omega (arith, r.before)) r.there
 
-pub no_text : {text : List ℕ} {from upto i : ℕ} → Passed (λ j. ends text j ≡ true) from i → length text ≤ i → Decides (Line-ends text from upto) false
+pub no_text : {text : List ℕ} {from upto i : ℕ} → Passed (λ j. ends text j ≡ true) from i → length text ≤ i → Decides (LineEnds text from upto) false
 no_text {text} {from} {upto} {i} s l = fails go
   where
-    go : Line-ends text from upto → ⊥
+    go : LineEnds text from upto → ⊥
     go r = elim (dec_lt r.at i) [ yes h ↦ s.none r.at r.after h r.there | no h ↦ false≢true (sym (past_text text r.at (omega arith)) ∙ r.there) ]
 
 -- a token on a new line
-pub first_token : {text ts : List ℕ} {k : ℕ} → k ≡ 0 → Decides (On-new-line text ts k) false
+pub first_token : {text ts : List ℕ} {k : ℕ} → k ≡ 0 → Decides (OnNewLine text ts k) false
 first_token e = fails λ r. absurd (omega (arith, r.second))
 
-pub no_token : {text ts : List ℕ} {k : ℕ} → count ts ≤ k → Decides (On-new-line text ts k) false
+pub no_token : {text ts : List ℕ} {k : ℕ} → count ts ≤ k → Decides (OnNewLine text ts k) false
 no_token l = fails λ r. absurd (omega (arith, r.inside))
 
-pub in_brackets : {text ts : List ℕ} {k : ℕ} → in_block ts k ≡ false → Decides (On-new-line text ts k) false
+pub in_brackets : {text ts : List ℕ} {k : ℕ} → in_block ts k ≡ false → Decides (OnNewLine text ts k) false
 in_brackets f = fails λ r. not_both f r.level
 
-pub between : {text ts : List ℕ} {k s e : ℕ} {r : Bool} → 0 < k → k < count ts → in_block ts k ≡ true → e ≡ end ts (k - 1) → s ≡ start ts k → Decides (Line-ends text e s) r → Decides (On-new-line text ts k) r
+pub between : {text ts : List ℕ} {k s e : ℕ} {r : Bool} → 0 < k → k < count ts → in_block ts k ≡ true → e ≡ end ts (k - 1) → s ≡ start ts k → Decides (LineEnds text e s) r → Decides (OnNewLine text ts k) r
 between l h i e s d = carried (λ b. record { second = l; inside = h; level = i; breaks = rw (sym e) (rw (sym s) b) }) (λ n. rw e (rw s n.breaks)) d
 
 -- what a row takes last
@@ -104,23 +104,23 @@ past_at e l d = carried (λ o. record { from = omega (arith, l, e); other = o })
 pub not_past : {ts : List ℕ} {offset k s : ℕ} → s ≡ start ts k → s < offset → Decides (Past ts offset k) false
 not_past e l = fails λ p. absurd (omega (arith, e, l, p.from))
 
-no_earlier : {ts : List ℕ} {offset k l : ℕ} → First-past ts offset k → First-past ts offset l → k < l → ⊥
+no_earlier : {ts : List ℕ} {offset k l : ℕ} → FirstPast ts offset k → FirstPast ts offset l → k < l → ⊥
 no_earlier {ts} {k = k} f g h = let i : k < count ts = omega (arith, g.within) in g.least k h (f.past i)
 
-pub one_first : {ts : List ℕ} {offset k l : ℕ} → First-past ts offset k → First-past ts offset l → k ≡ l
+pub one_first : {ts : List ℕ} {offset k l : ℕ} → FirstPast ts offset k → FirstPast ts offset l → k ≡ l
 one_first {k = k} {l} f g = elim (dec_lt k l) [ yes h ↦ absurd (no_earlier f g h) | no h ↦ elim (dec_lt l k) [ yes i ↦ absurd (no_earlier g f i) | no i ↦ omega arith ] ]
 
-pub first_found : {ts : List ℕ} {offset k : ℕ} → Passed (Past ts offset) 0 k → k < count ts → Past ts offset k → First-past ts offset k
+pub first_found : {ts : List ℕ} {offset k : ℕ} → Passed (Past ts offset) 0 k → k < count ts → Past ts offset k → FirstPast ts offset k
 first_found s l p = record { within = omega arith; past = λ _. p; least = λ j h q. s.none j (omega arith) h q }
 
-pub first_none : {ts : List ℕ} {offset k n : ℕ} → n ≡ count ts → Passed (Past ts offset) 0 k → n ≤ k → First-past ts offset n
+pub first_none : {ts : List ℕ} {offset k n : ℕ} → n ≡ count ts → Passed (Past ts offset) 0 k → n ≤ k → FirstPast ts offset n
 first_none e s l = record { within = omega (arith, e); past = λ h. absurd (omega (arith, e)); least = λ j h q. s.none j (omega arith) (omega arith) q }
 
 -- the sign
 pub one_sign : {ts nodes : List ℕ} {row k l : ℕ} → Sign ts nodes row k → Sign ts nodes row l → k ≡ l
-one_sign {ts} {nodes} s t = one_first s.first (subst (λ y. First-past ts (end_of nodes y) _) (one_end t.ends s.ends) t.first)
+one_sign {ts} {nodes} s t = one_first s.first (subst (λ y. FirstPast ts (end_of nodes y) _) (one_end t.ends s.ends) t.first)
 
-pub sign_at : {ts nodes : List ℕ} {row k x end offset place left : ℕ} → x ≡ kind_of nodes row → place ≡ left_number x → left ≡ number nodes row place → Ends nodes left end → offset ≡ end_of nodes end → First-past ts offset k → Sign ts nodes row k
+pub sign_at : {ts nodes : List ℕ} {row k x end offset place left : ℕ} → x ≡ kind_of nodes row → place ≡ left_number x → left ≡ number nodes row place → Ends nodes left end → offset ≡ end_of nodes end → FirstPast ts offset k → Sign ts nodes row k
 sign_at {end = end} x p l e o f = record { end = end; ends = rw (sym x) (rw (sym p) (rw (sym l) e)); first = rw (sym o) f }
 
 -- brackets: no more are open than there are tokens
@@ -236,60 +236,60 @@ reached_by {ts} {nodes} {row} {x} {k = k} {s} {n} y i v t e b = go (ℕ_discrete
     go (yes z) = rw z (holds (record { joined = rw y at (sym i ∙ v); token = k; sign = t; bare = at ∙ z }))
     go (no z) = rw (ne_eqb n 0 z) (fails λ r. z (sym at ∙ subst (λ i. brackets ts (start_of nodes row) i ≡ 0) (one_sign r.sign t) r.bare))
 
-pub reaching_from : {ts nodes : List ℕ} {row x above k : ℕ} → k ≡ kind_of nodes row → k ≡ number_of (Node.LogicalNot Edition.first) → Walked nodes (Reached ts nodes row) row above → x ≡ last nodes above → x < above → Reached ts nodes row x → Decides (Reaching-not ts nodes row) true
+pub reaching_from : {ts nodes : List ℕ} {row x above k : ℕ} → k ≡ kind_of nodes row → k ≡ number_of (Node.LogicalNot Edition.first) → Walked nodes (Reached ts nodes row) row above → x ≡ last nodes above → x < above → Reached ts nodes row x → Decides (ReachingNot ts nodes row) true
 reaching_from {nodes = nodes} {x = x} {above} e n w l h r = holds (record { not = sym e ∙ n; taken = x; takes = w.on x (rw l (Takes.next {row = above} (rw (sym l) h))); reached = r })
 
-pub no_not : {ts nodes : List ℕ} {row k : ℕ} → k ≡ kind_of nodes row → (k ≡ number_of (Node.LogicalNot Edition.first) → ⊥) → Decides (Reaching-not ts nodes row) false
+pub no_not : {ts nodes : List ℕ} {row k : ℕ} → k ≡ kind_of nodes row → (k ≡ number_of (Node.LogicalNot Edition.first) → ⊥) → Decides (ReachingNot ts nodes row) false
 no_not e n = fails λ r. n (e ∙ r.not)
 
-pub reaching_nothing : {ts nodes : List ℕ} {row x above : ℕ} → Walked nodes (Reached ts nodes row) row above → x ≡ last nodes above → above ≤ x → Decides (Reaching-not ts nodes row) false
+pub reaching_nothing : {ts nodes : List ℕ} {row x above : ℕ} → Walked nodes (Reached ts nodes row) row above → x ≡ last nodes above → above ≤ x → Decides (ReachingNot ts nodes row) false
 reaching_nothing w l h = fails λ r. stops w l h r.taken r.takes r.reached
 
 pub not_joined : {ts nodes : List ℕ} {row x y : ℕ} {b : Bool} → y ≡ kind_of nodes x → b ≡ among joining y → b ≡ false → Decides (Reached ts nodes row x) false
 not_joined y j f = fails λ r. not_both (rw y at (sym j ∙ f)) r.joined
 
 -- Rule 2
-pub cut_elsewhere : {ts : List ℕ} {offset k e : ℕ} → e ≡ end ts k → (e ≡ offset → ⊥) → Decides (Cut-at ts offset k) false
+pub cut_elsewhere : {ts : List ℕ} {offset k e : ℕ} → e ≡ end ts k → (e ≡ offset → ⊥) → Decides (CutAt ts offset k) false
 cut_elsewhere e n = fails λ r. n (e ∙ r.last)
 
-pub no_brace : {ts : List ℕ} {offset k x : ℕ} → x ≡ kind ts k → (x ≡ RightBrace → ⊥) → Decides (Cut-at ts offset k) false
+pub no_brace : {ts : List ℕ} {offset k x : ℕ} → x ≡ kind ts k → (x ≡ RightBrace → ⊥) → Decides (CutAt ts offset k) false
 no_brace e n = fails λ r. n (e ∙ r.brace)
 
-pub cut_here : {ts : List ℕ} {offset k e x y : ℕ} {r : Bool} → k + 1 < count ts → e ≡ end ts k → e ≡ offset → x ≡ kind ts k → x ≡ RightBrace → y ≡ kind ts (k + 1) → r ≡ among going_on y → Decides (Cut-at ts offset k) r
+pub cut_here : {ts : List ℕ} {offset k e x y : ℕ} {r : Bool} → k + 1 < count ts → e ≡ end ts k → e ≡ offset → x ≡ kind ts k → x ≡ RightBrace → y ≡ kind ts (k + 1) → r ≡ among going_on y → Decides (CutAt ts offset k) r
 cut_here l e f x b y g = carried (λ t. record { inside = l; last = sym e ∙ f; brace = sym x ∙ b; next = t }) (λ c. c.next) (is_true (g ∙ ap (λ (i : ℕ). among going_on i) y))
 
-pub not_closed : {ts nodes : List ℕ} {row x : ℕ} {b : Bool} → x ≡ kind_of nodes row → b ≡ among closed x → b ≡ false → Decides (Cut-off ts nodes row) false
+pub not_closed : {ts nodes : List ℕ} {row x : ℕ} {b : Bool} → x ≡ kind_of nodes row → b ≡ among closed x → b ≡ false → Decides (CutOff ts nodes row) false
 not_closed x c f = fails λ r. not_both (rw x at (sym c ∙ f)) r.own
 
-pub no_statement : {ts nodes : List ℕ} {row p x : ℕ} → p ≡ parent_of nodes row → x ≡ kind_of nodes p → (x ≡ number_of Node.Block → ⊥) → Decides (Cut-off ts nodes row) false
+pub no_statement : {ts nodes : List ℕ} {row p x : ℕ} → p ≡ parent_of nodes row → x ≡ kind_of nodes p → (x ≡ number_of Node.Block → ⊥) → Decides (CutOff ts nodes row) false
 no_statement {nodes = nodes} p x n = fails λ r. n (x ∙ ap (λ (i : ℕ). kind_of nodes i) p ∙ r.statement)
 
-pub cut_found : {ts nodes : List ℕ} {row y p x e k : ℕ} {b : Bool} → y ≡ kind_of nodes row → b ≡ among closed y → b ≡ true → p ≡ parent_of nodes row → x ≡ kind_of nodes p → x ≡ number_of Node.Block → e ≡ end_of nodes row → Cut-at ts e k → Decides (Cut-off ts nodes row) true
+pub cut_found : {ts nodes : List ℕ} {row y p x e k : ℕ} {b : Bool} → y ≡ kind_of nodes row → b ≡ among closed y → b ≡ true → p ≡ parent_of nodes row → x ≡ kind_of nodes p → x ≡ number_of Node.Block → e ≡ end_of nodes row → CutAt ts e k → Decides (CutOff ts nodes row) true
 cut_found {nodes = nodes} {k = k} y o t p x b e c = holds (record { own = rw y at (sym o ∙ t); statement = sym (ap (λ (i : ℕ). kind_of nodes i) p) ∙ sym x ∙ b; token = k; cut = rw (sym e) c })
 
-pub cut_nowhere : {ts nodes : List ℕ} {row e k : ℕ} → e ≡ end_of nodes row → Passed (Cut-at ts e) 0 k → count ts ≤ k + 1 → Decides (Cut-off ts nodes row) false
+pub cut_nowhere : {ts nodes : List ℕ} {row e k : ℕ} → e ≡ end_of nodes row → Passed (CutAt ts e) 0 k → count ts ≤ k + 1 → Decides (CutOff ts nodes row) false
 cut_nowhere {ts} {k = k} e s l = fails λ r. let c = rw (sym e) at r.cut in s.none r.token (omega arith) (omega (arith, c.inside, l)) c
 
 -- Rule 3
-pub call_goes_on : {text ts nodes : List ℕ} {row x s k : ℕ} {r : Bool} → x ≡ kind_of nodes row → x ≡ number_of Node.FunctionCall → s ≡ start_of nodes row → First-past ts s k → Decides (On-new-line text ts k) r → Decides (GoingOn text ts nodes row) r
+pub call_goes_on : {text ts nodes : List ℕ} {row x s k : ℕ} {r : Bool} → x ≡ kind_of nodes row → x ≡ number_of Node.FunctionCall → s ≡ start_of nodes row → FirstPast ts s k → Decides (OnNewLine text ts k) r → Decides (GoingOn text ts nodes row) r
 call_goes_on {text} {ts} {nodes} {row} {x} {s} {k} e c i f d = carried to back d
   where
-    to : On-new-line text ts k → GoingOn text ts nodes row
+    to : OnNewLine text ts k → GoingOn text ts nodes row
     to n = inl (record { call = sym e ∙ c; token = k; opening = rw (sym i) f; line = n })
 
-    back : GoingOn text ts nodes row → On-new-line text ts k
-    back (inl g) = subst (On-new-line text ts) (one_first g.opening (rw (sym i) f)) g.line
+    back : GoingOn text ts nodes row → OnNewLine text ts k
+    back (inl g) = subst (OnNewLine text ts) (one_first g.opening (rw (sym i) f)) g.line
     back (inr g) = absurd (omega (arith, e, c, g.binary))
 
-pub sum_goes_on : {text ts nodes : List ℕ} {row x o k : ℕ} {r : Bool} → x ≡ kind_of nodes row → x ≡ number_of Node.Binary → o ≡ number nodes row 3 → o ≤ 1 → Sign ts nodes row k → Decides (On-new-line text ts k) r → Decides (GoingOn text ts nodes row) r
+pub sum_goes_on : {text ts nodes : List ℕ} {row x o k : ℕ} {r : Bool} → x ≡ kind_of nodes row → x ≡ number_of Node.Binary → o ≡ number nodes row 3 → o ≤ 1 → Sign ts nodes row k → Decides (OnNewLine text ts k) r → Decides (GoingOn text ts nodes row) r
 sum_goes_on {text} {ts} {nodes} {row} {x} {o} {k} e b p l t d = carried to back d
   where
-    to : On-new-line text ts k → GoingOn text ts nodes row
+    to : OnNewLine text ts k → GoingOn text ts nodes row
     to n = inr (record { binary = sym e ∙ b; operator = omega (arith, p, l); token = k; sign = t; line = n })
 
-    back : GoingOn text ts nodes row → On-new-line text ts k
+    back : GoingOn text ts nodes row → OnNewLine text ts k
     back (inl g) = absurd (omega (arith, e, b, g.call))
-    back (inr g) = subst (On-new-line text ts) (one_sign g.sign t) g.line
+    back (inr g) = subst (OnNewLine text ts) (one_sign g.sign t) g.line
 
 pub neither : {text ts nodes : List ℕ} {row x : ℕ} → x ≡ kind_of nodes row → (x ≡ number_of Node.FunctionCall → ⊥) → (x ≡ number_of Node.Binary → ⊥) → Decides (GoingOn text ts nodes row) false
 neither e c b = fails λ g. ⊎_elim (λ g. c (e ∙ g.call)) (λ g. b (e ∙ g.binary)) g
@@ -298,17 +298,17 @@ pub other_sign : {text ts nodes : List ℕ} {row x o : ℕ} → x ≡ kind_of no
 other_sign e c p l = fails λ g. ⊎_elim (λ g. c (e ∙ g.call)) (λ g. absurd (omega (arith, p, l, g.operator))) g
 
 -- Rule 4
-pub no_string : {text nodes : List ℕ} {row x : ℕ} → x ≡ kind_of nodes row → (x ≡ number_of Node.String → ⊥) → Decides (Long-string text nodes row) false
+pub no_string : {text nodes : List ℕ} {row x : ℕ} → x ≡ kind_of nodes row → (x ≡ number_of Node.String → ⊥) → Decides (LongString text nodes row) false
 no_string e n = fails λ r. n (e ∙ r.string)
 
-pub a_string : {text nodes : List ℕ} {row x s t : ℕ} {r : Bool} → x ≡ kind_of nodes row → x ≡ number_of Node.String → s ≡ start_of nodes row → t ≡ end_of nodes row → Decides (Line-ends text s t) r → Decides (Long-string text nodes row) r
+pub a_string : {text nodes : List ℕ} {row x s t : ℕ} {r : Bool} → x ≡ kind_of nodes row → x ≡ number_of Node.String → s ≡ start_of nodes row → t ≡ end_of nodes row → Decides (LineEnds text s t) r → Decides (LongString text nodes row) r
 a_string e x s t d = carried (λ l. record { string = sym e ∙ x; line = rw (sym s) (rw (sym t) l) }) (λ r. rw s (rw t r.line)) d
 
 -- any rule: the first three fail, and the fourth decides
-pub any_of : {text ts nodes : List ℕ} {row : ℕ} {r : Bool} → (Reaching-not ts nodes row → ⊥) → (Cut-off ts nodes row → ⊥) → (GoingOn text ts nodes row → ⊥) → Decides (Long-string text nodes row) r → Decides (Any text ts nodes row) r
+pub any_of : {text ts nodes : List ℕ} {row : ℕ} {r : Bool} → (ReachingNot ts nodes row → ⊥) → (CutOff ts nodes row → ⊥) → (GoingOn text ts nodes row → ⊥) → Decides (LongString text nodes row) r → Decides (Any text ts nodes row) r
 any_of {text} {ts} {nodes} {row} a b c d = carried Any.long back d
   where
-    back : Any text ts nodes row → Long-string text nodes row
+    back : Any text ts nodes row → LongString text nodes row
     back (Any.reaching x) = absurd (a x)
     back (Any.cut x) = absurd (b x)
     back (Any.going x) = absurd (c x)

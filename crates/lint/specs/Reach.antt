@@ -56,7 +56,7 @@ pub record Past (ts : List ℕ) (offset k : ℕ) : Type 0 where
   pub from : offset ≤ start ts k
   pub other : kind ts k ≡ RightParen → ⊥
 
-pub record First-past (ts : List ℕ) (offset k : ℕ) : Type 0 where
+pub record FirstPast (ts : List ℕ) (offset k : ℕ) : Type 0 where
   pub within : k ≤ count ts
   pub past : k < count ts → Past ts offset k
   pub least : (j : ℕ) → j < k → Past ts offset j → ⊥
@@ -69,7 +69,7 @@ left_number k = cond (eqb k (number_of Node.Binary)) 4 3
 pub record Sign (ts nodes : List ℕ) (row k : ℕ) : Type 0 where
   pub end : ℕ
   pub ends : Ends nodes (number nodes row (left_number (kind_of nodes row))) end
-  pub first : First-past ts (end_of nodes end) k
+  pub first : FirstPast ts (end_of nodes end) k
 
 -- the kinds that open a bracket, and those that close one
 abbrev pub opens : ℕ → Bool

@@ -7,7 +7,7 @@ ghost use Rattle.std.specs.Prelude.{◌+◌, ◌<◌, true, ◌≡◌};
 ghost use Rattle.grammar.specs.Pattern.{among};
 ghost use Rattle.grammar.specs.Token.{count};
 ghost use Rattle.spelling.specs.Decides.{Decides};
-ghost use Rattle.lint.specs.Rules.{Line-ends, On-new-line, joining, Reached, Reaching-not, closed, going_on, Cut-at, Cut-off, GoingOn, Long-string, Any, Meets, Next};
+ghost use Rattle.lint.specs.Rules.{LineEnds, OnNewLine, joining, Reached, ReachingNot, closed, going_on, CutAt, CutOff, GoingOn, LongString, Any, Meets, Next};
 
 use crate::reach::{brackets, first_past, in_block, last, sign};
 use ast::{ABSENT, PARENT, kinds};
@@ -32,7 +32,7 @@ pub enum Rule {
 
 // Whether a line ends from an offset of the text up to another.
 fn breaks(text: &[u8], from: u32, upto: u32) -> bool
-    ensures { Decides (Line-ends text.now from upto) result }
+    ensures { Decides (LineEnds text.now from upto) result }
 {
     let end = upto as usize;
     let mut i = from as usize;
@@ -50,7 +50,7 @@ fn breaks(text: &[u8], from: u32, upto: u32) -> bool
 
 // Whether a token stands on another line than the one before it, in no parentheses and no map.
 fn on_new_line(text: &[u8], tokens: &[u32], k: usize) -> bool
-    ensures { Decides (On-new-line text.now tokens.now k) result }
+    ensures { Decides (OnNewLine text.now tokens.now k) result }
 {
     if k == 0 {
         return false;
@@ -88,7 +88,7 @@ pub fn reached(tokens: &[u32], nodes: &[u32], row: u32, x: u32) -> bool
 
 // Rule ReachingNot.
 fn is_reaching(tokens: &[u32], nodes: &[u32], row: u32) -> bool
-    ensures { Decides (Reaching-not tokens.now nodes.now row) result }
+    ensures { Decides (ReachingNot tokens.now nodes.now row) result }
 {
     if node(nodes, row, 0) != kinds::LOGICAL_NOT {
         return false;
@@ -119,7 +119,7 @@ fn goes_on(kind: u32) -> bool
 // Whether a token is a `}` that ends at an offset, and the next could go on.
 fn is_cut(tokens: &[u32], offset: u32, k: usize) -> bool
     requires { k + 1 < count tokens.now }
-    ensures { Decides (Cut-at tokens.now offset k) result }
+    ensures { Decides (CutAt tokens.now offset k) result }
 {
     if end_at(tokens, k) != offset {
         return false;
@@ -142,7 +142,7 @@ fn is_closed(kind: u32) -> bool
 
 // Rule CutOff.
 fn is_cut_off(tokens: &[u32], nodes: &[u32], row: u32) -> bool
-    ensures { Decides (Cut-off tokens.now nodes.now row) result }
+    ensures { Decides (CutOff tokens.now nodes.now row) result }
 {
     if !is_closed(node(nodes, row, 0)) {
         return false;
@@ -183,7 +183,7 @@ fn is_going_on(text: &[u8], tokens: &[u32], nodes: &[u32], row: u32) -> bool
 
 // Rule LongString.
 fn is_long(text: &[u8], nodes: &[u32], row: u32) -> bool
-    ensures { Decides (Long-string text.now nodes.now row) result }
+    ensures { Decides (LongString text.now nodes.now row) result }
 {
     if node(nodes, row, 0) != kinds::STRING {
         return false;

@@ -2,7 +2,7 @@
 ghost use Rattle.std.specs.Prelude.{◌+◌, ◌≤◌, ◌<◌, ◌≡◌, get_or};
 ghost use Rattle.grammar.specs.Token.{count};
 ghost use Rattle.spelling.specs.Decides.{Decides};
-ghost use Rattle.lint.specs.Reach.{last_numbers, last as last_of, Ends, Past, First-past, Sign, left_number, opens, closes, counted as counted-in, after as after-in, brackets as brackets-in, encloses, enclosing as enclosing-in, in_block};
+ghost use Rattle.lint.specs.Reach.{last_numbers, last as last_of, Ends, Past, FirstPast, Sign, left_number, opens, closes, counted as counted-in, after as after-in, brackets as brackets-in, encloses, enclosing as enclosing-in, in_block};
 
 use ast::{ABSENT, kinds};
 use children::node;
@@ -61,7 +61,7 @@ fn is_past(tokens: &[u32], offset: u32, k: usize) -> bool
 // The first token from an offset on that is no `)`; the number of tokens where there is none.
 // Ruled out: a `)`; the token before the offset.
 pub fn first_past(tokens: &[u32], offset: u32) -> usize
-    ensures { First-past tokens.now offset result }
+    ensures { FirstPast tokens.now offset result }
 {
     let n = tokens.len() / 3;
     let mut k = 0;

@@ -1,6 +1,6 @@
 #![tactic(auto)]
 // What the program `rows` prints for its input, as one function.
-ghost use Rattle.wire.specs.Output.{Zeros, Output-given};
+ghost use Rattle.wire.specs.Output.{Zeros, OutputGiven};
 ghost use Rattle.wire.specs.Scanned.{Sizes};
 
 use spelling::display::put;
@@ -19,7 +19,7 @@ pub fn blank() -> [u8; 262144]
 // The output for an input that holds a text of this size and n tokens: those of `parse` with a limit of 64 and rooms of 512 rows.
 fn script(input: &[u8], size: usize, n: usize, out: &mut [u8; 262144]) -> usize
     requires { Sizes input.now size n }
-    ensures { Output-given input.now out.old out.new result }
+    ensures { OutputGiven input.now out.old out.new result }
 {
     let from = 6 + size;
     let used = 3 * n;
@@ -55,7 +55,7 @@ fn script(input: &[u8], size: usize, n: usize, out: &mut [u8; 262144]) -> usize
 // The output for an input, at the start of `out`, and its length. No output fills the 262,144 bytes; the rest of them stays.
 // Ruled out: `bad input` for a list of no tokens, which is refusal 1; rows for a text or a list that the input does not hold.
 pub fn answer(input: &[u8], out: &mut [u8; 262144]) -> usize
-    ensures { Output-given input.now out.old out.new result }
+    ensures { OutputGiven input.now out.old out.new result }
 {
     let form = scan(input);
     match form {

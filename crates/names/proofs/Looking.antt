@@ -12,7 +12,7 @@ use Rattle.interner.specs.Interns.{used, Enters}
 use Rattle.interner.specs.declared.Interned.{Interned}
 use Rattle.interner.proofs.Outcomes.{symbol_is, rows_are, no_symbol, size_kept, beyond}
 use Rattle.interner.proofs.Search.{used_length}
-use Rattle.names.specs.Resolved.{rows_of, Free, Looked-up}
+use Rattle.names.specs.Resolved.{rows_of, Free, LookedUp}
 
 -- how long the rows in use are
 pub rows_length : (names : Builtins) (known : ℕ) (own : List ℕ) → 2 * known ≤ length own → length (rows_of names known own) ≡ 2 * built names + 2 * known
@@ -27,7 +27,7 @@ module _ {names : Builtins} {index text own scratch : List ℕ} {s e built-count
   long = rows_length names known own f.ready.indexed.stands
 
   -- it is one
-  pub built_found : place < built names → Looked-up names text s e size known own own scratch scratch (record { symbol = place; count = known })
+  pub built_found : place < built names → LookedUp names text s e size known own own scratch scratch (record { symbol = place; count = known })
   built_found h =
       let same = interned_built names text s e (rows_of names known own) h (omega (arith, long)) in
       record {
@@ -48,7 +48,7 @@ module _ {names : Builtins} {index text own scratch : List ℕ} {s e built-count
     split : length (interned names text s e (rows_of names known own)) ≡ 2 * built names + length (interned none text s e (used known own))
     split = omega (arith, ap length behind, length-append (built_rows names) (interned none text s e (used known own)), built_length names)
 
-    pub own_found : Looked-up names text s e size known own own₁ scratch scratch₁ r
+    pub own_found : LookedUp names text s e size known own own₁ scratch scratch₁ r
     own_found =
         let (wide, high) = size_kept f.ready i.outcome in
         record {

@@ -18,7 +18,7 @@ use Rattle.ast.proofs.Rooms.{zero_at}
 use Rattle.interner.specs.Interns.{used, Indexed}
 use Rattle.interner.specs.declared.Interned.{Interned}
 use Rattle.interner.proofs.Grown.{empty_table, empty_index, stored_behind}
-use Rattle.names.specs.Resolved.{Open, rows_of, room_of, Before, Named, rowless, Left-out, Owned, Resolved, number_at}
+use Rattle.names.specs.Resolved.{Open, rows_of, room_of, Before, Named, rowless, LeftOut, Owned, Resolved, number_at}
 use Rattle.names.proofs.Fitting.{rowless_in, row_fits, row_lacks}
 use Rattle.names.proofs.Looking.{rows_length}
 
@@ -63,7 +63,7 @@ module _ {names : Builtins} {index text ts scratch after : List ℕ} (o : Open n
   -- or a word's row does not fit, and from there on none is
   module _ {n known : ℕ} {own own₁ scratch₁ own₂ scratch₂ scratch₃ : List ℕ} {r : Interned}
       (h : n < count ts) (p : Passed names text ts n own after own₁ scratch₁ known) (z : Named names text ts (count ts) n own₁ own₂ scratch₁ scratch₂ r) (a : r.symbol ≡ absent)
-      (l : Left-out ts n (count ts) scratch₂ scratch₃) where
+      (l : LeftOut ts n (count ts) scratch₂ scratch₃) where
     lack : room_of names own < length (symbol_rows names text ts (suc n))
     lack = rw p.own_size at (row_lacks names text ts n (room_of names own₁) o.whole o.built_in.indexed.few (sym z.number ∙ a))
 
@@ -133,11 +133,11 @@ module _ {names : Builtins} {index text ts : List ℕ} {n known : ℕ} {own₀ s
         }
 
 -- no token is left out yet, one more is, and all up to the last are
-pub none_out : {ts : List ℕ} (from : ℕ) (scratch : List ℕ) → Left-out ts from from scratch scratch
+pub none_out : {ts : List ℕ} (from : ℕ) (scratch : List ℕ) → LeftOut ts from from scratch scratch
 none_out from scratch = record { numbers = λ i l h. absurd (omega arith); kept = λ i h. refl; size = refl }
 
-module _ {ts : List ℕ} {from n : ℕ} {scratch₀ scratch : List ℕ} (l : Left-out ts from n scratch₀ scratch) where
-  pub one_out : from ≤ n → 2 * count ts + n < length scratch → Left-out ts from (n + 1) scratch₀ (set scratch (2 * count ts + n) (rowless ts n))
+module _ {ts : List ℕ} {from n : ℕ} {scratch₀ scratch : List ℕ} (l : LeftOut ts from n scratch₀ scratch) where
+  pub one_out : from ≤ n → 2 * count ts + n < length scratch → LeftOut ts from (n + 1) scratch₀ (set scratch (2 * count ts + n) (rowless ts n))
   one_out h k = record {
     numbers = λ i j m. elim (ℕ_discrete i n) [
       | yes e ↦ rw e (get_or-set_same scratch (2 * count ts + n) (rowless ts n) 0 k)
@@ -147,7 +147,7 @@ module _ {ts : List ℕ} {from n : ℕ} {scratch₀ scratch : List ℕ} (l : Lef
     size = length-set scratch _ _ ∙ l.size;
   }
 
-  pub all_out : {size : ℕ} → size ≤ n → Left-out ts from size scratch₀ scratch
+  pub all_out : {size : ℕ} → size ≤ n → LeftOut ts from size scratch₀ scratch
   all_out h = record { numbers = λ i j k. l.numbers i j (omega arith); kept = l.kept; size = l.size }
 
 -- the built-in rows are put at the start of the symbol room, and the script's own are written behind them, to the room's end

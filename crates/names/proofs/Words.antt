@@ -14,7 +14,7 @@ use Rattle.grammar.specs.Token.{kind, count}
 use Rattle.grammar.proofs.Quotes.{word_part}
 use Rattle.grammar.proofs.Symbols.{InRoom, in_room, rows_same, rows_few}
 use Rattle.interner.specs.declared.Interned.{Interned}
-use Rattle.names.specs.Resolved.{rows_of, room_of, Free, Looked-up, Before, Named}
+use Rattle.names.specs.Resolved.{rows_of, room_of, Free, LookedUp, Before, Named}
 use Rattle.names.proofs.Fitting.{wordless_in}
 use Rattle.names.proofs.Looking.{rows_length}
 
@@ -49,7 +49,7 @@ module _ {names : Builtins} {index text ts own scratch : List ℕ} {built-count 
       }
 
   -- a word is looked up: the token has its symbol, and where its row fits that row
-  module _ {own₁ scratch₁ : List ℕ} {r : Interned} (t : is_name ts n ≡ true) (l : Looked-up names text (word_start ts n) (word_end ts n) size known own own₁ scratch scratch₁ r) where
+  module _ {own₁ scratch₁ : List ℕ} {r : Interned} (t : is_name ts n ≡ true) (l : LookedUp names text (word_start ts n) (word_end ts n) size known own own₁ scratch scratch₁ r) where
     one_more : symbol_rows names text ts (suc n) ≡ interned names text (word_start ts n) (word_end ts n) (rows_of names known own)
     unfolding symbol_rows
     one_more = rw (t, b.rows)

@@ -39,7 +39,7 @@ pub record Free (names : Builtins) (built-count : ℕ) (index text : List ℕ) (
 
 -- a word has its symbol, absent where its row does not fit; where it fits, it has a row. The rows have their index; what is beyond it in the scratch room is as it
 -- was, and the rooms are as long as they were
-pub record Looked-up (names : Builtins) (text : List ℕ) (start end size known : ℕ) (own₀ own scratch₀ scratch : List ℕ) (r : Interned) : Type 0 where
+pub record LookedUp (names : Builtins) (text : List ℕ) (start end size known : ℕ) (own₀ own scratch₀ scratch : List ℕ) (r : Interned) : Type 0 where
   pub number : length (interned names text start end (rows_of names known own₀)) ≤ room_of names own₀ → r.symbol ≡ look_up names text (lexeme text start end) (rows_of names known own₀)
   pub missing : room_of names own₀ < length (interned names text start end (rows_of names known own₀)) → r.symbol ≡ absent
   pub rows : length (interned names text start end (rows_of names known own₀)) ≤ room_of names own₀ → rows_of names r.count own ≡ interned names text start end (rows_of names known own₀)
@@ -79,7 +79,7 @@ unfoldable pub rowless : (ts : List ℕ) → ℕ → ℕ
 rowless ts i = cond (is_name ts i) absent 0
 
 -- the tokens from `from` up to `upto` have that, those before what they had, and the scratch room is as long as it was
-pub record Left-out (ts : List ℕ) (from upto : ℕ) (scratch₀ scratch : List ℕ) : Type 0 where
+pub record LeftOut (ts : List ℕ) (from upto : ℕ) (scratch₀ scratch : List ℕ) : Type 0 where
   pub numbers : (i : ℕ) → from ≤ i → i < upto → number_at ts scratch i ≡ rowless ts i
   pub kept : (i : ℕ) → i < from → number_at ts scratch i ≡ number_at ts scratch₀ i
   pub size : length scratch ≡ length scratch₀

@@ -7,7 +7,7 @@ ghost use Rattle.std.specs.Prelude.{◌*◌, ◌≤◌, ◌<◌, ◌≡◌, leng
 ghost use Rattle.grammar.specs.Builtin.{builtins as names_in};
 ghost use Rattle.grammar.specs.Room.{scratch_width};
 ghost use Rattle.grammar.specs.Token.{count};
-ghost use Rattle.names.specs.Resolved.{Open, Fitting, Free, Looked-up, Before, Named, rowless as rowless-of, Left-out, Owned, Resolved, names_of};
+ghost use Rattle.names.specs.Resolved.{Open, Fitting, Free, LookedUp, Before, Named, rowless as rowless-of, LeftOut, Owned, Resolved, names_of};
 
 use ast::ABSENT;
 use ast::room::{copy, zero};
@@ -33,7 +33,7 @@ fn name(
     end: u32,
 ) -> Interned
     requires { Free (names_in names.now rows.now) built index.now text.now start end size known own.old scratch.old }
-    ensures { Looked-up (names_in names.now rows.now) text.now start end size known own.old own.new scratch.old scratch.new result }
+    ensures { LookedUp (names_in names.now rows.now) text.now start end size known own.old own.new scratch.old scratch.new result }
 {
     if 0 < built {
         let i = find(names, rows, index, text, start as usize, end as usize);
@@ -108,7 +108,7 @@ fn rowless(tokens: &[u32], at: usize) -> u32
 // The tokens from `from` on are left without a row. `size` is the number of tokens.
 fn leave_out(tokens: &[u32], scratch: &mut [u32], size: usize, from: usize)
     requires { (size ≡ count tokens.now) × (scratch_width * size ≤ length scratch.old) }
-    ensures { Left-out tokens.now from size scratch.old scratch.new }
+    ensures { LeftOut tokens.now from size scratch.old scratch.new }
 {
     let mut i = from;
     while i < size {

@@ -9,7 +9,7 @@ use lib.ListN.{length}
 use denote.Ref.{Bor}
 use Rattle.grammar.specs.Room.{symbol_width}
 use Rattle.grammar.specs.Table.{Part, start_of, end_of}
-use Rattle.naming.specs.Name.{chosen, Known, Told, PlaceTold, Part-of, Part-told, Name-told}
+use Rattle.naming.specs.Name.{chosen, Known, Told, PlaceTold, PartOf, PartTold, NameTold}
 use Rattle.naming.specs.declared.NameAnswer.{NameAnswer}
 use Rattle.naming.specs.declared.PlaceAnswer.{PlaceAnswer}
 
@@ -61,20 +61,20 @@ pub record Same (r q : Bor (List ℕ)) : Type 0 where
   pub bytes : r.now ≡ q.now
   pub place : r.ref_ptr ≡ q.ref_ptr
 
-part_once : {text r q : Bor (List ℕ)} {s e : ℕ} → Part-of text s e r → Part-of text s e q → Same r q
+part_once : {text r q : Bor (List ℕ)} {s e : ℕ} → PartOf text s e r → PartOf text s e q → Same r q
 part_once x y = record { bytes = x.bytes ∙ sym y.bytes; place = x.place ∙ sym y.place }
 
 module _ {names text : Bor (List ℕ)} {symbols : List ℕ} {count built symbol : ℕ} where
   -- the part that a place's numbers say is the name
-  pub handed : {p : PlaceAnswer} {r : Bor (List ℕ)} → PlaceTold names.now text.now symbols count built symbol p → Part-of (chosen built symbol names text) p.start p.end r → Part-told names text symbols count built symbol r
+  pub handed : {p : PlaceAnswer} {r : Bor (List ℕ)} → PlaceTold names.now text.now symbols count built symbol p → PartOf (chosen built symbol names text) p.start p.end r → PartTold names text symbols count built symbol r
   handed x y = record { says = record { none = λ h. rw (x.none h) at y; there = λ k. rw (x.there k) at y } }
 
   -- and with the code of the place it is the answer
-  pub answered : {p : PlaceAnswer} {r : Bor (List ℕ)} → PlaceTold names.now text.now symbols count built symbol p → Part-told names text symbols count built symbol r → Name-told names text symbols count built symbol (record { code = p.code; bytes = r })
+  pub answered : {p : PlaceAnswer} {r : Bor (List ℕ)} → PlaceTold names.now text.now symbols count built symbol p → PartTold names text symbols count built symbol r → NameTold names text symbols count built symbol (record { code = p.code; bytes = r })
   answered x y = record { says = record { none = λ h. (rw (x.none h) refl, y.says.none h); there = λ k. (rw (x.there k) refl, y.says.there k) } }
 
-  pub one_part : {r q : Bor (List ℕ)} → Part-told names text symbols count built symbol r → Part-told names text symbols count built symbol q → Same r q
+  pub one_part : {r q : Bor (List ℕ)} → PartTold names text symbols count built symbol r → PartTold names text symbols count built symbol q → Same r q
   one_part x y = once x.says y.says part_once part_once
 
-  pub one_name : {r q : NameAnswer} → Name-told names text symbols count built symbol r → Name-told names text symbols count built symbol q → (r.code ≡ q.code) × Same r.bytes q.bytes
+  pub one_name : {r q : NameAnswer} → NameTold names text symbols count built symbol r → NameTold names text symbols count built symbol q → (r.code ≡ q.code) × Same r.bytes q.bytes
   one_name x y = once x.says y.says (λ (c, e) (d, f). (c ∙ sym d, part_once e f)) (λ (c, e) (d, f). (c ∙ sym d, part_once e f))

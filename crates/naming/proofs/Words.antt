@@ -12,7 +12,7 @@ use lib.ListN.{length, replicate, length-append, get_or-append}
 use lib.Seq.{get_or-take, get_or_at, get_or-append-add}
 use denote.Ref.{Bor}
 use Rattle.grammar.specs.Answer.{success, rooms_filled}
-use Rattle.grammar.specs.Builtin.{Builtins, built, built_rows, Right-names}
+use Rattle.grammar.specs.Builtin.{Builtins, built, built_rows, RightNames}
 use Rattle.grammar.specs.Call.{Call}
 use Rattle.grammar.specs.Door.{Admitted, Sound}
 use Rattle.grammar.specs.Edition.{Edition, edition}
@@ -26,7 +26,7 @@ use Rattle.grammar.specs.Token.{count, lexeme}
 use Rattle.grammar.proofs.Builtins.{home, word_of, symbol_spells}
 use Rattle.grammar.proofs.Quotes.{word_part}
 use Rattle.grammar.proofs.Symbols.{built_length, rows_grow, rows_built, rows_whole, name_has_row}
-use Rattle.naming.specs.Name.{chosen, Known, PlaceTold, Name-told}
+use Rattle.naming.specs.Name.{chosen, Known, PlaceTold, NameTold}
 use Rattle.naming.specs.declared.NameAnswer.{NameAnswer}
 use Rattle.naming.specs.declared.PlaceAnswer.{PlaceAnswer}
 
@@ -43,7 +43,7 @@ module _ (names : Builtins) (text : List ℕ) where
   abbrev Parts : List ℕ → Type 0
   Parts ss = (k : ℕ) → Row ss k → Part (home names text k) (start_of ss k) (end_of ss k)
 
-  built_parts : Right-names names → Parts (built_rows names)
+  built_parts : RightNames names → Parts (built_rows names)
   built_parts right k r =
       let l : k < built names = omega (arith, built_length names) in
       rw (lt-ltb k (built names) l, get_or-take (2 * built names) names.rows (2 * k) 0 (omega arith), get_or-take (2 * built names) names.rows (2 * k + 1) 0 (omega arith)) (right.table.parts k (omega arith))
@@ -56,7 +56,7 @@ module _ (names : Builtins) (text : List ℕ) where
         rw (le-ltb k (built names) (omega arith), ← z, get_or_at ss s (e ∷ []) 0 (length ss) refl, get_or-append-add ss (s ∷ e ∷ []) 1 0) p
   ]
 
-  rows_parts : Right-names names → (ts : List ℕ) (n : ℕ) → ((i : ℕ) → i < n → Sound text ts i) → Parts (symbol_rows names text ts n)
+  rows_parts : RightNames names → (ts : List ℕ) (n : ℕ) → ((i : ℕ) → i < n → Sound text ts i) → Parts (symbol_rows names text ts n)
   unfolding symbol_rows interned
   rows_parts right ts zero h = built_parts right
   rows_parts right ts (suc n) h =
@@ -119,7 +119,7 @@ module _ {c : Call} {w : Rows} {ss : List ℕ} (d : Admitted c) (o : Comes c.pro
     word_placed p = rw (p.there (each_known (of_token i) below)) (refl, spelled)
 
     -- and so has the name
-    pub word_named : {names text : Bor (List ℕ)} {r : NameAnswer} → names.now ≡ c.names.text → text.now ≡ c.text → Name-told names text symbols total (built c.names) (of_token i) r → (r.code ≡ 0) × (r.bytes.now ≡ word_of c.text c.tokens i)
+    pub word_named : {names text : Bor (List ℕ)} {r : NameAnswer} → names.now ≡ c.names.text → text.now ≡ c.text → NameTold names text symbols total (built c.names) (of_token i) r → (r.code ≡ 0) × (r.bytes.now ≡ word_of c.text c.tokens i)
     word_named {names} {text} e f p =
         let (code, part) = p.says.there (rw (e, f) (each_known (of_token i) below)) in
         (code, part.bytes ∙ ap (λ (t : List ℕ). word t symbols (of_token i)) (now_chosen (built c.names) (of_token i) names text ∙ rw (e, f)) ∙ spelled)

@@ -28,21 +28,21 @@ module _ (names text symbols : List ℕ) (count built symbol : ℕ) where
   PlaceTold r = Told (r ≡ record { code = 15; start = 0; end = 0 }) (r ≡ record { code = 0; start = start_of symbols symbol; end = end_of symbols symbol })
 
 -- r is the part of a text from start up to end: it has these bytes, and points to where they stand in the text
-pub record Part-of (text : Bor (List ℕ)) (start end : ℕ) (r : Bor (List ℕ)) : Type 0 where
+pub record PartOf (text : Bor (List ℕ)) (start end : ℕ) (r : Bor (List ℕ)) : Type 0 where
   pub bytes : r.now ≡ lexeme text.now start end
   pub place : r.ref_ptr ≡ (text.ref_ptr.0, start + text.ref_ptr.1)
 
 module _ (names text : Bor (List ℕ)) (symbols : List ℕ) (count built symbol : ℕ) where
   -- the empty part of the symbol's text, and the name's
   abbrev pub NoPart : Bor (List ℕ) → Type 0
-  NoPart r = Part-of (chosen built symbol names text) 0 0 r
+  NoPart r = PartOf (chosen built symbol names text) 0 0 r
 
   abbrev pub NamePart : Bor (List ℕ) → Type 0
-  NamePart r = Part-of (chosen built symbol names text) (start_of symbols symbol) (end_of symbols symbol) r
+  NamePart r = PartOf (chosen built symbol names text) (start_of symbols symbol) (end_of symbols symbol) r
 
   -- the name, as a part of the text that holds it; and with its code
-  pub record Part-told (r : Bor (List ℕ)) : Type 0 where
+  pub record PartTold (r : Bor (List ℕ)) : Type 0 where
     pub says : Told names.now text.now symbols count built symbol (NoPart r) (NamePart r)
 
-  pub record Name-told (r : NameAnswer) : Type 0 where
+  pub record NameTold (r : NameAnswer) : Type 0 where
     pub says : Told names.now text.now symbols count built symbol ((r.code ≡ 15) × NoPart r.bytes) ((r.code ≡ 0) × NamePart r.bytes)

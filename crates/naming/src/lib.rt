@@ -1,7 +1,7 @@
 #![tactic(auto)]
 // The name of a symbol: its bytes, as a part of the text that holds them, the built-in names' or the script's, which the symbol's number decides.
 ghost use Rattle.std.specs.Prelude.{◌≡◌, length};
-ghost use Rattle.naming.specs.Name.{chosen, PlaceTold, Part-told, Name-told};
+ghost use Rattle.naming.specs.Name.{chosen, PlaceTold, PartTold, NameTold};
 
 // The numbers of a symbol row.
 const WIDTH: usize = 2;
@@ -83,7 +83,7 @@ pub fn name<'a>(
     built: usize,
     symbol: usize,
 ) -> &'a [u8]
-    ensures { Part-told names.entry text.entry symbols.now count built symbol result }
+    ensures { PartTold names.entry text.entry symbols.now count built symbol result }
 {
     let p = place(names, text, symbols, count, built, symbol);
     let start = p.start as usize;
@@ -104,7 +104,7 @@ pub fn named<'a>(
     built: usize,
     symbol: usize,
 ) -> NameAnswer<'a>
-    ensures { Name-told names.entry text.entry symbols.now count built symbol result }
+    ensures { NameTold names.entry text.entry symbols.now count built symbol result }
 {
     let p = place(names, text, symbols, count, built, symbol);
     let bytes = name(names, text, symbols, count, built, symbol);

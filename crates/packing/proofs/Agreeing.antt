@@ -22,8 +22,8 @@ use Rattle.parts.specs.Packed.{root_row, links_kept, links_before, packing}
 use Rattle.parts.proofs.Sizes.{parent_most}
 use Rattle.packing.specs.Good.{Good}
 use Rattle.packing.specs.Known.{numbered}
-use Rattle.packing.specs.Roles.{role, at, role_at, linked, link_moved, list_moved, number_moved, numbers_moved, lists_moved, lists_size, Stands-row}
-use Rattle.packing.specs.Rows.{moving, Mapped, Moves-lists, Moves-row}
+use Rattle.packing.specs.Roles.{role, at, role_at, linked, link_moved, list_moved, number_moved, numbers_moved, lists_moved, lists_size, StandsRow}
+use Rattle.packing.specs.Rows.{moving, Mapped, MovesLists, MovesRow}
 use Rattle.packing.specs.declared.maps.Maps.{Maps}
 use Rattle.packing.proofs.Moving.{plain_moved, node_moved, first_moved, symbol_moved}
 use Rattle.packing.proofs.Numbers.{row_names, row_ranges}
@@ -74,13 +74,13 @@ module _ {m m' : Move} {h s : ℕ} (a : Agrees m m' h s) where
       rw (list_agrees r from n ls ls' e (λ z k p q. f z k p (omega arith)) (λ z k p q. g z k p (omega arith)) (λ z k p q. i z k p (omega arith)), e (from + n) (omega arith) 0, e (from + n) (omega arith) 1, e (from + n) (omega arith) 2, x, y) refl
 
 -- row i is as it was, and so are the links from `from` on
-pub record As-was (w : Rows) (i from : ℕ) (ns ls : List ℕ) : Type 0 where
+pub record AsWas (w : Rows) (i from : ℕ) (ns ls : List ℕ) : Type 0 where
   pub number : (j : ℕ) → at ns i j ≡ at w.nodes i j
   pub link : (k : ℕ) → from ≤ k → (j : ℕ) → linked ls k j ≡ linked w.links k j
   pub high : length ns ≡ length w.nodes
   pub long : length ls ≡ length w.links
 
-pub as_was : (w : Rows) (i from : ℕ) (ns ls : List ℕ) → drop (node_width * i) ns ≡ drop (node_width * i) w.nodes → drop (link_width * from) ls ≡ drop (link_width * from) w.links → length ns ≡ length w.nodes → length ls ≡ length w.links → As-was w i from ns ls
+pub as_was : (w : Rows) (i from : ℕ) (ns ls : List ℕ) → drop (node_width * i) ns ≡ drop (node_width * i) w.nodes → drop (link_width * from) ls ≡ drop (link_width * from) w.links → length ns ≡ length w.nodes → length ls ≡ length w.links → AsWas w i from ns ls
 as_was w i from ns ls p q a b = record {
   number = λ j. sym (get_or-drop (node_width * i) ns j 0) ∙ ap (λ (xs : List ℕ). get_or xs j 0) p ∙ get_or-drop (node_width * i) w.nodes j 0;
   link = λ k h j.
@@ -91,7 +91,7 @@ as_was w i from ns ls p q a b = record {
   long = b;
 }
 
-module _ {w : Rows} {i from : ℕ} {ns ls : List ℕ} (a : As-was w i from ns ls) where
+module _ {w : Rows} {i from : ℕ} {ns ls : List ℕ} (a : AsWas w i from ns ls) where
   pub role_was : (j : ℕ) → role_at ns i j ≡ role_at w.nodes i j
   role_was j = ap (λ (k : ℕ). role k j) (a.number 0)
 
@@ -100,7 +100,7 @@ module _ {w : Rows} {i from : ℕ} {ns ls : List ℕ} (a : As-was w i from ns ls
   sizes_was zero = refl
   sizes_was (suc n) = rw (sizes_was n, role_was n, a.number (n + 1)) refl
 
-  pub stands_was : {s : ℕ} → Good s w → i < height w → Stands-row ns i
+  pub stands_was : {s : ℕ} → Good s w → i < height w → StandsRow ns i
   stands_was g h = let s = stood g h in record { room = omega (arith, s.room, a.high); least = omega (arith, s.least, a.number 0); most = omega (arith, s.most, a.number 0) }
 
 -- a row that is there has a number in the room
@@ -138,7 +138,7 @@ module _ {s : ℕ} {w : Rows} (g : Good s w) (i : ℕ) (h : i < root_row w) wher
   row_few = nine_or (λ j. 4 ≤ role_at w.nodes i j → at w.nodes i j ≤ link_count w) (λ j k l. omega (arith, (row_ranges g i inside j k).list l)) (λ l. absurd (omega (arith, last_role w i (stood g inside))))
 
   -- two moves that agree move it alike
-  module _ {ns ls : List ℕ} (a : As-was w i (links_before w i) ns ls) {m m' : Move} (b : Agrees m m' (height w) s) where
+  module _ {ns ls : List ℕ} (a : AsWas w i (links_before w i) ns ls) {m m' : Move} (b : Agrees m m' (height w) s) where
     numbers_agree : (n : ℕ) → n ≤ node_width → numbers_moved m ns i n ≡ numbers_moved m' w.nodes i n
     unfolding numbers_moved
     numbers_agree zero k = refl
@@ -166,8 +166,8 @@ module _ {s : ℕ} {w : Rows} (g : Good s w) (i : ℕ) (h : i < root_row w) wher
     links_agree same_span = lists_agree own_width (omega arith) ∙ lists_all w i (stood g inside) m' same_span
 
   -- and it can be moved, where the room has a number for each symbol and row
-  module _ {ns ls : List ℕ} (a : As-was w i (links_before w i) ns ls) {sc : List ℕ} {m : Maps} (base-is : m.base ≡ s) (from_is : m.from ≡ links_before w i) (low : m.to ≤ m.from) (room : s + height w ≤ length sc) where
-    pub moves_row : {to : ℕ} → to ≤ i → Moves-row sc m ns i to
+  module _ {ns ls : List ℕ} (a : AsWas w i (links_before w i) ns ls) {sc : List ℕ} {m : Maps} (base-is : m.base ≡ s) (from_is : m.from ≡ links_before w i) (low : m.to ≤ m.from) (room : s + height w ≤ length sc) where
+    pub moves_row : {to : ℕ} → to ≤ i → MovesRow sc m ns i to
     moves_row back = record {
       stands = stands_was a g inside;
       back = back;
@@ -180,7 +180,7 @@ module _ {s : ℕ} {w : Rows} (g : Good s w) (i : ℕ) (h : i < root_row w) wher
       };
     }
 
-    pub moves_lists : Moves-lists sc m ns ls i
+    pub moves_lists : MovesLists sc m ns ls i
     moves_lists = record {
       stands = stands_was a g inside;
       each = λ j k.

@@ -16,7 +16,7 @@ use Rattle.parts.specs.Packed.{keeps, statement, kept_upto, spoken_all, upto}
 use Rattle.parts.specs.Spoken.{spoken, heard, first_places}
 use Rattle.parts.proofs.Words.{among_kept, among_new, place_own, place_behind, upto_length}
 use Rattle.parts.proofs.Symbols.{heard_append, first_places_append, upto_once, upto_low, place_below}
-use Rattle.packing.specs.Known.{numbered, Heard, Hears, Built, Begins, all_words, Hearing-all}
+use Rattle.packing.specs.Known.{numbered, Heard, Hears, Built, Begins, all_words, HearingAll}
 
 -- the first n symbols are known under their own numbers, and no other
 upto_in : (n x : ℕ) → x < n → among (upto n) x ≡ true
@@ -37,7 +37,7 @@ numbered_other n x h = pick (among (upto n) x) refl
     pick false e = rw e refl
 
 -- nothing was said yet
-pub begun : {s b first : ℕ} {w : Rows} {choice symbols scratch scratch' : List ℕ} → Begins s b w first choice symbols scratch → Built b scratch scratch' → (c : ℕ → Bool) → Hearing-all s b symbols c w 0 symbols scratch' b
+pub begun : {s b first : ℕ} {w : Rows} {choice symbols scratch scratch' : List ℕ} → Begins s b w first choice symbols scratch → Built b scratch scratch' → (c : ℕ → Bool) → HearingAll s b symbols c w 0 symbols scratch' b
 unfolding kept_upto spoken_all heard first_places
 begun {s} {b} {symbols = symbols} h k c = record {
   known = record {
@@ -64,14 +64,14 @@ words_dropped : (c : ℕ → Bool) (w : Rows) (j : ℕ) → c j ≡ false → al
 unfolding kept_upto
 words_dropped c w j e = rw (e, append-nil (kept_upto c w j)) refl
 
-module _ {s b : ℕ} {ss : List ℕ} {w : Rows} {j : ℕ} {symbols scratch : List ℕ} {known : ℕ} (choice : List ℕ) (h : Hearing-all s b ss (keeps choice) w j symbols scratch known) where
-  pub statement_heard : {symbols' scratch' : List ℕ} {r : ℕ} → (get_or choice j 0 ≡ 0 → ⊥) → Hears s (spoken w (height w) (statement w j)) symbols scratch known symbols' scratch' r → Hearing-all s b ss (keeps choice) w (suc j) symbols' scratch' r
+module _ {s b : ℕ} {ss : List ℕ} {w : Rows} {j : ℕ} {symbols scratch : List ℕ} {known : ℕ} (choice : List ℕ) (h : HearingAll s b ss (keeps choice) w j symbols scratch known) where
+  pub statement_heard : {symbols' scratch' : List ℕ} {r : ℕ} → (get_or choice j 0 ≡ 0 → ⊥) → Hears s (spoken w (height w) (statement w j)) symbols scratch known symbols' scratch' r → HearingAll s b ss (keeps choice) w (suc j) symbols' scratch' r
   statement_heard n p =
       let e : keeps choice j ≡ true = rw (ne_eqb (get_or choice j 0) 0 n) refl in
       let xs = all_words (keeps choice) w j in
       record { known = rw (words_kept (keeps choice) w j e, heard_append xs (spoken w (height w) (statement w j)) (upto b), first_places_append xs (spoken w (height w) (statement w j)) (upto b)) (p.says h.known) }
 
-  pub statement_dropped : get_or choice j 0 ≡ 0 → Hearing-all s b ss (keeps choice) w (suc j) symbols scratch known
+  pub statement_dropped : get_or choice j 0 ≡ 0 → HearingAll s b ss (keeps choice) w (suc j) symbols scratch known
   statement_dropped n =
       let e : keeps choice j ≡ false = rw (eq-eqb (get_or choice j 0) 0 n) refl in
       record { known = rw (words_dropped (keeps choice) w j e) h.known }

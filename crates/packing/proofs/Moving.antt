@@ -14,8 +14,8 @@ use Rattle.ast.specs.Written.{Written}
 use Rattle.ast.proofs.Rooms.{unwritten, stored, joined, said}
 use Rattle.parts.specs.Moved.{Move, moved_node}
 use Rattle.parts.specs.Packed.{keeps}
-use Rattle.packing.specs.Roles.{role, at, role_at, linked, link_moved, list_moved, number_moved, numbers_moved, lists_moved, lists_size, Stands-row}
-use Rattle.packing.specs.Rows.{Moves-list, Moves-lists, chosen, chosen_count}
+use Rattle.packing.specs.Roles.{role, at, role_at, linked, link_moved, list_moved, number_moved, numbers_moved, lists_moved, lists_size, StandsRow}
+use Rattle.packing.specs.Rows.{MovesList, MovesLists, chosen, chosen_count}
 use Rattle.packing.proofs.Slots.{none_sized, size_plain, size_list, numbers_none, numbers_suc}
 use Rattle.packing.specs.declared.maps.Maps.{Maps}
 
@@ -99,11 +99,11 @@ module _ (ns : List ℕ) (row : ℕ) where
   pub next_read : (j : ℕ) → get_or ns (node_width * row + j + 1) 0 ≡ at ns row (j + 1)
   next_read j = let z : node_width * row + j + 1 ≡ node_width * row + (j + 1) = omega arith in ap (λ (i : ℕ). get_or ns i 0) z
 
-pub record Of-kind (k : ℕ) : Type 0 where
+pub record OfKind (k : ℕ) : Type 0 where
   pub least : 1 ≤ k
   pub most : k ≤ 26
 
-pub kind_of_row : {ns : List ℕ} {row : ℕ} → Stands-row ns row → Of-kind (get_or ns (node_width * row) 0)
+pub kind_of_row : {ns : List ℕ} {row : ℕ} → StandsRow ns row → OfKind (get_or ns (node_width * row) 0)
 kind_of_row {ns} {row} s = rw (kind_read ns row) record { least = s.least; most = s.most }
 
 -- how many links the lists among the first numbers have
@@ -143,17 +143,17 @@ module _ {m : Move} {l : List ℕ} {row to j : ℕ} {ns : List ℕ} (back : to �
       record { done = said refl d (ap (λ (y : ℕ). numbers_moved m l row j ++ (y ∷ [])) g ∙ sym (numbers_suc m l row j) ∙ sym (ap (numbers_moved m l row) (add-one j))) (joined (omega arith) w.done (stored ns (node_width * to + j) x h)); most = omega arith }
 
 -- the lists among the first numbers of a row are moved, to one behind another
-pub record Lists-done (m : Move) (ns l : List ℕ) (row start to j : ℕ) (ls : List ℕ) : Type 0 where
+pub record ListsDone (m : Move) (ns l : List ℕ) (row start to j : ℕ) (ls : List ℕ) : Type 0 where
   pub done : Written (link_width * start) (link_width * to) (lists_moved m ns l row j) l ls
   pub reached : to ≡ start + lists_size ns row j
   pub most : j ≤ own_width
 
-pub none_done : (m : Move) (ns l : List ℕ) (row start : ℕ) → Lists-done m ns l row start start 0 l
+pub none_done : (m : Move) (ns l : List ℕ) (row start : ℕ) → ListsDone m ns l row start start 0 l
 unfolding lists_moved
 none_done m ns l row start = record { done = unwritten (link_width * start) l; reached = omega (arith, none_sized ns row); most = omega arith }
 
 -- what is to be moved next is as it was
-pub moves_still : {sc : List ℕ} {m : Maps} {r from to n a : ℕ} {xs l ls : List ℕ} → Moves-list sc m r l from to n → Written a (link_width * to) xs l ls → Moves-list sc m r ls from to n
+pub moves_still : {sc : List ℕ} {m : Maps} {r from to n a : ℕ} {xs l ls : List ℕ} → MovesList sc m r l from to n → Written a (link_width * to) xs l ls → MovesList sc m r ls from to n
 moves_still {sc} {m} {r} {from} {to} {n} {a} {xs} {l} {ls} p w = record {
   back = p.back;
   room = rw w.size p.room;
@@ -169,7 +169,7 @@ list_still m r from n {a} {b} {xs} {l} {ls} h w = go n
     go zero = refl
     go (suc k) = rw (go k, unchanged (link_width * (from + k) + 0) (omega arith) w, unchanged (link_width * (from + k) + 1) (omega arith) w, unchanged (link_width * (from + k) + 2) (omega arith) w) refl
 
-module _ {m : Move} {ns l ls : List ℕ} {row start to j r : ℕ} (d : Lists-done m ns l row start to j ls) (e : r ≡ role (get_or ns (node_width * row) 0) j) (h : j < own_width) where
+module _ {m : Move} {ns l ls : List ℕ} {row start to j r : ℕ} (d : ListsDone m ns l row start to j ls) (e : r ≡ role (get_or ns (node_width * row) 0) j) (h : j < own_width) where
   lists_next : lists_moved m ns l row (j + 1) ≡ lists_moved m ns l row j ++ cond (leb 4 (role_at ns row j)) (list_moved m (role_at ns row j) l (at ns row j) (at ns row (j + 1))) []
   unfolding lists_moved
   lists_next = ap (lists_moved m ns l row) (add-one j)
@@ -177,19 +177,19 @@ module _ {m : Move} {ns l ls : List ℕ} {row start to j r : ℕ} (d : Lists-don
   same_role : role_at ns row j ≡ r
   same_role = sym (role_read ns row j) ∙ sym e
 
-  pub moves_next : {sc : List ℕ} {k : Maps} → Moves-lists sc k ns l row → start ≡ k.to → 4 ≤ r → Moves-list sc k r ls (at ns row j) to (get_or ns (node_width * row + j + 1) 0)
+  pub moves_next : {sc : List ℕ} {k : Maps} → MovesLists sc k ns l row → start ≡ k.to → 4 ≤ r → MovesList sc k r ls (at ns row j) to (get_or ns (node_width * row + j + 1) 0)
   moves_next {sc} {k} p s q =
       let f : 4 ≤ role_at ns row j = rw same_role q in
       let g : k.to + lists_size ns row j ≡ to = omega (arith, d.reached) in
       let a = p.each j h f in
       moves_still (rw (next_read ns row j, ← same_role, ← g) a) d.done
 
-  pub list_skipped : {to' : ℕ} {ls' : List ℕ} → r < 4 → ls' ≡ ls → to' ≡ to → Lists-done m ns l row start to' (j + 1) ls'
+  pub list_skipped : {to' : ℕ} {ls' : List ℕ} → r < 4 → ls' ≡ ls → to' ≡ to → ListsDone m ns l row start to' (j + 1) ls'
   list_skipped k p q =
       let f : role_at ns row j < 4 = rw same_role k in
       rw (p, q) record { done = said refl refl (sym (lists_next ∙ rw (lt-leb 4 (role_at ns row j) f) (append-nil (lists_moved m ns l row j)))) d.done; reached = d.reached ∙ ap (λ (x : ℕ). start + x) (sym (size_plain ns row j f)); most = omega arith }
 
-  pub list_done : {n to' : ℕ} {ls' ls'' : List ℕ} → 4 ≤ r → to ≤ at ns row j → n ≡ at ns row (j + 1) → Written (link_width * to) (link_width * (to + n)) (list_moved m r ls (at ns row j) n) ls ls' → ls'' ≡ ls' → to' ≡ to + n → Lists-done m ns l row start to' (j + 1) ls''
+  pub list_done : {n to' : ℕ} {ls' ls'' : List ℕ} → 4 ≤ r → to ≤ at ns row j → n ≡ at ns row (j + 1) → Written (link_width * to) (link_width * (to + n)) (list_moved m r ls (at ns row j) n) ls ls' → ls'' ≡ ls' → to' ≡ to + n → ListsDone m ns l row start to' (j + 1) ls''
   list_done {n} k back c w p q =
       let f : 4 ≤ role_at ns row j = rw same_role k in
       let g = list_still m r (at ns row j) n (omega arith) d.done ∙ ap (list_moved m r l (at ns row j)) c ∙ ap (λ (x : ℕ). list_moved m x l (at ns row j) (at ns row (j + 1))) (sym same_role) in

@@ -74,42 +74,42 @@ names_below s m ls zero a e k h l = absurd (omega arith)
 names_below s m ls (suc n) a e k h l = one (λ j. linked ls j 0 < s) a k h (rw (link_at ls a 0) at (head e)) (λ b. names_below s m ls n (suc a) (rw (link_next ls a) at (tail e)) k (omega arith) (omega arith))
 
 -- a number of this role, x, with y behind it: what it names is earlier than row i or absent, and a list begins where it should
-pub record Names-right (i : ℕ) (ls : List ℕ) (begin r x y : ℕ) : Type 0 where
+pub record NamesRight (i : ℕ) (ls : List ℕ) (begin r x y : ℕ) : Type 0 where
   pub node : r ≡ 1 → Before i x
   pub begins : 4 ≤ r → x ≡ begin
   pub first : 4 ≤ r → (r ≡ 5 → ⊥) → (k : ℕ) → x ≤ k → k < x + y → Before i (linked ls k 0)
   pub second : r ≡ 6 → (k : ℕ) → x ≤ k → k < x + y → Before i (linked ls k 1)
 
 -- and symbols and lists are in range
-pub record Ranges-right (s m : ℕ) (ls : List ℕ) (r x y : ℕ) : Type 0 where
+pub record RangesRight (s m : ℕ) (ls : List ℕ) (r x y : ℕ) : Type 0 where
   pub symbol : 2 ≤ r → r ≤ 3 → x < s
   pub list : 4 ≤ r → x + y ≤ m
   pub name : r ≡ 5 → (k : ℕ) → x ≤ k → k < x + y → linked ls k 0 < s
 
 module _ {i : ℕ} {ls : List ℕ} {begin r x y : ℕ} where
-  names_nothing : r < 4 → (r ≡ 1 → ⊥) → Names-right i ls begin r x y
+  names_nothing : r < 4 → (r ≡ 1 → ⊥) → NamesRight i ls begin r x y
   names_nothing h n = record { node = λ e. absurd (n e); begins = λ k. absurd (omega arith); first = λ k. absurd (omega arith); second = λ e. absurd (omega arith) }
 
-  names_row : r ≡ 1 → Before i x → Names-right i ls begin r x y
+  names_row : r ≡ 1 → Before i x → NamesRight i ls begin r x y
   names_row e b = record { node = λ z. b; begins = λ k. absurd (omega arith); first = λ k. absurd (omega arith); second = λ z. absurd (omega arith) }
 
-  names_list : 4 ≤ r → x ≡ begin → ((r ≡ 5 → ⊥) → (k : ℕ) → x ≤ k → k < x + y → Before i (linked ls k 0)) → (r ≡ 6 → (k : ℕ) → x ≤ k → k < x + y → Before i (linked ls k 1)) → Names-right i ls begin r x y
+  names_list : 4 ≤ r → x ≡ begin → ((r ≡ 5 → ⊥) → (k : ℕ) → x ≤ k → k < x + y → Before i (linked ls k 0)) → (r ≡ 6 → (k : ℕ) → x ≤ k → k < x + y → Before i (linked ls k 1)) → NamesRight i ls begin r x y
   names_list h e f g = record { node = λ z. absurd (omega arith); begins = λ k. e; first = λ k. f; second = g }
 
 module _ {s m : ℕ} {ls : List ℕ} {r x y : ℕ} where
-  range_free : r < 2 → Ranges-right s m ls r x y
+  range_free : r < 2 → RangesRight s m ls r x y
   range_free h = record { symbol = λ k. absurd (omega arith); list = λ k. absurd (omega arith); name = λ e. absurd (omega arith) }
 
-  range_symbol : r < 4 → x < s → Ranges-right s m ls r x y
+  range_symbol : r < 4 → x < s → RangesRight s m ls r x y
   range_symbol h l = record { symbol = λ a b. l; list = λ k. absurd (omega arith); name = λ e. absurd (omega arith) }
 
-  range_list : 4 ≤ r → x + y ≤ m → (r ≡ 5 → (k : ℕ) → x ≤ k → k < x + y → linked ls k 0 < s) → Ranges-right s m ls r x y
+  range_list : 4 ≤ r → x + y ≤ m → (r ≡ 5 → (k : ℕ) → x ≤ k → k < x + y → linked ls k 0 < s) → RangesRight s m ls r x y
   range_list h l f = record { symbol = λ a b. absurd (omega arith); list = λ k. l; name = f }
 
 -- what a row names, and where its lists begin, after `from` links
 module _ (ns ls : List ℕ) (i from : ℕ) where
   abbrev Named : ℕ → Type 0
-  Named j = Names-right i ls (from + lists_size ns i j) (role_at ns i j) (at ns i j) (at ns i (j + 1))
+  Named j = NamesRight i ls (from + lists_size ns i j) (role_at ns i j) (at ns i j) (at ns i (j + 1))
 
   abbrev Begun : ℕ → List (ℕ × ℕ) → Type 0
   Begun p = Consecutive (from + lists_size ns i p)
@@ -163,7 +163,7 @@ module _ (ns ls : List ℕ) (i from : ℕ) where
 -- the ranges
 module _ (ns ls : List ℕ) (i s m : ℕ) where
   abbrev In : ℕ → Type 0
-  In j = Ranges-right s m ls (role_at ns i j) (at ns i j) (at ns i (j + 1))
+  In j = RangesRight s m ls (role_at ns i j) (at ns i j) (at ns i (j + 1))
 
   free : (j : ℕ) → role_at ns i j ≡ 0 → In j
   free j e = range_free (omega arith)
@@ -197,12 +197,12 @@ module _ {s : ℕ} {w : Rows} (g : Good s w) (i : ℕ) (h : i < height w) where
   front_or : (R : ℕ → Type 0) → ((j : ℕ) → role_at w.nodes i j ≡ 0 → R j) → ((j : ℕ) → 3 ≤ j → j < own_width → R j) → (j : ℕ) → j < own_width → R j
   front_or R z f j k = three R 0 j (omega arith) (z 0 (front_role w i (stood g h) 0 (omega arith))) (z 1 (front_role w i (stood g h) 1 (omega arith))) (z 2 (front_role w i (stood g h) 2 (omega arith))) (λ q. f j q k)
 
-  pub row_names : (j : ℕ) → j < own_width → Names-right i w.links (links_before w i + lists_size w.nodes i j) (role_at w.nodes i j) (at w.nodes i j) (at w.nodes i (j + 1))
+  pub row_names : (j : ℕ) → j < own_width → NamesRight i w.links (links_before w i + lists_size w.nodes i j) (role_at w.nodes i j) (at w.nodes i j) (at w.nodes i (j + 1))
   row_names =
       let f : links_before w i ≡ links_before w i + lists_size w.nodes i 3 = omega (arith, front_size w i (stood g h)) in
       front_or (Named w.nodes w.links i (links_before w i)) (nothing w.nodes w.links i (links_before w i))
       (named_lined w.nodes w.links i (links_before w i) (slots_of w i) (lined_row w i Edition.second (stood g h)) (rw (named_here w i Edition.second) at (g.checked.earlier i h)) (rw f at (lists_follow g.checked i h)))
 
-  pub row_ranges : (j : ℕ) → j < own_width → Ranges-right s (link_count w) w.links (role_at w.nodes i j) (at w.nodes i j) (at w.nodes i (j + 1))
+  pub row_ranges : (j : ℕ) → j < own_width → RangesRight s (link_count w) w.links (role_at w.nodes i j) (at w.nodes i j) (at w.nodes i (j + 1))
   unfolding items_of
   row_ranges = front_or (In w.nodes w.links i s (link_count w)) (free w.nodes w.links i s (link_count w)) (ranges_lined w.nodes w.links i s (link_count w) (layout g.edition (kind_of w i)) (lined_row w i g.edition (stood g h)) (g.checked.ranges i h))

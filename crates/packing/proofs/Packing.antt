@@ -17,14 +17,14 @@ use Rattle.ast.proofs.Rooms.{later}
 use Rattle.parts.specs.Moved.{row_links}
 use Rattle.parts.specs.Packed.{root_row, stays, rows_kept, links_kept, links_before, packed_nodes, packed_links}
 use Rattle.parts.proofs.Sizes.{rows_kept_most, links_kept_most, rows_kept_next, rows_kept_same, links_kept_next, links_kept_same, links_before_rises, all_links}
-use Rattle.packing.specs.Roles.{lists_moved, lists_size, numbers_moved, Stands-row}
-use Rattle.packing.specs.Rows.{moving, Mapped, Moves-lists, Moves-row, Packed-upto, Packable}
+use Rattle.packing.specs.Roles.{lists_moved, lists_size, numbers_moved, StandsRow}
+use Rattle.packing.specs.Rows.{moving, Mapped, MovesLists, MovesRow, PackedUpto, Packable}
 use Rattle.packing.specs.declared.maps.Maps.{Maps}
-use Rattle.packing.proofs.Agreeing.{As-was, as_was, stands_was, sizes_was, moves_row, moves_lists, row_agrees, links_agree, packing_agrees}
+use Rattle.packing.proofs.Agreeing.{AsWas, as_was, stands_was, sizes_was, moves_row, moves_lists, row_agrees, links_agree, packing_agrees}
 use Rattle.packing.proofs.Slots.{sizes_all, stood}
 
 pub record Packing (w : Rows) (base count : ℕ) (sc : List ℕ) (i from to : ℕ) (ns ls : List ℕ) : Type 0 where
-  pub each : {c : ℕ → Bool} {left : List ℕ} → Mapped c left w base count sc → Packed-upto c left w i ns ls to
+  pub each : {c : ℕ → Bool} {left : List ℕ} → Mapped c left w base count sc → PackedUpto c left w i ns ls to
   pub from_is : from ≡ links_before w i
   pub most : i ≤ root_row w
 
@@ -48,13 +48,13 @@ module _ {w : Rows} {base count root : ℕ} {sc : List ℕ} (p : Packable w base
   under : i < root_row w
   under = omega (arith, p.last)
 
-  abbrev so_far : Packed-upto p.choice p.left w i ns ls to
+  abbrev so_far : PackedUpto p.choice p.left w i ns ls to
   so_far = d.each p.mapped
 
-  was : As-was w i (links_before w i) ns ls
+  was : AsWas w i (links_before w i) ns ls
   was = as_was w i (links_before w i) ns ls so_far.nodes_left so_far.links_left so_far.node_room so_far.link_room
 
-  pub stands : Stands-row ns i
+  pub stands : StandsRow ns i
   stands = stands_was was p.good (omega (arith, under))
 
   size_is : lists_size ns i own_width ≡ row_links w i
@@ -69,16 +69,16 @@ module _ {w : Rows} {base count root : ℕ} {sc : List ℕ} (p : Packable w base
   back : get_or sc (base + i) 0 ≤ i
   back = omega (arith, p.mapped.rows.each i (omega (arith, under)), rows_kept_most p.choice w i)
 
-  pub lists_ready : Moves-lists sc (maps base count from to) ns ls i
+  pub lists_ready : MovesLists sc (maps base count from to) ns ls i
   lists_ready = moves_lists p.good i under was refl d.from_is low p.room
 
-  pub row_ready : Moves-row sc (maps base count from to) ns i (get_or sc (base + i) 0)
+  pub row_ready : MovesRow sc (maps base count from to) ns i (get_or sc (base + i) 0)
   row_ready = moves_row p.good i under was refl d.from_is low p.room back
 
   -- a row that stays
   module _ {ns' ls' : List ℕ} (one : Written (node_width * get_or sc (base + i) 0) (node_width * get_or sc (base + i) 0 + node_width) (numbers_moved (moving sc (maps base count from to)) ns i node_width) ns ns')
       (all : Written (link_width * to) (link_width * (to + lists_size ns i own_width)) (lists_moved (moving sc (maps base count from to)) ns ls i own_width) ls ls') where
-    row_kept : {c : ℕ → Bool} {left : List ℕ} → Mapped c left w base count sc → stays c w i ≡ true → Packed-upto c left w (suc i) ns' ls' (to + lists_size ns i own_width)
+    row_kept : {c : ℕ → Bool} {left : List ℕ} → Mapped c left w base count sc → stays c w i ≡ true → PackedUpto c left w (suc i) ns' ls' (to + lists_size ns i own_width)
     unfolding packed_nodes packed_links
     row_kept {c} {left} m s =
         let q = d.each m in
@@ -101,7 +101,7 @@ module _ {w : Rows} {base count root : ℕ} {sc : List ℕ} (p : Packable w base
         }
 
   -- one that does not
-  row_left : {c : ℕ → Bool} {left : List ℕ} → Mapped c left w base count sc → stays c w i ≡ false → Packed-upto c left w (suc i) ns ls to
+  row_left : {c : ℕ → Bool} {left : List ℕ} → Mapped c left w base count sc → stays c w i ≡ false → PackedUpto c left w (suc i) ns ls to
   unfolding packed_nodes packed_links
   row_left {c} {left} m s =
       let q = d.each m in

@@ -7,12 +7,12 @@ use Rattle.grammar.specs.Room.{own_width}
 use Rattle.grammar.specs.Rows.{Rows}
 use Rattle.packing.specs.Good.{Sound}
 use Rattle.packing.specs.Roles.{at, role_at}
-use Rattle.packing.specs.Stack.{Holds-number}
+use Rattle.packing.specs.Stack.{HoldsNumber}
 use Rattle.packing.proofs.Numbers.{row_ranges}
 use Rattle.packing.proofs.Slots.{front_role, role_known, stood}
 
 -- number j of a row, and the links of the list that it begins, are there
-pub holds : {w : Rows} {i : ℕ} → Sound w → i < height w → (j : ℕ) → j < own_width → Holds-number w.nodes w.links i j (role_at w.nodes i j)
+pub holds : {w : Rows} {i : ℕ} → Sound w → i < height w → (j : ℕ) → j < own_width → HoldsNumber w.nodes w.links i j (role_at w.nodes i j)
 holds {w} {i} s h j k =
     let g = s.good in
     let st = stood g h in

@@ -20,7 +20,7 @@ use Rattle.grammar.specs.Rows.{Rows}
 use Rattle.grammar.specs.Symbol.{symbol}
 use Rattle.grammar.specs.Token.{count}
 use Rattle.grammar.proofs.Calls.{written_whole}
-use Rattle.grammar.proofs.Demands.{rows_of, symbols_of, Read-as, Sorts, sorts}
+use Rattle.grammar.proofs.Demands.{rows_of, symbols_of, ReadAs, Sorts, sorts}
 use Rattle.grammar.proofs.Symbols.{rows_built, rows_whole}
 use Rattle.foreign.specs.Check.{Given, Lends, Checks}
 use Rattle.foreign.proofs.Accepted.{answer_checked}
@@ -42,7 +42,7 @@ abbrev pub packed_so : Answer → Packed
 packed_so a = record { code = 0; nodes = a.nodes; links = a.links; symbols = a.symbols; rule = 0; row = 0 }
 
 -- the rooms are those that reading the shorter list leaves, and the counts are those of its answer
-pub record As-read (call : Call) (t : Tree Label) (choice : List ℕ) (r : Packed) (x : Rooms) : Type 0 where
+pub record AsRead (call : Call) (t : Tree Label) (choice : List ℕ) (r : Packed) (x : Rooms) : Type 0 where
   pub reads : Answers (leaving call (keeps choice) t) (success (rows_left call (keeps choice) t) (symbols_left call (keeps choice) t)) x
   pub tells : r ≡ packed_so (success (rows_left call (keeps choice) t) (symbols_left call (keeps choice) t))
 
@@ -62,7 +62,7 @@ module _ (call : Call) (choice : List ℕ) {t : Tree Label} (d : Admitted call) 
   abbrev q : Asked
   q = asked_of call (success w ss) (rooms_filled w ss call.rooms) choice
 
-  module _ (r : Read-as call (success w ss) (rooms_filled w ss call.rooms) t) where
+  module _ (r : ReadAs call (success w ss) (rooms_filled w ss call.rooms) t) where
     same_rows : asked-rows q ≡ w
     same_rows = (read_checked d p r).same
 
@@ -93,13 +93,13 @@ module _ (call : Call) (choice : List ℕ) {t : Tree Label} (d : Admitted call) 
     packs : length choice ≡ statement_count t → Lent q → Packs q (done q) (rooms_packed q)
     packs h l = Packs.passed l d.edition (rw same_rows (read_checked d p r).checked) (h ∙ sym (statements_counted call s) ∙ ap (λ v. statements v) (sym same_rows))
 
-pub packed_as_read : {call : Call} {a : Answer} {after : Rooms} {t : Tree Label} → Answers call a after → a.code ≡ 0 → call.profile ≡ Profile.script → ScriptOf call t → (choice : List ℕ) → length choice ≡ statement_count t → Lent (asked_of call a after choice) → {r : Packed} {x : Rooms} → Packs (asked_of call a after choice) r x → As-read call t choice r x
+pub packed_as_read : {call : Call} {a : Answer} {after : Rooms} {t : Tree Label} → Answers call a after → a.code ≡ 0 → call.profile ≡ Profile.script → ScriptOf call t → (choice : List ℕ) → length choice ≡ statement_count t → Lent (asked_of call a after choice) → {r : Packed} {x : Rooms} → Packs (asked_of call a after choice) r x → AsRead call t choice r x
 packed_as_read {call} {a} {after} {t} y z p s choice h l {r = r₀} {x = x} k =
     let c = keeps choice in
     let (d, r) = answered y z p s in
     let e = r.numbers_are in
     let f = r.rooms_are in
-    let r' = subst (λ v. Read-as call (success (rows_of call t) (symbols_of call)) v t) f (subst (λ v. Read-as call v after t) e r) in
+    let r' = subst (λ v. ReadAs call (success (rows_of call t) (symbols_of call)) v t) f (subst (λ v. ReadAs call v after t) e r) in
     let l' = subst (λ v. Lent (asked_of call (success (rows_of call t) (symbols_of call)) v choice)) f (subst (λ v. Lent (asked_of call v after choice)) e l) in
     let k' = subst (λ v. Packs (asked_of call (success (rows_of call t) (symbols_of call)) v choice) r₀ x) f (subst (λ v. Packs (asked_of call v after choice) r₀ x) e k) in
     let (m, n) = one_packing k' (packs call choice d p s r' h l') in

@@ -18,8 +18,8 @@ use Rattle.parts.proofs.Sizes.{rows_kept_most, links_kept_most}
 use Rattle.parts.proofs.Symbols.{root_list_below}
 use Rattle.packing.specs.Good.{Good}
 use Rattle.packing.specs.Roles.{role, table, at, role_at, linked}
-use Rattle.packing.specs.Rows.{Mapped, Packed-upto, Packs-rows, chosen, chosen_count, Listable, Lists, root_numbers, Packed-all, Packable-all, Packs-all}
-use Rattle.packing.proofs.Agreeing.{As-was, as_was}
+use Rattle.packing.specs.Rows.{Mapped, PackedUpto, PacksRows, chosen, chosen_count, Listable, Lists, root_numbers, PackedAll, PackableAll, PacksAll}
+use Rattle.packing.proofs.Agreeing.{AsWas, as_was}
 use Rattle.packing.proofs.Numbers.{nodes_each, row_names, row_ranges}
 use Rattle.packing.proofs.Slots.{own_number, front_size, stood}
 
@@ -72,14 +72,14 @@ unfolding root_links
 root_links_append c ρ w [] ys = refl
 root_links_append c ρ w (x ∷ xs) ys = rw (root_links_append c ρ w xs ys) refl
 
-module _ {w : Rows} {base count : ℕ} {choice : List ℕ} {first root : ℕ} {sc : List ℕ} (p : Packable-all w base count choice first root sc) {ns ls : List ℕ} {to : ℕ} (r : Packs-rows w base count sc ns ls to) where
+module _ {w : Rows} {base count : ℕ} {choice : List ℕ} {first root : ℕ} {sc : List ℕ} (p : PackableAll w base count choice first root sc) {ns ls : List ℕ} {to : ℕ} (r : PacksRows w base count sc ns ls to) where
   abbrev good : Good base w
   good = p.packable.good
 
-  abbrev so_far : Packed-upto p.packable.choice p.packable.left w (root_row w) ns ls to
+  abbrev so_far : PackedUpto p.packable.choice p.packable.left w (root_row w) ns ls to
   so_far = r.says p.packable.mapped
 
-  was : As-was w (root_row w) (links_before w (root_row w)) ns ls
+  was : AsWas w (root_row w) (links_before w (root_row w)) ns ls
   was = as_was w (root_row w) (links_before w (root_row w)) ns ls so_far.nodes_left so_far.links_left so_far.node_room so_far.link_room
 
   still : (j : ℕ) → linked ls (first + j) 0 ≡ linked w.links (root_first w + j) 0
@@ -127,7 +127,7 @@ module _ {w : Rows} {base count : ℕ} {choice : List ℕ} {first root : ℕ} {s
     many : end - to ≡ length (kept (keeps choice) w)
     many = omega (arith, l.end, ap (chosen_count choice) p.all, count_kept choice w (statements w))
 
-    packed_all : {ns' left : List ℕ} → Written (node_width * get_or sc (base + root) 0) (node_width * get_or sc (base + root) 0 + node_width) (root_numbers ns root to (end - to)) ns ns' → Mapped (keeps choice) left w base count sc → Packed-all (keeps choice) left w ns' ls' end
+    packed_all : {ns' left : List ℕ} → Written (node_width * get_or sc (base + root) 0) (node_width * get_or sc (base + root) 0 + node_width) (root_numbers ns root to (end - to)) ns ns' → Mapped (keeps choice) left w base count sc → PackedAll (keeps choice) left w ns' ls' end
     unfolding packed_with
     packed_all {left = left} one m =
         let q = r.says m in
@@ -147,5 +147,5 @@ module _ {w : Rows} {base count : ℕ} {choice : List ℕ} {first root : ℕ} {s
           wide = omega (arith, many, end_later, q.reached);
         }
 
-    pub root_packed : {ns' : List ℕ} → Written (node_width * get_or sc (base + root) 0) (node_width * get_or sc (base + root) 0 + node_width) (root_numbers ns root to (end - to)) ns ns' → Packs-all w base count choice sc ns' ls' end
+    pub root_packed : {ns' : List ℕ} → Written (node_width * get_or sc (base + root) 0) (node_width * get_or sc (base + root) 0 + node_width) (root_numbers ns root to (end - to)) ns ns' → PacksAll w base count choice sc ns' ls' end
     root_packed one = record { says = λ m. packed_all one m }

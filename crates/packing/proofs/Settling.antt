@@ -19,9 +19,9 @@ use Rattle.parts.proofs.Sizes.{rows_kept_most}
 use Rattle.parts.proofs.Symbols.{packed_symbols_length, left_most}
 use Rattle.packing.specs.Answer.{Settleable, Settled}
 use Rattle.packing.specs.Kept.{Low, Markable, Placing}
-use Rattle.packing.specs.Known.{Hearing, Hearing-all, Begins}
+use Rattle.packing.specs.Known.{Hearing, HearingAll, Begins}
 use Rattle.packing.specs.Roles.{at}
-use Rattle.packing.specs.Rows.{Mapped, Packable-all, Packed-all}
+use Rattle.packing.specs.Rows.{Mapped, PackableAll, PackedAll}
 use Rattle.packing.proofs.Slots.{own_number}
 
 -- rows are at the front, and what follows is cleared
@@ -53,7 +53,7 @@ module _ {w : Rows} {ss : List ℕ} {n s b : ℕ} {choice scratch : List ℕ} (h
   pub markable : {first m : ℕ} → first ≡ root_first w → m ≡ length scratch → Markable w choice first s n m
   markable e l = record { sound = record { symbols = s; good = h.good }; all = h.all; list = e; rows = h.tall; room = omega (arith, h.lent, h.tall, l) }
 
-  module _ {sy sc : List ℕ} {known : ℕ} (k : Hearing-all s b ss c w (length choice) sy sc known) where
+  module _ {sy sc : List ℕ} {known : ℕ} (k : HearingAll s b ss c w (length choice) sy sc known) where
     -- the symbols that are left
     pub heard_all : Hearing s b ss (left c b w) (first_places (spoken_all w (kept c w)) (upto b)) sy sc known
     unfolding left
@@ -62,7 +62,7 @@ module _ {w : Rows} {ss : List ℕ} {n s b : ℕ} {choice scratch : List ℕ} (h
     pub mapped : {sc' : List ℕ} → Placing c w s sc' → Low s sc sc' → Mapped c (left c b w) w s known sc'
     mapped p l = record { numbers = λ x i. l.same x i ∙ heard_all.numbers x i; many = heard_all.many; rows = p }
 
-    pub packable : {sc' : List ℕ} {first root : ℕ} → first ≡ root_first w → root ≡ root_row w → length sc' ≡ length scratch → Placing c w s sc' → Low s sc sc' → Packable-all w s known choice first root sc'
+    pub packable : {sc' : List ℕ} {first root : ℕ} → first ≡ root_first w → root ≡ root_row w → length sc' ≡ length scratch → Placing c w s sc' → Low s sc sc' → PackableAll w s known choice first root sc'
     packable e r z p l = record { packable = record { good = h.good; last = r; room = omega (arith, h.lent, z); choice = c; left = left c b w; mapped = mapped p l }; list = e; all = h.all }
 
     pub symbols_are : take (symbol_width * known) sy ≡ packed_symbols c b w ss
@@ -83,7 +83,7 @@ module _ {w : Rows} {ss : List ℕ} {n s b : ℕ} {choice scratch : List ℕ} (h
     high_few q = omega (arith, rows_kept_most c w (root_row w), h.good.checked.rooted.some, h.good.short)
 
     -- all rows, and the freed ones cleared
-    module _ {ns ls : List ℕ} {long high : ℕ} (p : Packed-all c (left c b w) w ns ls long) (q : high ≡ suc (rows_kept c w (root_row w))) where
+    module _ {ns ls : List ℕ} {long high : ℕ} (p : PackedAll c (left c b w) w ns ls long) (q : high ≡ suc (rows_kept c w (root_row w))) where
       high_most : node_width * high ≤ length w.nodes
       high_most = omega (arith, rows_kept_most c w (root_row w), h.good.nodes, h.good.checked.rooted.some)
 

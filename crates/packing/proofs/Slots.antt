@@ -22,7 +22,7 @@ use Rattle.foreign.specs.Check.{kind_of}
 use Rattle.parts.specs.Moved.{Move, slots_of, moved_row, moved_links, row_links, moved_numbers, moved_nodes, moved_names, moved_entries, moved_lists, list_links}
 use Rattle.parts.specs.Spoken.{Part, node_parts, name_parts, entry_parts, parts, parts_of}
 use Rattle.packing.specs.Good.{Good}
-use Rattle.packing.specs.Roles.{roles_of, line, table, role, at, role_at, linked, link_parts, list_parts, link_moved, list_moved, number_parts, number_moved, numbers_parts, numbers_moved, lists_moved, lists_size, Stands-row}
+use Rattle.packing.specs.Roles.{roles_of, line, table, role, at, role_at, linked, link_parts, list_parts, link_moved, list_moved, number_parts, number_moved, numbers_parts, numbers_moved, lists_moved, lists_size, StandsRow}
 
 -- the table has the line of each kind, in both editions, and its slots take six numbers at most
 right : Edition → ℕ → Bool
@@ -436,7 +436,7 @@ module _ (w : Rows) (i : ℕ) where
   own_number j h = get_or-take own_width (drop (node_width * i) w.nodes) j 0 h ∙ get_or-drop (node_width * i) w.nodes j 0
 
   -- a row that stands, by the slots of its kind
-  pub lined_row : (e : Edition) → Stands-row w.nodes i → Lined w.nodes i 3 (layout e (kind_of w i)) (drop 3 (own w i))
+  pub lined_row : (e : Edition) → StandsRow w.nodes i → Lined w.nodes i 3 (layout e (kind_of w i)) (drop 3 (own w i))
   lined_row e s =
       let k = own_number 0 (omega arith) in
       record {
@@ -446,7 +446,7 @@ module _ (w : Rows) (i : ℕ) where
         numbers = λ j h. get_or-drop 3 (own w i) j 0 ∙ own_number (3 + j) h;
       }
 
-  module _ (s : Stands-row w.nodes i) where
+  module _ (s : StandsRow w.nodes i) where
     abbrev lined : Lined w.nodes i 3 (slots_of w i) (drop 3 (own w i))
     lined = lined_row Edition.second s
 
@@ -485,7 +485,7 @@ module _ (w : Rows) (i : ℕ) where
         rw (parts_numbers 0 own_width, front_role 0 (omega arith), front_role 1 (omega arith), front_role 2 (omega arith), own_number 1 (omega arith), own_number 2 (omega arith)) (sym (parts_lined w.nodes w.links i (slots_of w i) lined))
 
 -- a row that passed the check stands
-pub stood : {s : ℕ} {w : Rows} {i : ℕ} → Good s w → i < height w → Stands-row w.nodes i
+pub stood : {s : ℕ} {w : Rows} {i : ℕ} → Good s w → i < height w → StandsRow w.nodes i
 stood {w = w} {i} g h =
     let k = g.checked.kinds i h in
     let e = own_number w i 0 (omega arith) in

@@ -66,5 +66,5 @@ abbrev pub all_words : (ℕ → Bool) → Rows → (n : ℕ) → List Word
 all_words c w n = spoken_all w (kept_upto c w n)
 
 -- the symbols and places that are known after them
-pub record Hearing-all (s b : ℕ) (ss : List ℕ) (c : ℕ → Bool) (w : Rows) (n : ℕ) (symbols scratch : List ℕ) (count : ℕ) : Type 0 where
+pub record HearingAll (s b : ℕ) (ss : List ℕ) (c : ℕ → Bool) (w : Rows) (n : ℕ) (symbols scratch : List ℕ) (count : ℕ) : Type 0 where
   pub known : Hearing s b ss (heard (all_words c w n) (upto b)) (first_places (all_words c w n) (upto b)) symbols scratch count

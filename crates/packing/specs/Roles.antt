@@ -111,7 +111,7 @@ lists_size ns i zero = 0
 lists_size ns i (suc j) = lists_size ns i j + cond (leb 4 (role_at ns i j)) (at ns i (j + 1)) 0
 
 -- a row is there, of a known kind
-pub record Stands-row (nodes : List ℕ) (row : ℕ) : Type 0 where
+pub record StandsRow (nodes : List ℕ) (row : ℕ) : Type 0 where
   pub room : node_width * row + node_width ≤ length nodes
   pub least : 1 ≤ at nodes row 0
   pub most : at nodes row 0 ≤ 26

@@ -12,7 +12,7 @@ use Rattle.parts.specs.Packed.{root_row, root_first, statements, keeps, kept, ro
 use Rattle.packing.specs.Good.{Good}
 use Rattle.packing.specs.Kept.{Placing}
 use Rattle.packing.specs.Known.{numbered}
-use Rattle.packing.specs.Roles.{at, role_at, linked, lists_size, Stands-row}
+use Rattle.packing.specs.Roles.{at, role_at, linked, lists_size, StandsRow}
 use Rattle.packing.specs.declared.maps.Maps.{Maps}
 
 -- a symbol's new number: those that are not known come after all that are
@@ -30,7 +30,7 @@ pub record Mapped (c : ℕ → Bool) (left : List ℕ) (w : Rows) (base count : 
   pub rows : Placing c w base scratch
 
 -- a number of this role can be moved: a row and a symbol have a number in the room, and a list does not stand before where it comes from
-pub record Moves-number (scratch : List ℕ) (m : Maps) (role x : ℕ) : Type 0 where
+pub record MovesNumber (scratch : List ℕ) (m : Maps) (role x : ℕ) : Type 0 where
   pub known : role ≤ 6
   pub node : role ≡ 1 → eqb x absent ≡ false → m.base + x < length scratch
   pub symbol : 2 ≤ role → role ≤ 3 → x < length scratch
@@ -38,30 +38,30 @@ pub record Moves-number (scratch : List ℕ) (m : Maps) (role x : ℕ) : Type 0 
   pub fits : 4 ≤ role → x - m.from + m.to ≤ 4294967295
 
 -- and so can the first number of a link of a list
-pub record Moves-link (scratch : List ℕ) (m : Maps) (role x : ℕ) : Type 0 where
+pub record MovesLink (scratch : List ℕ) (m : Maps) (role x : ℕ) : Type 0 where
   pub name : role ≡ 5 → x < length scratch
   pub node : (role ≡ 5 → ⊥) → eqb x absent ≡ false → m.base + x < length scratch
 
 -- a list's links go to a place at or before theirs
-pub record Moves-list (scratch : List ℕ) (m : Maps) (role : ℕ) (links : List ℕ) (from to count : ℕ) : Type 0 where
+pub record MovesList (scratch : List ℕ) (m : Maps) (role : ℕ) (links : List ℕ) (from to count : ℕ) : Type 0 where
   pub back : to ≤ from
   pub room : link_width * (from + count) ≤ length links
-  pub first : (k : ℕ) → from ≤ k → k < from + count → Moves-link scratch m role (linked links k 0)
-  pub second : (k : ℕ) → from ≤ k → k < from + count → role ≡ 6 → Moves-link scratch m 6 (linked links k 1)
+  pub first : (k : ℕ) → from ≤ k → k < from + count → MovesLink scratch m role (linked links k 0)
+  pub second : (k : ℕ) → from ≤ k → k < from + count → role ≡ 6 → MovesLink scratch m 6 (linked links k 1)
 
 -- those of each list of a row go where the ones before them end
-pub record Moves-lists (scratch : List ℕ) (m : Maps) (nodes links : List ℕ) (row : ℕ) : Type 0 where
-  pub stands : Stands-row nodes row
-  pub each : (j : ℕ) → j < 9 → 4 ≤ role_at nodes row j → Moves-list scratch m (role_at nodes row j) links (at nodes row j) (m.to + lists_size nodes row j) (at nodes row (j + 1))
+pub record MovesLists (scratch : List ℕ) (m : Maps) (nodes links : List ℕ) (row : ℕ) : Type 0 where
+  pub stands : StandsRow nodes row
+  pub each : (j : ℕ) → j < 9 → 4 ≤ role_at nodes row j → MovesList scratch m (role_at nodes row j) links (at nodes row j) (m.to + lists_size nodes row j) (at nodes row (j + 1))
 
 -- a row goes to its own place or before it
-pub record Moves-row (scratch : List ℕ) (m : Maps) (nodes : List ℕ) (row to : ℕ) : Type 0 where
-  pub stands : Stands-row nodes row
+pub record MovesRow (scratch : List ℕ) (m : Maps) (nodes : List ℕ) (row to : ℕ) : Type 0 where
+  pub stands : StandsRow nodes row
   pub back : to ≤ row
-  pub each : (j : ℕ) → j < node_width → Moves-number scratch m (role_at nodes row j) (at nodes row j)
+  pub each : (j : ℕ) → j < node_width → MovesNumber scratch m (role_at nodes row j) (at nodes row j)
 
 -- the first n rows are packed; those from n on, and their lists' links, are as they were
-pub record Packed-upto (c : ℕ → Bool) (left : List ℕ) (w : Rows) (n : ℕ) (nodes links : List ℕ) (to : ℕ) : Type 0 where
+pub record PackedUpto (c : ℕ → Bool) (left : List ℕ) (w : Rows) (n : ℕ) (nodes links : List ℕ) (to : ℕ) : Type 0 where
   pub nodes_are : take (node_width * rows_kept c w n) nodes ≡ packed_nodes c (λ x. place x left) w n
   pub nodes_left : drop (node_width * n) nodes ≡ drop (node_width * n) w.nodes
   pub node_room : length nodes ≡ length w.nodes
@@ -80,8 +80,8 @@ pub record Packable (w : Rows) (base count root : ℕ) (scratch : List ℕ) : Ty
   pub mapped : Mapped choice left w base count scratch
 
 -- whatever the choice was
-pub record Packs-rows (w : Rows) (base count : ℕ) (scratch nodes links : List ℕ) (to : ℕ) : Type 0 where
-  pub says : {c : ℕ → Bool} {left : List ℕ} → Mapped c left w base count scratch → Packed-upto c left w (root_row w) nodes links to
+pub record PacksRows (w : Rows) (base count : ℕ) (scratch nodes links : List ℕ) (to : ℕ) : Type 0 where
+  pub says : {c : ℕ → Bool} {left : List ℕ} → Mapped c left w base count scratch → PackedUpto c left w (root_row w) nodes links to
 
 -- the root's list, of the first n statements: those that are kept
 unfoldable pub chosen : (links scratch : List ℕ) (base : ℕ) (choice : List ℕ) (first n : ℕ) → List ℕ
@@ -106,7 +106,7 @@ abbrev pub root_numbers : (nodes : List ℕ) (root first count : ℕ) → List �
 root_numbers ns root first count = number_of Node.Block ∷ at ns root 1 ∷ at ns root 2 ∷ first ∷ count ∷ absent ∷ 0 ∷ 0 ∷ 0 ∷ absent ∷ []
 
 -- all rows are packed: so many links
-pub record Packed-all (c : ℕ → Bool) (left : List ℕ) (w : Rows) (nodes links : List ℕ) (long : ℕ) : Type 0 where
+pub record PackedAll (c : ℕ → Bool) (left : List ℕ) (w : Rows) (nodes links : List ℕ) (long : ℕ) : Type 0 where
   pub nodes_are : take (node_width * suc (rows_kept c w (root_row w))) nodes ≡ (packed_with c (λ x. place x left) w).nodes
   pub node_room : length nodes ≡ length w.nodes
   pub links_are : take (link_width * long) links ≡ (packed_with c (λ x. place x left) w).links
@@ -114,10 +114,10 @@ pub record Packed-all (c : ℕ → Bool) (left : List ℕ) (w : Rows) (nodes lin
   pub wide : long ≡ links_kept c w (root_row w) + length (kept c w)
 
 -- what is asked, with a choice for each statement
-pub record Packable-all (w : Rows) (base count : ℕ) (choice : List ℕ) (first root : ℕ) (scratch : List ℕ) : Type 0 where
+pub record PackableAll (w : Rows) (base count : ℕ) (choice : List ℕ) (first root : ℕ) (scratch : List ℕ) : Type 0 where
   pub packable : Packable w base count root scratch
   pub list : first ≡ root_first w
   pub all : length choice ≡ statements w
 
-pub record Packs-all (w : Rows) (base count : ℕ) (choice scratch nodes links : List ℕ) (long : ℕ) : Type 0 where
-  pub says : {left : List ℕ} → Mapped (keeps choice) left w base count scratch → Packed-all (keeps choice) left w nodes links long
+pub record PacksAll (w : Rows) (base count : ℕ) (choice scratch nodes links : List ℕ) (long : ℕ) : Type 0 where
+  pub says : {left : List ℕ} → Mapped (keeps choice) left w base count scratch → PackedAll (keeps choice) left w nodes links long

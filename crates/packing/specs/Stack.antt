@@ -32,7 +32,7 @@ pub record Pushed (w : Rows) (base top : ℕ) (ps : List Part) (before after : L
   pub low : (i : ℕ) → i < base → get_or after i 0 ≡ get_or before i 0
 
 -- number j of a row, and the links of the list that it begins, are there
-pub record Holds-number (nodes links : List ℕ) (row j role : ℕ) : Type 0 where
+pub record HoldsNumber (nodes links : List ℕ) (row j role : ℕ) : Type 0 where
   pub room : node_width * row + node_width ≤ length nodes
   pub inside : j < 9
   pub known : role ≤ 6

@@ -5,7 +5,7 @@ ghost use Rattle.grammar.specs.Room.{symbol_width};
 ghost use Rattle.parts.specs.Packed.{keeps};
 ghost use Rattle.parts.specs.Spoken.{word as word_part, spoken, inside_from, inside_upto};
 ghost use Rattle.packing.specs.Good.{In};
-ghost use Rattle.packing.specs.Known.{Heard, Noted, Hears, Speaks, Built, Begins, Hearing-all};
+ghost use Rattle.packing.specs.Known.{Heard, Noted, Hears, Speaks, Built, Begins, HearingAll};
 ghost use Rattle.packing.specs.Roles.{rows};
 ghost use Rattle.packing.specs.Stack.{source};
 ghost use Rattle.packing.specs.Words.{worded};
@@ -154,7 +154,7 @@ pub(crate) fn hear_all(
     choice: &[u8],
 ) -> u32
     requires { Begins s builtins (rows nodes.now links.now) first choice.now symbols.old scratch.old }
-    ensures { Hearing-all s builtins symbols.old (keeps choice.now) (rows nodes.now links.now) (length choice.now) symbols.new scratch.new result }
+    ensures { HearingAll s builtins symbols.old (keeps choice.now) (rows nodes.now links.now) (length choice.now) symbols.new scratch.new result }
 {
     hear_builtins(scratch, builtins);
     let mut known = builtins;

@@ -3,8 +3,8 @@ ghost use Rattle.std.specs.Prelude.{◌+◌, ◌*◌, ◌≤◌, cond, ◌≡◌
 ghost use Rattle.grammar.specs.Room.{node_width, link_width};
 ghost use Rattle.ast.specs.Written.{Written};
 ghost use Rattle.parts.specs.Moved.{moved_node};
-ghost use Rattle.packing.specs.Roles.{rows, Stands-row, number_moved, list_moved, numbers_moved, lists_moved, lists_size};
-ghost use Rattle.packing.specs.Rows.{moving, Moves-number, Moves-link, Moves-list, Moves-row, Moves-lists, Packable, Packs-rows, Listable, Lists, root_numbers, Packable-all, Packs-all};
+ghost use Rattle.packing.specs.Roles.{rows, StandsRow, number_moved, list_moved, numbers_moved, lists_moved, lists_size};
+ghost use Rattle.packing.specs.Rows.{moving, MovesNumber, MovesLink, MovesList, MovesRow, MovesLists, Packable, PacksRows, Listable, Lists, root_numbers, PackableAll, PacksAll};
 
 use crate::maps::{Maps, row_to, symbol_to};
 use crate::roles::{CHILD, ENTRIES, NAMES, NODES, PLAIN, role};
@@ -13,7 +13,7 @@ use ast::{ABSENT, LINK_WIDTH, NODE_WIDTH, kinds};
 // A number of a row, by its role.
 // Ruled out: a list's old place; a row's old number.
 fn number(scratch: &[u32], m: Maps, sort: u32, x: u32) -> u32
-    requires { Moves-number scratch.now m sort x }
+    requires { MovesNumber scratch.now m sort x }
     ensures { result ≡ number_moved (moving scratch.now m) sort x }
 {
     match sort {
@@ -26,7 +26,7 @@ fn number(scratch: &[u32], m: Maps, sort: u32, x: u32) -> u32
 
 // The first number of a link row: a name's symbol, or a row.
 fn link_first(scratch: &[u32], m: Maps, sort: u32, x: u32) -> u32
-    requires { Moves-link scratch.now m sort x }
+    requires { MovesLink scratch.now m sort x }
     ensures { result ≡ cond (eqb sort 5) ((moving scratch.now m).symbol x) (moved_node (moving scratch.now m) x) }
 {
     if sort == NAMES {
@@ -37,7 +37,7 @@ fn link_first(scratch: &[u32], m: Maps, sort: u32, x: u32) -> u32
 
 // And the second: a value's row, or a number that stays.
 fn link_second(scratch: &[u32], m: Maps, sort: u32, y: u32) -> u32
-    requires { sort ≡ 6 → Moves-link scratch.now m 6 y }
+    requires { sort ≡ 6 → MovesLink scratch.now m 6 y }
     ensures { result ≡ cond (eqb sort 6) (moved_node (moving scratch.now m) y) y }
 {
     if sort == ENTRIES {
@@ -57,7 +57,7 @@ fn move_list(
     to: usize,
     count: usize,
 )
-    requires { Moves-list scratch.now m sort links.old from to count }
+    requires { MovesList scratch.now m sort links.old from to count }
     ensures { Written (link_width * to) (link_width * (to + count)) (list_moved (moving scratch.now m) sort links.old from count) links.old links.new }
 {
     let mut k = 0;
@@ -77,7 +77,7 @@ fn move_list(
 // The links of all lists of a row, to where m says.
 // Ruled out: an import's second list before its first.
 fn move_lists(nodes: &[u32], links: &mut [u32], scratch: &[u32], m: Maps, row: usize)
-    requires { Moves-lists scratch.now m nodes.now links.old row }
+    requires { MovesLists scratch.now m nodes.now links.old row }
     ensures { Written (link_width * m.to) (link_width * (m.to + lists_size nodes.now row 9)) (lists_moved (moving scratch.now m) nodes.now links.old row 9) links.old links.new }
 {
     let base = NODE_WIDTH * row;
@@ -98,7 +98,7 @@ fn move_lists(nodes: &[u32], links: &mut [u32], scratch: &[u32], m: Maps, row: u
 // How many links the lists of a row have.
 // Ruled out: an import's second list left out.
 fn row_links(nodes: &[u32], row: usize) -> usize
-    requires { Stands-row nodes.now row }
+    requires { StandsRow nodes.now row }
     ensures { result ≡ lists_size nodes.now row 9 }
 {
     let base = NODE_WIDTH * row;
@@ -117,7 +117,7 @@ fn row_links(nodes: &[u32], row: usize) -> usize
 // A row, number by number, to a place at or before its own.
 // Ruled out: a parent that stays where it was.
 fn move_row(nodes: &mut [u32], scratch: &[u32], m: Maps, row: usize, to: usize)
-    requires { Moves-row scratch.now m nodes.old row to }
+    requires { MovesRow scratch.now m nodes.old row to }
     ensures { Written (node_width * to) (node_width * to + node_width) (numbers_moved (moving scratch.now m) nodes.old row 10) nodes.old nodes.new }
 {
     let from = NODE_WIDTH * row;
@@ -140,7 +140,7 @@ pub(crate) fn pack_rows(
     root: usize,
 ) -> usize
     requires { Packable (rows nodes.old links.old) base symbols root scratch.now }
-    ensures { Packs-rows (rows nodes.old links.old) base symbols scratch.now nodes.new links.new result }
+    ensures { PacksRows (rows nodes.old links.old) base symbols scratch.now nodes.new links.new result }
 {
     let mut from = 0;
     let mut to = 0;
@@ -225,8 +225,8 @@ pub(crate) fn pack(
     first: usize,
     root: usize,
 ) -> usize
-    requires { Packable-all (rows nodes.old links.old) base symbols choice.now first root scratch.now }
-    ensures { Packs-all (rows nodes.old links.old) base symbols choice.now scratch.now nodes.new links.new result }
+    requires { PackableAll (rows nodes.old links.old) base symbols choice.now first root scratch.now }
+    ensures { PacksAll (rows nodes.old links.old) base symbols choice.now scratch.now nodes.new links.new result }
 {
     let to = pack_rows(nodes, links, scratch, base, symbols, root);
     let end = pack_list(links, scratch, base, choice, first, to);

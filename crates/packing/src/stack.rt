@@ -4,7 +4,7 @@ ghost use Rattle.grammar.specs.Room.{link_width};
 ghost use Rattle.parts.specs.Spoken.{row as row_part};
 ghost use Rattle.packing.specs.Good.{Sound, In};
 ghost use Rattle.packing.specs.Roles.{rows, link_parts, list_parts, number_parts, numbers_parts};
-ghost use Rattle.packing.specs.Stack.{present, RoomFor, Pushed, Holds-number};
+ghost use Rattle.packing.specs.Stack.{present, RoomFor, Pushed, HoldsNumber};
 
 use crate::roles::{CHILD, ENTRIES, NAME, NAMES, NODES, STRING, role};
 use ast::{ABSENT, LINK_WIDTH, NODE_WIDTH};
@@ -107,7 +107,7 @@ fn push_number(
     j: usize,
     sort: u32,
 ) -> usize
-    requires { Holds-number nodes.now links.now row j sort × RoomFor base top (length (present (number_parts nodes.now links.now row j sort))) (length stack.old) }
+    requires { HoldsNumber nodes.now links.now row j sort × RoomFor base top (length (present (number_parts nodes.now links.now row j sort))) (length stack.old) }
     ensures { Pushed (rows nodes.now links.now) base top (number_parts nodes.now links.now row j sort) stack.old stack.new result }
 {
     let i = NODE_WIDTH * (row as usize) + j;

@@ -13,7 +13,7 @@ use Rattle.grammar.specs.Phrase.{choice, Aim, whole}
 use Rattle.grammar.specs.Room.{node_width}
 use Rattle.grammar.specs.Rows.{Rows}
 use Rattle.grammar.proofs.Decoding.{Whole}
-use Rattle.grammar.proofs.Handles.{Known, All-known, Aligned, walk_sound}
+use Rattle.grammar.proofs.Handles.{Known, AllKnown, Aligned, walk_sound}
 use Rattle.grammar.proofs.Shapes.{table, shape, ok}
 use Rattle.grammar.proofs.Sizes.{Fits, one}
 use Rattle.grammar.proofs.Trees.{grows}
@@ -29,10 +29,10 @@ whole_rows {s = s} w =
     let l = length-take-le (3 * s.cursor.links) s.links w.stands.link_rows in
     record { nodes = omega arith; links = omega arith }
 
-last_known : {w : Rows} {hs : List Handle} → All-known w hs → Known w (last hs)
-last_known All-known.nil = Known.other
-last_known (All-known.cons k All-known.nil) = k
-last_known (All-known.cons k (All-known.cons j ks)) = last_known (All-known.cons j ks)
+last_known : {w : Rows} {hs : List Handle} → AllKnown w hs → Known w (last hs)
+last_known AllKnown.nil = Known.other
+last_known (AllKnown.cons k AllKnown.nil) = k
+last_known (AllKnown.cons k (AllKnown.cons j ks)) = last_known (AllKnown.cons j ks)
 
 tail_row : {w : Rows} {h : Handle} → Known w h → is_tail h ≡ true → node_width * (row h + 1) ≤ length w.nodes
 tail_row (Known.node h p q) e = h
@@ -46,7 +46,7 @@ pub tail_present : {ts : List ℕ} {terms : Terms} {o : ℕ} {g : Aim Table Labe
     is_tail (last hs) ≡ true → row (last hs) ≡ absent → ⊥
 unfolding Aligned
 tail_present {ts} {s = s} {s' = s'} {hs = hs} i w r e z =
-    let k : All-known (written s') hs = rw r.rows at (walk_sound ts (names_of ts s.scratch) r.tree (written s) (whole_rows w).nodes).first in
+    let k : AllKnown (written s') hs = rw r.rows at (walk_sound ts (names_of ts s.scratch) r.tree (written s) (whole_rows w).nodes).first in
     omega (arith, tail_row (last_known k) e, length-take (node_width * s'.cursor.nodes) s'.nodes)
 
 row_link : (h : Handle) → Fits one (h ∷ []) → link h ≡ row h ∷ 0 ∷ 0 ∷ []

@@ -94,7 +94,7 @@ module _ (m : Move) where
   entry_rows (Entries.entry n) is = rw (entry_rows n is)
 
   -- what fields name, and those at the new place
-  pub record Both-laid (r : ℕ) (ss : List Slot) (fs gs : List Field) : Type 0 where
+  pub record BothLaid (r : ℕ) (ss : List Slot) (fs gs : List Field) : Type 0 where
     pub named : List ℕ
     pub old : Laid r ss fs named
     pub new : Laid r ss gs (map (sent m) named)
@@ -111,7 +111,7 @@ module _ (m : Move) where
   entries_laid : {r : ℕ} {ss : List Slot} {gs : List Field} {hs hs' : List Handle} (is : List ℕ) → hs' ≡ moved_all m hs → Entries hs → Laid r ss gs (map (sent m) is) → Laid (suc (suc r)) (Slot.entries ∷ ss) (Field.list hs' ∷ gs) (map (sent m) (rows_of hs ++ is))
   entries_laid is q n l = rw (q, ← entry_rows n is) (Laid.entries (entries_sent n) l)
 
-  both_laid : {r : ℕ} {ss : List Slot} {fs gs : List Field} → Carry m r ss fs gs → Both-laid r ss fs gs
+  both_laid : {r : ℕ} {ss : List Slot} {fs gs : List Field} → Carry m r ss fs gs → BothLaid r ss fs gs
   both_laid Carry.done = record { named = []; old = Laid.done; new = Laid.done }
   both_laid (Carry.number q c) = let b = both_laid c in record { named = b.named; old = Laid.number b.old; new = Laid.number b.new }
   both_laid (Carry.child {h = h} q c) = let b = both_laid c in record { named = row h ∷ b.named; old = Laid.child b.old; new = child_laid q b.new }
@@ -203,11 +203,11 @@ module _ (m : Move) (first : ℕ → ℕ → ℕ) (P : ℕ → List ℕ) (U U' :
     pub links : v.links ≡ P (height w)
 
   -- row i, and its like
-  pub record Row-like (i : ℕ) : Type 0 where
+  pub record RowLike (i : ℕ) : Type 0 where
     pub own_is : own U' (m.node i) ≡ moved_own (at m (first i)) U i
     pub names_are : named_by U' (m.node i) ≡ map (sent m) (named_by U i)
 
-  pub row_alike : (k s e : ℕ) {s' e' : ℕ} {fs gs : List Field} → s' ≡ m.span s → e' ≡ m.span e → Carry m 6 (layout Edition.second k) fs gs → {w v : Rows} → Place w v → Step (height w) → Later (fill fs (k ∷ s ∷ e ∷ []) w) U → Later (fill gs (k ∷ s' ∷ e' ∷ []) v) U' → Place (fill fs (k ∷ s ∷ e ∷ []) w) (fill gs (k ∷ s' ∷ e' ∷ []) v) × Row-like (height w)
+  pub row_alike : (k s e : ℕ) {s' e' : ℕ} {fs gs : List Field} → s' ≡ m.span s → e' ≡ m.span e → Carry m 6 (layout Edition.second k) fs gs → {w v : Rows} → Place w v → Step (height w) → Later (fill fs (k ∷ s ∷ e ∷ []) w) U → Later (fill gs (k ∷ s' ∷ e' ∷ []) v) U' → Place (fill fs (k ∷ s ∷ e ∷ []) w) (fill gs (k ∷ s' ∷ e' ∷ []) v) × RowLike (height w)
   unfolding moved_links
   row_alike k s e {s'} {e'} {fs} {gs} p q c {w} {v} h t l l' =
       let b = both_laid m c in

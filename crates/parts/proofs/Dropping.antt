@@ -30,7 +30,7 @@ use Rattle.parts.specs.Dropped.{items}
 use Rattle.parts.specs.Moved.{Move, moved_node, moved_lists, moved_numbers, list_links, moved_row, moved_links, row_links}
 use Rattle.parts.specs.Packed.{root_row, statement, kept as kept-rows, kept_upto, stays, rows_kept, links_kept, links_before, packing, packed_nodes, packed_links, root_links, root_line, packed_with}
 use Rattle.parts.proofs.Kinship.{Items, Keeps, Kin, Lies, All, kept, replaced}
-use Rattle.parts.proofs.Carrying.{at, moved_own, Step, Place, Row-like}
+use Rattle.parts.proofs.Carrying.{at, moved_own, Step, Place, RowLike}
 use Rattle.parts.proofs.Likeness.{sent, moved_handle, moved_all}
 use Rattle.parts.proofs.Moving.{covers, Toks, alike}
 use Rattle.parts.proofs.Spanned.{fine}
@@ -182,7 +182,7 @@ module _ (e : Edition) (ts ts' : List ℕ) (σ σ' : ℕ → ℕ) (c : ℕ → B
   -- so far: what the items t have become, and the statements that are kept of them
   record Packing (t t' : Tree Label) (is : List ℕ) : Type 0 where
     pub place : Place m first P U U' (walk ts σ t blank).rows (walk ts' σ' t' blank).rows
-    pub each : (i : ℕ) → i < height (walk ts σ t blank).rows → stays c F i ≡ true → Row-like m first P U U' i
+    pub each : (i : ℕ) → i < height (walk ts σ t blank).rows → stays c F i ≡ true → RowLike m first P U U' i
     pub rest : (walk ts' σ' t' blank).rest ≡ []
     pub list : links_of (walk ts' σ' t' blank).first ≡ root_links c ρ F is
 
@@ -279,7 +279,7 @@ module _ (e : Edition) (ts ts' : List ℕ) (σ σ' : ℕ → ℕ) (c : ℕ → B
     root_goes : R' ≡ rows_kept c F R
     root_goes = (all i₀ Initial.same).place.rows
 
-    row_goes : (i : ℕ) → i < R → stays c F i ≡ true → Row-like m first P U U' i
+    row_goes : (i : ℕ) → i < R → stays c F i ≡ true → RowLike m first P U U' i
     row_goes = (all i₀ Initial.same).each
 
     few_new : height F' ≤ absent

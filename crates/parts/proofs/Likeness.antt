@@ -148,11 +148,11 @@ module _ (m : Move) where
   entry_moved (x ∷ xs) ys = rw (row_moved x, head_row ys)
 
   -- spans of the first, of the last, and of the first if there is one
-  record Span-moved (h g : Handle) : Type 0 where
+  record SpanMoved (h g : Handle) : Type 0 where
     pub from_is : from g ≡ m.span (from h)
     pub upto_is : upto g ≡ m.span (upto h)
 
-  head_span : {hs : List Handle} → Fits one hs → Each Spans hs → Span-moved (head hs) (head (moved_all hs))
+  head_span : {hs : List Handle} → Fits one hs → Each Spans hs → SpanMoved (head hs) (head (moved_all hs))
   head_span f Each.nil = absurd (omega (arith, f.least))
   head_span f (Each.cons Spans.a_node e) = record { from_is = refl; upto_is = refl }
   head_span f (Each.cons Spans.a_name e) = record { from_is = refl; upto_is = refl }
@@ -195,8 +195,8 @@ module _ (m : Move) where
     names : {r : ℕ} {hs hs' : List Handle} {ss : List Slot} {fs gs : List Field} → hs' ≡ moved_all hs → Names hs → Carry r ss fs gs → Carry (suc (suc r)) (Slot.names ∷ ss) (Field.list hs ∷ fs) (Field.list hs' ∷ gs)
     entries : {r : ℕ} {hs hs' : List Handle} {ss : List Slot} {fs gs : List Field} → hs' ≡ moved_all hs → Entries hs → Carry r ss fs gs → Carry (suc (suc r)) (Slot.entries ∷ ss) (Field.list hs ∷ fs) (Field.list hs' ∷ gs)
 
-  pub data Row-carried (ss : List Slot) : Row → Row → Type 0 where
-    carried_row : {s e s' e' : ℕ} {fs gs : List Field} → s' ≡ m.span s → e' ≡ m.span e → Carry 6 ss fs gs → Row-carried ss (writes s e fs) (writes s' e' gs)
+  pub data RowCarried (ss : List Slot) : Row → Row → Type 0 where
+    carried_row : {s e s' e' : ℕ} {fs gs : List Field} → s' ≡ m.span s → e' ≡ m.span e → Carry 6 ss fs gs → RowCarried ss (writes s e fs) (writes s' e' gs)
 
 module _ (ts ts' : List ℕ) (σ σ' f : ℕ → ℕ) (m : Move) where
   -- the tokens of a node
@@ -209,32 +209,32 @@ module _ (ts ts' : List ℕ) (σ σ' f : ℕ → ℕ) (m : Move) where
   word_named : {a : ℕ} → Kin ts ts' f m.span a → σ' (f a) ≡ m.symbol (σ a) → Named m (word ts σ a) (word ts' σ' (f a))
   word_named k q = rw (q, k.start_is, k.end_is) Named.named
 
-  pub rule_carried : (e : Edition) (n : Node) {a b : ℕ} → Tokens (Label.Row n) a b → {xs ys : List Handle} → Suited e (kind ts) (Label.Row n) a xs ys → Fits (wants n).0 xs → Fits (wants n).1 ys → (T (not (is_block n)) → Spanned xs ys) → Row-carried m (layout Edition.second (number_of n)) (rule ts σ n a b xs ys (head xs) (head ys)) (rule ts' σ' n (f a) (f b) (moved_all m xs) (moved_all m ys) (head (moved_all m xs)) (head (moved_all m ys)))
+  pub rule_carried : (e : Edition) (n : Node) {a b : ℕ} → Tokens (Label.Row n) a b → {xs ys : List Handle} → Suited e (kind ts) (Label.Row n) a xs ys → Fits (wants n).0 xs → Fits (wants n).1 ys → (T (not (is_block n)) → Spanned xs ys) → RowCarried m (layout Edition.second (number_of n)) (rule ts σ n a b xs ys (head xs) (head ys)) (rule ts' σ' n (f a) (f b) (moved_all m xs) (moved_all m ys) (head (moved_all m xs)) (head (moved_all m ys)))
   unfolding wants layout rule sub has_word
-  rule_carried e Node.Binary t {xs} {ys} i p q u = Row-carried.carried_row (head_span m p (u tt).first).from_is (head_span m q (u tt).rest).upto_is (Carry.number (ap (λ x. place x binary_operators) t.first.kind_is) (Carry.child (head_row m xs) (Carry.child (head_row m ys) Carry.done)))
-  rule_carried e Node.LogicalAnd t {xs} {ys} i p q u = Row-carried.carried_row (head_span m p (u tt).first).from_is (head_span m q (u tt).rest).upto_is (Carry.child (head_row m xs) (Carry.child (head_row m ys) Carry.done))
-  rule_carried e Node.LogicalOr t {xs} {ys} i p q u = Row-carried.carried_row (head_span m p (u tt).first).from_is (head_span m q (u tt).rest).upto_is (Carry.child (head_row m xs) (Carry.child (head_row m ys) Carry.done))
-  rule_carried e (Node.LogicalNot Edition.first) t {xs} {ys} i p q u = Row-carried.carried_row t.first.start_is t.first.end_is (Carry.child (head_row m xs) Carry.done)
-  rule_carried e (Node.LogicalNot Edition.second) t {xs} {ys} i p q u = Row-carried.carried_row t.first.start_is (head_span m p (u tt).first).upto_is (Carry.child (head_row m xs) Carry.done)
-  rule_carried e Node.Unary t {xs} {ys} i p q u = Row-carried.carried_row t.first.start_is (head_span m p (u tt).first).upto_is (Carry.number (ap (λ x. place x unary_operators) t.first.kind_is) (Carry.child (head_row m xs) Carry.done))
-  rule_carried e Node.Assign t {xs} {ys} i p q u = Row-carried.carried_row (head_span m p (u tt).first).from_is (head_span m q (u tt).rest).upto_is (Carry.child (head_row m xs) (Carry.child (head_row m ys) Carry.done))
-  rule_carried e Node.Variable t {xs} {ys} i p q u = Row-carried.carried_row t.first.start_is (head_span m q (u tt).rest).upto_is (Carry.name (first_named m (only_names p (u tt).first) (i.filled.first tt)) (Carry.child (head_row m ys) Carry.done))
-  rule_carried e Node.Constant t {xs} {ys} i p q u = Row-carried.carried_row t.first.start_is (head_span m q (u tt).rest).upto_is (Carry.name (first_named m (only_names p (u tt).first) (i.filled.first tt)) (Carry.child (head_row m ys) Carry.done))
-  rule_carried e Node.Ref t {xs} {ys} i p q u = Row-carried.carried_row t.first.start_is (head_span m q (u tt).rest).upto_is (Carry.name (first_named m (only_names p (u tt).first) (i.filled.first tt)) (Carry.child (head_row m ys) Carry.done))
-  rule_carried e Node.Identifier t {xs} {ys} i p q u = Row-carried.carried_row t.first.start_is t.first.end_is (Carry.name (word_named t.first (t.word_is (as_true _ i.spelt))) Carry.done)
-  rule_carried e Node.String t {xs} {ys} i p q u = Row-carried.carried_row t.first.start_is t.first.end_is (Carry.symbol (t.word_is (as_true _ i.spelt)) Carry.done)
-  rule_carried e Node.Number t {xs} {ys} i p q u = Row-carried.carried_row t.first.start_is t.first.end_is Carry.done
-  rule_carried e Node.Boolean t {xs} {ys} i p q u = Row-carried.carried_row t.first.start_is t.first.end_is (Carry.number (ap (λ x. place x (False ∷ True ∷ [])) t.first.kind_is) Carry.done)
-  rule_carried e Node.Nil t {xs} {ys} i p q u = Row-carried.carried_row t.first.start_is t.first.end_is Carry.done
-  rule_carried e Node.FunctionCall t {xs} {ys} i p q u = Row-carried.carried_row t.first.start_is t.close (Carry.child (head_row m xs) (Carry.nodes refl (only_nodes q) Carry.done))
-  rule_carried e Node.PropertyAccess t {xs} {ys} i p q u = Row-carried.carried_row t.first.start_is (named_span m (only_names q (u tt).rest) (i.filled.rest tt)) (Carry.child (head_row m xs) (Carry.name (first_named m (only_names q (u tt).rest) (i.filled.rest tt)) Carry.done))
-  rule_carried e Node.Map t {xs} {ys} i p q u = Row-carried.carried_row t.first.start_is t.close (Carry.entries refl (only_entries p) Carry.done)
-  rule_carried e Node.Function t {xs} {ys} i p q u = Row-carried.carried_row t.first.start_is (head_span m q (u tt).rest).upto_is (Carry.name (first_named m (only_names p (u tt).first) (i.filled.first tt)) (Carry.names (tail_moved m xs) (tail_names (only_names p (u tt).first)) (Carry.child (head_row m ys) Carry.done)))
-  rule_carried e Node.Lambda t {xs} {ys} i p q u = Row-carried.carried_row t.first.start_is (head_span m q (u tt).rest).upto_is (Carry.names refl (only_names p (u tt).first) (Carry.child (head_row m ys) Carry.done))
-  rule_carried e Node.Block t {xs} {ys} i p q u = Row-carried.carried_row t.first.start_is t.close (Carry.nodes (block_list_moved m xs) (nodes_left (only_nodes p)) (Carry.option (block_tail_row m xs) Carry.done))
-  rule_carried e Node.If t {xs} {ys} i p q u = Row-carried.carried_row t.first.start_is (last_span m (fits_sub tt q) (u tt).rest (i.filled.rest tt)) (Carry.child (head_row m xs) (Carry.child (head_row m ys) (Carry.option (second_row m ys) Carry.done)))
-  rule_carried e Node.WhileLoop t {xs} {ys} i p q u = Row-carried.carried_row t.first.start_is (head_span m q (u tt).rest).upto_is (Carry.child (head_row m xs) (Carry.child (head_row m ys) Carry.done))
-  rule_carried e Node.Return t {xs} {ys} i p q u = Row-carried.carried_row t.first.start_is (span_or m p (u tt).first t.first.end_is) (Carry.option (head_row m xs) Carry.done)
-  rule_carried e Node.Break t {xs} {ys} i p q u = Row-carried.carried_row t.first.start_is t.first.end_is Carry.done
-  rule_carried e Node.Continue t {xs} {ys} i p q u = Row-carried.carried_row t.first.start_is t.first.end_is Carry.done
-  rule_carried e Node.Import t {xs} {ys} i p q u = Row-carried.carried_row t.first.start_is (t.after tt) (Carry.names refl (only_names p (u tt).first) (Carry.names refl (only_names q (u tt).rest) Carry.done))
+  rule_carried e Node.Binary t {xs} {ys} i p q u = RowCarried.carried_row (head_span m p (u tt).first).from_is (head_span m q (u tt).rest).upto_is (Carry.number (ap (λ x. place x binary_operators) t.first.kind_is) (Carry.child (head_row m xs) (Carry.child (head_row m ys) Carry.done)))
+  rule_carried e Node.LogicalAnd t {xs} {ys} i p q u = RowCarried.carried_row (head_span m p (u tt).first).from_is (head_span m q (u tt).rest).upto_is (Carry.child (head_row m xs) (Carry.child (head_row m ys) Carry.done))
+  rule_carried e Node.LogicalOr t {xs} {ys} i p q u = RowCarried.carried_row (head_span m p (u tt).first).from_is (head_span m q (u tt).rest).upto_is (Carry.child (head_row m xs) (Carry.child (head_row m ys) Carry.done))
+  rule_carried e (Node.LogicalNot Edition.first) t {xs} {ys} i p q u = RowCarried.carried_row t.first.start_is t.first.end_is (Carry.child (head_row m xs) Carry.done)
+  rule_carried e (Node.LogicalNot Edition.second) t {xs} {ys} i p q u = RowCarried.carried_row t.first.start_is (head_span m p (u tt).first).upto_is (Carry.child (head_row m xs) Carry.done)
+  rule_carried e Node.Unary t {xs} {ys} i p q u = RowCarried.carried_row t.first.start_is (head_span m p (u tt).first).upto_is (Carry.number (ap (λ x. place x unary_operators) t.first.kind_is) (Carry.child (head_row m xs) Carry.done))
+  rule_carried e Node.Assign t {xs} {ys} i p q u = RowCarried.carried_row (head_span m p (u tt).first).from_is (head_span m q (u tt).rest).upto_is (Carry.child (head_row m xs) (Carry.child (head_row m ys) Carry.done))
+  rule_carried e Node.Variable t {xs} {ys} i p q u = RowCarried.carried_row t.first.start_is (head_span m q (u tt).rest).upto_is (Carry.name (first_named m (only_names p (u tt).first) (i.filled.first tt)) (Carry.child (head_row m ys) Carry.done))
+  rule_carried e Node.Constant t {xs} {ys} i p q u = RowCarried.carried_row t.first.start_is (head_span m q (u tt).rest).upto_is (Carry.name (first_named m (only_names p (u tt).first) (i.filled.first tt)) (Carry.child (head_row m ys) Carry.done))
+  rule_carried e Node.Ref t {xs} {ys} i p q u = RowCarried.carried_row t.first.start_is (head_span m q (u tt).rest).upto_is (Carry.name (first_named m (only_names p (u tt).first) (i.filled.first tt)) (Carry.child (head_row m ys) Carry.done))
+  rule_carried e Node.Identifier t {xs} {ys} i p q u = RowCarried.carried_row t.first.start_is t.first.end_is (Carry.name (word_named t.first (t.word_is (as_true _ i.spelt))) Carry.done)
+  rule_carried e Node.String t {xs} {ys} i p q u = RowCarried.carried_row t.first.start_is t.first.end_is (Carry.symbol (t.word_is (as_true _ i.spelt)) Carry.done)
+  rule_carried e Node.Number t {xs} {ys} i p q u = RowCarried.carried_row t.first.start_is t.first.end_is Carry.done
+  rule_carried e Node.Boolean t {xs} {ys} i p q u = RowCarried.carried_row t.first.start_is t.first.end_is (Carry.number (ap (λ x. place x (False ∷ True ∷ [])) t.first.kind_is) Carry.done)
+  rule_carried e Node.Nil t {xs} {ys} i p q u = RowCarried.carried_row t.first.start_is t.first.end_is Carry.done
+  rule_carried e Node.FunctionCall t {xs} {ys} i p q u = RowCarried.carried_row t.first.start_is t.close (Carry.child (head_row m xs) (Carry.nodes refl (only_nodes q) Carry.done))
+  rule_carried e Node.PropertyAccess t {xs} {ys} i p q u = RowCarried.carried_row t.first.start_is (named_span m (only_names q (u tt).rest) (i.filled.rest tt)) (Carry.child (head_row m xs) (Carry.name (first_named m (only_names q (u tt).rest) (i.filled.rest tt)) Carry.done))
+  rule_carried e Node.Map t {xs} {ys} i p q u = RowCarried.carried_row t.first.start_is t.close (Carry.entries refl (only_entries p) Carry.done)
+  rule_carried e Node.Function t {xs} {ys} i p q u = RowCarried.carried_row t.first.start_is (head_span m q (u tt).rest).upto_is (Carry.name (first_named m (only_names p (u tt).first) (i.filled.first tt)) (Carry.names (tail_moved m xs) (tail_names (only_names p (u tt).first)) (Carry.child (head_row m ys) Carry.done)))
+  rule_carried e Node.Lambda t {xs} {ys} i p q u = RowCarried.carried_row t.first.start_is (head_span m q (u tt).rest).upto_is (Carry.names refl (only_names p (u tt).first) (Carry.child (head_row m ys) Carry.done))
+  rule_carried e Node.Block t {xs} {ys} i p q u = RowCarried.carried_row t.first.start_is t.close (Carry.nodes (block_list_moved m xs) (nodes_left (only_nodes p)) (Carry.option (block_tail_row m xs) Carry.done))
+  rule_carried e Node.If t {xs} {ys} i p q u = RowCarried.carried_row t.first.start_is (last_span m (fits_sub tt q) (u tt).rest (i.filled.rest tt)) (Carry.child (head_row m xs) (Carry.child (head_row m ys) (Carry.option (second_row m ys) Carry.done)))
+  rule_carried e Node.WhileLoop t {xs} {ys} i p q u = RowCarried.carried_row t.first.start_is (head_span m q (u tt).rest).upto_is (Carry.child (head_row m xs) (Carry.child (head_row m ys) Carry.done))
+  rule_carried e Node.Return t {xs} {ys} i p q u = RowCarried.carried_row t.first.start_is (span_or m p (u tt).first t.first.end_is) (Carry.option (head_row m xs) Carry.done)
+  rule_carried e Node.Break t {xs} {ys} i p q u = RowCarried.carried_row t.first.start_is t.first.end_is Carry.done
+  rule_carried e Node.Continue t {xs} {ys} i p q u = RowCarried.carried_row t.first.start_is t.first.end_is Carry.done
+  rule_carried e Node.Import t {xs} {ys} i p q u = RowCarried.carried_row t.first.start_is (t.after tt) (Carry.names refl (only_names p (u tt).first) (Carry.names refl (only_names q (u tt).rest) Carry.done))

@@ -34,8 +34,8 @@ use Rattle.parts.specs.Moved.{Move}
 use Rattle.parts.specs.Packed.{links_before}
 use Rattle.parts.proofs.Kinship.{All, replaced}
 use Rattle.parts.proofs.Spanned.{flat, plain, fine, wants_plain, is_block, Spanned, joined, spanned, choice_fine, chain_fine, link_fine}
-use Rattle.parts.proofs.Carrying.{Step, Place, Row-like, row_alike, links_next}
-use Rattle.parts.proofs.Likeness.{moved_all, moved_append, head_row, entry_moved, Row-carried, Tokens, rule_carried}
+use Rattle.parts.proofs.Carrying.{Step, Place, RowLike, row_alike, links_next}
+use Rattle.parts.proofs.Likeness.{moved_all, moved_append, head_row, entry_moved, RowCarried, Tokens, rule_carried}
 use Rattle.parts.proofs.Walking.{make_later, walk_later, taller}
 
 either : (a b : Bool) → T (a || b) → T (not a) → T b
@@ -100,7 +100,7 @@ module _ (e : Edition) (ts ts' : List ℕ) (σ σ' f : ℕ → ℕ) (m : Move) (
   -- from w on, two walks that are alike
   pub record Alike (w : Rows) (r r' : Walked) : Type 0 where
     pub place : Place m first P U U' r.rows r'.rows
-    pub each : (i : ℕ) → height w ≤ i → i < height r.rows → Row-like m first P U U' i
+    pub each : (i : ℕ) → height w ≤ i → i < height r.rows → RowLike m first P U U' i
     pub first_is : r'.first ≡ moved_all m r.first
     pub rest_is : r'.rest ≡ moved_all m r.rest
 
@@ -117,9 +117,9 @@ module _ (e : Edition) (ts ts' : List ℕ) (σ σ' f : ℕ → ℕ) (m : Move) (
 
   -- rows from `low` on and below `high` go on from row to row
   module _ (low high : ℕ) (small : high ≤ absent) (steps : (i : ℕ) → low ≤ i → i < high → Step m first P U U' i) where
-    put_alike : (k : ℕ) {x x' : Row} → Row-carried m (layout Edition.second k) x x' → {w : Rows} {r r' : Walked} → Alike w r r' → low ≤ height r.rows → height (put k x r.rows).rows ≤ high → Later (put k x r.rows).rows U → Later (put k x' r'.rows).rows U' → Alike w (put k x r.rows) (put k x' r'.rows)
+    put_alike : (k : ℕ) {x x' : Row} → RowCarried m (layout Edition.second k) x x' → {w : Rows} {r r' : Walked} → Alike w r r' → low ≤ height r.rows → height (put k x r.rows).rows ≤ high → Later (put k x r.rows).rows U → Later (put k x' r'.rows).rows U' → Alike w (put k x r.rows) (put k x' r'.rows)
     unfolding put
-    put_alike k (Row-carried.carried_row {s = s} {e = u} {s' = s'} {e' = u'} {fs = fs} p q c) {w} {r} {r'} g a b l l' =
+    put_alike k (RowCarried.carried_row {s = s} {e = u} {s' = s'} {e' = u'} {fs = fs} p q c) {w} {r} {r'} g a b l l' =
         let o = one_more fs (k ∷ s ∷ u ∷ []) r.rows in
         let less : height r.rows < high = omega (arith, o.nodes) in
         let (x, y) = row_alike m first P U U' k s u p q c g.place (steps (height r.rows) a less) l l' in

@@ -22,7 +22,7 @@ use Rattle.grammar.specs.Room.{link_width}
 use Rattle.grammar.specs.Rows.{Rows}
 use Rattle.grammar.proofs.Forest.{times_append}
 use Rattle.grammar.proofs.Parents.{no_parent}
-use Rattle.foreign.specs.Check.{Item, node_items, items, items_of, kind_of, link_count, Each, nil, cons, Known-kind, InRange, Ranged, Before, Earlier, Once, Rooted, lists, counted, Consecutive, covered, Follows, Covering, Allowed, Present, Zero, Clean, ParentRight, Checked}
+use Rattle.foreign.specs.Check.{Item, node_items, items, items_of, kind_of, link_count, Each, nil, cons, KnownKind, InRange, Ranged, Before, Earlier, Once, Rooted, lists, counted, Consecutive, covered, Follows, Covering, Allowed, Present, Zero, Clean, ParentRight, Checked}
 use Rattle.foreign.proofs.Each.{each_map, each_both}
 use Rattle.foreign.proofs.Walks.{named_earlier}
 use Rattle.parts.specs.Moved.{Move, moved_node, list_links, row_links}
@@ -315,13 +315,13 @@ module _ {e : Edition} {s : ℕ} {w : Rows} (k : Checked e s w) (few : height w 
     all_covered = ap (covered e (packed_with c ρ w)) (packed_height c ρ w) ∙ omega (arith, covered_kept (root_row w) (omega arith), ap (λ (ls : List (ℕ × ℕ)). counted ls) root_lists, packed_link_count c ρ w)
 
     -- kinds stay, absent ones are where they may be, unused ones are 0
-    row_kind : (i : ℕ) → i < root_row w → stays c w i ≡ true → Known-kind (packed_with c ρ w) (rows_kept c w i)
+    row_kind : (i : ℕ) → i < root_row w → stays c w i ≡ true → KnownKind (packed_with c ρ w) (rows_kept c w i)
     row_kind i h t = let y = k.kinds i (omega arith) in record { least = omega (arith, packed_kind c ρ w i h t, y.least); most = omega (arith, packed_kind c ρ w i h t, y.most) }
 
     root_kind_is : kind_of (packed_with c ρ w) (rows_kept c w (root_row w)) ≡ number_of Node.Block
     root_kind_is = ap (λ (xs : List ℕ). get_or xs 0 0) (root_own c ρ w)
 
-    root_kind : Known-kind (packed_with c ρ w) (rows_kept c w (root_row w))
+    root_kind : KnownKind (packed_with c ρ w) (rows_kept c w (root_row w))
     root_kind = record { least = omega (arith, root_kind_is); most = omega (arith, root_kind_is) }
 
     root_rooted : Rooted (packed_with c ρ w)
@@ -382,7 +382,7 @@ module _ {e : Edition} {s : ℕ} {w : Rows} (k : Checked e s w) (few : height w 
       packed_with_checked : Checked e n (packed_with c ρ w)
       packed_with_checked =
           record {
-            kinds = every (Known-kind (packed_with c ρ w)) row_kind root_kind;
+            kinds = every (KnownKind (packed_with c ρ w)) row_kind root_kind;
             ranges = every (Ranged e n (packed_with c ρ w)) row_ranged root_ranged;
             earlier = all_earlier;
             once = λ i h. let x = source c w (root_row w) i (omega (arith, packed_height c ρ w)) in subst (Once (packed_with c ρ w)) x.place (row_once x.row x.below x.stay).0;

@@ -25,7 +25,7 @@ use Rattle.grammar.specs.Room.{Rooms, symbol_width}
 use Rattle.grammar.specs.Rows.{Rows, unparented}
 use Rattle.grammar.specs.Symbol.{is_name, symbol_rows, symbol}
 use Rattle.grammar.specs.Token.{kind, count}
-use Rattle.grammar.proofs.Demands.{rows_of, symbols_of, Read-as, Sorts, sorts}
+use Rattle.grammar.proofs.Demands.{rows_of, symbols_of, ReadAs, Sorts, sorts}
 use Rattle.grammar.proofs.Machine.{one_reading}
 use Rattle.grammar.proofs.Parents.{parented_height}
 use Rattle.grammar.proofs.Room.{all_room}
@@ -42,7 +42,7 @@ use Rattle.parts.proofs.Kinship.{Items, Fresh, kept}
 use Rattle.parts.proofs.Leaving.{landing}
 use Rattle.parts.proofs.Numbering.{Left, symbol_left, symbols_packed}
 use Rattle.parts.proofs.Passing.{packed_nodes_most, packed_links_most}
-use Rattle.parts.proofs.Sequence.{As-items, script_items}
+use Rattle.parts.proofs.Sequence.{AsItems, script_items}
 use Rattle.parts.proofs.Shorter.{Shorter, shorter, all_kept_tokens}
 use Rattle.parts.proofs.Speaking.{spoken_kept}
 use Rattle.parts.proofs.Statements.{statements_count}
@@ -131,8 +131,8 @@ module _ (call : Call) (d : Admitted call) (c : ℕ → Bool) {t₀ : Tree Label
 pub statements_dropped : (call : Call) → Admitted call → (c : ℕ → Bool) {t : Tree Label} → ScriptOf call t → Dropped call c t
 statements_dropped call d c x = pick (script_items x) (few call d x)
   where
-    pick : {t : Tree Label} → As-items (edition call.edition) (kind call.tokens) (count call.tokens - 1) t → height (rows_of call t) ≤ 4096 → Dropped call c t
-    pick (As-items.as_items i e) h = dropped call d c i (shorter call d c i) (omega arith)
+    pick : {t : Tree Label} → AsItems (edition call.edition) (kind call.tokens) (count call.tokens - 1) t → height (rows_of call t) ≤ 4096 → Dropped call c t
+    pick (AsItems.as_items i e) h = dropped call d c i (shorter call d c i) (omega arith)
 
 -- there are no more symbols than before
 pub symbols_most : (call : Call) (c : ℕ → Bool) (t : Tree Label) {e : Edition} → Checked e (length (symbols_of call) / symbol_width) (rows_of call t) → length (symbols_left call c t) ≤ length (symbols_of call)
@@ -143,17 +143,17 @@ symbols_most call c t k =
 
 -- a call that was answered by 0 was read as t; without the others, its answer and its rooms are those of what is left
 pub record Shortened (call : Call) (a : Answer) (after : Rooms) (c : ℕ → Bool) (t : Tree Label) : Type 0 where
-  pub read : Read-as call a after t
+  pub read : ReadAs call a after t
   pub answers : Answers (leaving call c t) (success (rows_left call c t) (symbols_left call c t)) (rooms_filled (rows_left call c t) (symbols_left call c t) call.rooms)
 
 answered_as : {k : Call} {w v : Rows} {ss us : List ℕ} → w ≡ v → ss ≡ us → Answers k (success w ss) (rooms_filled w ss k.rooms) → Answers k (success v us) (rooms_filled v us k.rooms)
 answered_as p q x = rw (← p, ← q) x
 
 -- what is known of such a call
-abbrev pub read_checked : {call : Call} {a : Answer} {after : Rooms} {t : Tree Label} → Admitted call → call.profile ≡ Profile.script → Read-as call a after t → Accepted call (rows_of call t) (symbols_of call)
+abbrev pub read_checked : {call : Call} {a : Answer} {after : Rooms} {t : Tree Label} → Admitted call → call.profile ≡ Profile.script → ReadAs call a after t → Accepted call (rows_of call t) (symbols_of call)
 read_checked {call} d p r = accepted_checked {c = call} d p (Comes.read r.reading r.deep r.fits r.symbols_fit)
 
-read_shortened : {call : Call} {a : Answer} {after : Rooms} {t : Tree Label} → Admitted call → call.profile ≡ Profile.script → ScriptOf call t → (c : ℕ → Bool) → Read-as call a after t → Shortened call a after c t
+read_shortened : {call : Call} {a : Answer} {after : Rooms} {t : Tree Label} → Admitted call → call.profile ≡ Profile.script → ScriptOf call t → (c : ℕ → Bool) → ReadAs call a after t → Shortened call a after c t
 read_shortened {call} {a} {after} {t} d p s c r =
     let x = statements_dropped call d c s in
     let k = (read_checked d p r).checked in
@@ -171,11 +171,11 @@ script_read {call} {a} {after} x z p = pick (sorts x)
     pick (Sorts.stopped d r) = absurd (omega (arith, r.codes.least))
     pick (Sorts.turned r) = absurd (omega (arith, r.codes.least))
 
-pub answered : {call : Call} {a : Answer} {after : Rooms} {t : Tree Label} → Answers call a after → a.code ≡ 0 → call.profile ≡ Profile.script → ScriptOf call t → Admitted call × Read-as call a after t
+pub answered : {call : Call} {a : Answer} {after : Rooms} {t : Tree Label} → Answers call a after → a.code ≡ 0 → call.profile ≡ Profile.script → ScriptOf call t → Admitted call × ReadAs call a after t
 answered {call} {a} {after} {t} x z p s = pick (sorts x)
   where
-    pick : Sorts call a after → Admitted call × Read-as call a after t
-    pick (Sorts.read d r) = (d, subst (Read-as call a after) (r.only (subst (λ q. ReadsAll q (edition call.edition) (kind call.tokens) (count call.tokens) t) (sym p) s)).1 r)
+    pick : Sorts call a after → Admitted call × ReadAs call a after t
+    pick (Sorts.read d r) = (d, subst (ReadAs call a after) (r.only (subst (λ q. ReadsAll q (edition call.edition) (kind call.tokens) (count call.tokens) t) (sym p) s)).1 r)
     pick (Sorts.stopped d r) = absurd (omega (arith, r.codes.least))
     pick (Sorts.turned r) = absurd (omega (arith, r.codes.least))
 
@@ -187,8 +187,8 @@ pub statements_counted : (call : Call) {t : Tree Label} → ScriptOf call t → 
 unfolding statement_count
 statements_counted call x = pick (script_items x)
   where
-    pick : {t : Tree Label} → As-items (edition call.edition) (kind call.tokens) (count call.tokens - 1) t → statements (rows_of call t) ≡ statement_count t
-    pick (As-items.as_items i e) = statements_count call.tokens (symbol call.names call.text call.tokens) i (count call.tokens - 1)
+    pick : {t : Tree Label} → AsItems (edition call.edition) (kind call.tokens) (count call.tokens - 1) t → statements (rows_of call t) ≡ statement_count t
+    pick (AsItems.as_items i e) = statements_count call.tokens (symbol call.names call.text call.tokens) i (count call.tokens - 1)
 
 -- where all are kept, all stays as it is
 read_alike : (e : Edition) (names : Builtins) (text vs us : List ℕ) {t u : Tree Label} → us ≡ vs → ReadsAll Profile.script e (kind us) (count us) u → ReadsAll Profile.script e (kind vs) (count vs) t → written us (symbol names text us) u ≡ written vs (symbol names text vs) t

@@ -39,11 +39,11 @@ reading_of Items.nil = Reads.first Reads.nothing
 reading_of {e} {k} (Items.next {b = b} i x) = Reads.link (reading_of i) (unlisted e Table.script_items (k b) ((statement_starts e x).no_eof, tt)) x
 
 -- a script's statements
-pub data As-items (e : Edition) (k : ℕ → ℕ) (n : ℕ) : Tree Label → Type 0 where
-  as_items : {t : Tree Label} → Items e k n t → k n ≡ Eof → As-items e k n (made Label.Script 0 n t)
+pub data AsItems (e : Edition) (k : ℕ → ℕ) (n : ℕ) : Tree Label → Type 0 where
+  as_items : {t : Tree Label} → Items e k n t → k n ≡ Eof → AsItems e k n (made Label.Script 0 n t)
 
-pub script_items : {e : Edition} {k : ℕ → ℕ} {n : ℕ} {t : Tree Label} → Script e k n t → As-items e k n t
-script_items {e} (Reads.labelled (Reads.ended l d)) = As-items.as_items (items_of e l) (ends_at_eof e (Reads.labelled {f = Label.Script} (Reads.ended l d)))
+pub script_items : {e : Edition} {k : ℕ → ℕ} {n : ℕ} {t : Tree Label} → Script e k n t → AsItems e k n t
+script_items {e} (Reads.labelled (Reads.ended l d)) = AsItems.as_items (items_of e l) (ends_at_eof e (Reads.labelled {f = Label.Script} (Reads.ended l d)))
 
 pub script_of : {e : Edition} {k : ℕ → ℕ} {n : ℕ} {t : Tree Label} → Items e k n t → k n ≡ Eof → Script e k n (made Label.Script 0 n t)
 unfolding kaori rules

@@ -22,7 +22,7 @@ use Rattle.parts.specs.Dropped.{tokens_between, kept_tokens, without, leaving}
 use Rattle.parts.proofs.Carried.{eof_fresh}
 use Rattle.parts.proofs.Kinship.{kept, Items, Fresh, Keeps}
 use Rattle.parts.proofs.Leaving.{left, landing, landing_end, landing_zero, landing_rises, left_most, kept_length, between_length, number_at, keeps_of, Source, source}
-use Rattle.parts.proofs.Sequence.{As-items, script_of, Kept, kept_items, kept_depth}
+use Rattle.parts.proofs.Sequence.{AsItems, script_of, Kept, kept_items, kept_depth}
 
 -- tokens stand in order
 ordered : {k : Call} → Admitted k → (p q : ℕ) → p < q → q < count k.tokens → end k.tokens p ≤ start k.tokens q
@@ -185,9 +185,9 @@ unfolding kept_tokens
 all_tokens ts Items.nil = refl
 all_tokens ts (Items.next {b = b} {c = n} i x) = let h = forth x in let z : 3 * n ≡ 3 * b + 3 * (n - b) = omega arith in ap (λ l. l ++ tokens_between ts b n) (all_tokens ts i) ∙ sym (rw z (take-add (3 * b) (3 * (n - b)) ts))
 
-pub all_kept_tokens : (call : Call) → Admitted call → {e : Edition} {k : ℕ → ℕ} {t : Tree Label} → As-items e k (count call.tokens - 1) t → without (λ i. true) call.tokens t ≡ call.tokens
+pub all_kept_tokens : (call : Call) → Admitted call → {e : Edition} {k : ℕ → ℕ} {t : Tree Label} → AsItems e k (count call.tokens - 1) t → without (λ i. true) call.tokens t ≡ call.tokens
 unfolding without
-all_kept_tokens call d (As-items.as_items {t = t} i e) =
+all_kept_tokens call d (AsItems.as_items {t = t} i e) =
     let ts = call.tokens in
     let n = count call.tokens - 1 in
     let rows = d.whole.rows in

@@ -57,15 +57,15 @@ following {x} {ws = ws} qs h = ap (λ v. x ∷ (ws ++ v)) (append-nil qs) ∙ sy
 
 module _ (F : Rows) where
   -- a row with these slots says these words
-  data Row-utters (n : ℕ) (ss : List Slot) : Row → List Word → Type 0 where
-    utters : {s e : ℕ} {fs : List Field} {xs : List Word} → Utters F n 6 ss s e fs xs → Row-utters n ss (writes s e fs) xs
+  data RowUtters (n : ℕ) (ss : List Slot) : Row → List Word → Type 0 where
+    utters : {s e : ℕ} {fs : List Field} {xs : List Word} → Utters F n 6 ss s e fs xs → RowUtters n ss (writes s e fs) xs
 
   -- a row that has no word of its own
-  plain : {n : ℕ} {ss : List Slot} {s e : ℕ} {fs : List Field} {xs : List Word} (ps qs : List Word) → Utters F n 6 ss s e fs xs → xs ≡ ps ++ qs → Row-utters n ss (writes s e fs) ((ps ++ qs) ++ [])
+  plain : {n : ℕ} {ss : List Slot} {s e : ℕ} {fs : List Field} {xs : List Word} (ps qs : List Word) → Utters F n 6 ss s e fs xs → xs ≡ ps ++ qs → RowUtters n ss (writes s e fs) ((ps ++ qs) ++ [])
   plain ps qs u e = rw (append-nil (ps ++ qs), ← e) (utters u)
 
   -- and one that has its own alone
-  worded : {n : ℕ} {ss : List Slot} {s e : ℕ} {fs : List Field} {x y : Word} (ps qs : List Word) → Utters F n 6 ss s e fs (x ∷ []) → x ≡ y → ps ≡ [] → qs ≡ [] → Row-utters n ss (writes s e fs) ((ps ++ qs) ++ (y ∷ []))
+  worded : {n : ℕ} {ss : List Slot} {s e : ℕ} {fs : List Field} {x y : Word} (ps qs : List Word) → Utters F n 6 ss s e fs (x ∷ []) → x ≡ y → ps ≡ [] → qs ≡ [] → RowUtters n ss (writes s e fs) ((ps ++ qs) ++ (y ∷ []))
   worded ps qs u e p q = rw (p, q, ← e) (utters u)
 
   -- what a walk made says these words
@@ -90,7 +90,7 @@ module _ (F : Rows) where
   both_tell l g h = record { one_says = g.one_says ++ g.two_says; two_says = h.one_says ++ h.two_says; first = tells_up (taller l) (tells_append g.first g.rest); rest = tells_append h.first h.rest; all_are = rw (g.all_are, h.all_are) }
 
   -- one row more
-  put_tells : height F ≤ absent → (k : ℕ) {x : Row} {w : Rows} {xs : List Word} → Row-utters (height w) (layout Edition.second k) x xs → Whole w → Later (put k x w).rows F → Telling (put k x w) xs
+  put_tells : height F ≤ absent → (k : ℕ) {x : Row} {w : Rows} {xs : List Word} → RowUtters (height w) (layout Edition.second k) x xs → Whole w → Later (put k x w).rows F → Telling (put k x w) xs
   unfolding put
   put_tells small k {w = w} (utters {s = s} {e = e} {fs = fs} {xs = xs} u) h b =
       let f = one_more fs (k ∷ s ∷ e ∷ []) w in
@@ -130,7 +130,7 @@ module _ (ts : List ℕ) (σ : ℕ → ℕ) where
 
   module _ (F : Rows) where
     -- a node's row says what its parts said, and its own word
-    rule_utters : (e : Edition) (m : Node) (a b : ℕ) {n : ℕ} {xs ys : List Handle} {ps qs : List Word} → Fits (wants m).0 xs → Fits (wants m).1 ys → Filled (needs e (Label.Row m)) xs ys → Spelt (kind ts) (Label.Row m) a xs ys → (T (has_word (Label.Row m)) → start ts a < absent) → Tells F n xs ps → Tells F n ys qs → Row-utters F n (layout Edition.second (number_of m)) (rule ts σ m a b xs ys (head xs) (head ys)) ((ps ++ qs) ++ own_word (Label.Row m) a)
+    rule_utters : (e : Edition) (m : Node) (a b : ℕ) {n : ℕ} {xs ys : List Handle} {ps qs : List Word} → Fits (wants m).0 xs → Fits (wants m).1 ys → Filled (needs e (Label.Row m)) xs ys → Spelt (kind ts) (Label.Row m) a xs ys → (T (has_word (Label.Row m)) → start ts a < absent) → Tells F n xs ps → Tells F n ys qs → RowUtters F n (layout Edition.second (number_of m)) (rule ts σ m a b xs ys (head xs) (head ys)) ((ps ++ qs) ++ own_word (Label.Row m) a)
     unfolding wants layout rule own_word has_word sub
     rule_utters e Node.Binary a b {ps = ps} {qs = qs} f g z l s t u = plain F ps qs (Utters.number (Utters.child (one_heard f t) (Utters.child (one_heard g u) Utters.done))) (ap (λ v. ps ++ v) (append-nil qs))
     rule_utters e Node.LogicalAnd a b {ps = ps} {qs = qs} f g z l s t u = plain F ps qs (Utters.child (one_heard f t) (Utters.child (one_heard g u) Utters.done)) (ap (λ v. ps ++ v) (append-nil qs))

@@ -12,7 +12,7 @@ use Rattle.grammar.specs.Edition.{Edition}
 use Rattle.grammar.specs.Handle.{Handle, absent, row}
 use Rattle.grammar.specs.Label.{Node, Label, number_of}
 use Rattle.grammar.specs.Layout.{layout}
-use Rattle.grammar.specs.Naming.{height, named_by, times, One-tree}
+use Rattle.grammar.specs.Naming.{height, named_by, times, OneTree}
 use Rattle.grammar.specs.Parent.{tenth, written, Parents}
 use Rattle.grammar.specs.Pattern.{among}
 use Rattle.grammar.specs.Phrase.{Tree, more, made}
@@ -49,30 +49,30 @@ ordered (Forest.skip f) = ordered f
 ordered (Forest.next n f g) = omega (arith, ordered f, ordered g)
 
 -- a row of a forest is one of its roots, or is named by one of its rows
-record Named-in (w : Rows) (a b i : ℕ) : Type 0 where
+record NamedIn (w : Rows) (a b i : ℕ) : Type 0 where
   pub by : ℕ
   pub from : a ≤ by
   pub upto : by < b
   pub names : 0 < times i (named_by w by)
 
-in_forest : {w : Rows} {a b : ℕ} {xs : List ℕ} → Forest w a b xs → (i : ℕ) → a ≤ i → i < b → (0 < times i xs) ⊎ Named-in w a b i
+in_forest : {w : Rows} {a b : ℕ} {xs : List ℕ} → Forest w a b xs → (i : ℕ) → a ≤ i → i < b → (0 < times i xs) ⊎ NamedIn w a b i
 in_forest Forest.done i h k = absurd (omega arith)
 in_forest {w} {a} {b} (Forest.skip {xs = xs} f) i h k = one_more_root (in_forest f i h k)
   where
-    one_more_root : (0 < times i xs) ⊎ Named-in w a b i → (0 < times i (absent ∷ xs)) ⊎ Named-in w a b i
+    one_more_root : (0 < times i xs) ⊎ NamedIn w a b i → (0 < times i (absent ∷ xs)) ⊎ NamedIn w a b i
     one_more_root (inl p) = inl (omega arith)
     one_more_root (inr p) = inr p
 in_forest {w} {a} {b} (Forest.next {i = r} {xs = xs} {ys = ys} n f g) i h k = place (dec_lt i r) (dec_lt r i) (in_forest f i h) (in_forest g i)
   where
-    below : (0 < times i xs) ⊎ Named-in w a r i → (0 < times i (r ∷ ys)) ⊎ Named-in w a b i
+    below : (0 < times i xs) ⊎ NamedIn w a r i → (0 < times i (r ∷ ys)) ⊎ NamedIn w a b i
     below (inl p) = inr (record { by = r; from = ordered f; upto = omega (arith, ordered g); names = rw (n.says (later_self w)) p })
     below (inr p) = inr (record { by = p.by; from = p.from; upto = omega (arith, p.upto, ordered g); names = p.names })
 
-    above : (0 < times i ys) ⊎ Named-in w (suc r) b i → (0 < times i (r ∷ ys)) ⊎ Named-in w a b i
+    above : (0 < times i ys) ⊎ NamedIn w (suc r) b i → (0 < times i (r ∷ ys)) ⊎ NamedIn w a b i
     above (inl p) = inl (omega arith)
     above (inr p) = inr (record { by = p.by; from = omega (arith, p.from, ordered f); upto = p.upto; names = p.names })
 
-    place : Dec (i < r) → Dec (r < i) → (i < r → (0 < times i xs) ⊎ Named-in w a r i) → (suc r ≤ i → i < b → (0 < times i ys) ⊎ Named-in w (suc r) b i) → (0 < times i (r ∷ ys)) ⊎ Named-in w a b i
+    place : Dec (i < r) → Dec (r < i) → (i < r → (0 < times i xs) ⊎ NamedIn w a r i) → (suc r ≤ i → i < b → (0 < times i ys) ⊎ NamedIn w (suc r) b i) → (0 < times i (r ∷ ys)) ⊎ NamedIn w a b i
     place (yes p) q x y = below (x p)
     place (no p) (yes q) x y = above (y (omega arith) k)
     place (no p) (no q) x y = let z : i ≡ r = omega arith in inl (rw (eq-eqb i r z) (omega arith))
@@ -160,7 +160,7 @@ module _ {e : Edition} (ts : List ℕ) (σ : ℕ → ℕ) {k : ℕ → ℕ} {n :
   initial_before j = later_both (initial_later ts σ i₀ j) root_added.later
 
   module _ (few : height script ≤ absent) where
-    pub one_tree : One-tree before
+    pub one_tree : OneTree before
     one_tree = rooted {i = height body} before_height (omega (arith, script_height)) (rw root_added.taller (Forest.next root_added.names (spread root_told.order (kept root_added.later (items_grow ts σ i₀).forest)) Forest.done))
 
     pub parents : Parents script
@@ -216,7 +216,7 @@ module _ {e : Edition} (ts : List ℕ) (σ : ℕ → ℕ) {k : ℕ → ℕ} {n :
       pub inside : (i : ℕ) → start_row ≤ i → i < last_row → Inside i
       inside i h l = told_by (in_forest stretch i h (omega arith))
         where
-          told_by : (0 < times i (last_row ∷ [])) ⊎ Named-in before start_row (suc last_row) i → Inside i
+          told_by : (0 < times i (last_row ∷ [])) ⊎ NamedIn before start_row (suc last_row) i → Inside i
           told_by (inl p) = absurd (omega (arith, simp (ne_eqb i last_row (λ q. omega arith)) at p))
           told_by (inr p) =
               let q = parent_is i p.by (omega (arith, last_below)) (omega (arith, p.upto, last_below, before_height)) p.names in

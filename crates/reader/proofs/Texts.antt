@@ -6,7 +6,7 @@ use mathlib.Core.Path.{◌≡◌, refl, sym, ap, ◌∙◌}
 use lib.Dec.{T}
 use lib.ListN.{length, length-append, length-replicate}
 use Rattle.grammar.specs.Answer.{Answer}
-use Rattle.grammar.specs.Builtin.{Builtins, Right-names}
+use Rattle.grammar.specs.Builtin.{Builtins, RightNames}
 use Rattle.grammar.specs.Door.{RightSymbols, RightEdition, Lent, Wrong}
 use Rattle.grammar.specs.Label.{Label}
 use Rattle.grammar.specs.Phrase.{Tree}
@@ -14,22 +14,22 @@ use Rattle.grammar.specs.Profile.{Profile, allowed}
 use Rattle.grammar.specs.Room.{Rooms, scratch_width}
 use Rattle.grammar.specs.Token.{kind}
 use Rattle.grammar.proofs.Answers.{one_answer}
-use Rattle.grammar.proofs.Demands.{Read-as, Refused-at, Turned-at, Sorts, sorts}
+use Rattle.grammar.proofs.Demands.{ReadAs, RefusedAt, TurnedAt, Sorts, sorts}
 use Rattle.lexer.specs.Lexes.{Lexes}
-use Rattle.lexer.specs.Reads.{Text-reads}
+use Rattle.lexer.specs.Reads.{TextReads}
 use Rattle.lexer.specs.declared.Lexed.{Lexed}
 use Rattle.lexer.proofs.Once.{one_answer as one-lexing}
 use Rattle.lexer.proofs.Passing.{reads_lent, made_list as made}
 use Rattle.syntax.specs.Parsed.{numbers, call}
 use Rattle.syntax.specs.declared.Numbers.{Numbers}
-use Rattle.reader.specs.Answered.{lexed_numbers, made_list, Answers-text, Read}
+use Rattle.reader.specs.Answered.{lexed_numbers, made_list, AnswersText, Read}
 
 module _ {p : Profile} {names : Builtins} {text : List ℕ} {edition limit : ℕ} {list : List ℕ} {before : Rooms} where
-  one_text : {a b : Answer} {m n : List ℕ} {r s : Rooms} → Answers-text p names text edition limit list before a m r → Answers-text p names text edition limit list before b n s → (a ≡ b) × (m ≡ n) × (r ≡ s)
-  one_text (Answers-text.unmade x f) (Answers-text.unmade y g) = let (u, v) = one-lexing x y in (ap lexed_numbers u, v, refl)
-  one_text (Answers-text.unmade x f) (Answers-text.made y g z) = let (u, v) = one-lexing x y in absurd (f (ap (λ l. l.code) u ∙ g))
-  one_text (Answers-text.made x f z) (Answers-text.unmade y g) = let (u, v) = one-lexing x y in absurd (g (ap (λ l. l.code) (sym u) ∙ f))
-  one_text (Answers-text.made x f z) (Answers-text.made y g w) = let (u, v) = one-lexing x y in let (p, q) = one_answer (rw (u, v) at z) w in (p, v, q)
+  one_text : {a b : Answer} {m n : List ℕ} {r s : Rooms} → AnswersText p names text edition limit list before a m r → AnswersText p names text edition limit list before b n s → (a ≡ b) × (m ≡ n) × (r ≡ s)
+  one_text (AnswersText.unmade x f) (AnswersText.unmade y g) = let (u, v) = one-lexing x y in (ap lexed_numbers u, v, refl)
+  one_text (AnswersText.unmade x f) (AnswersText.made y g z) = let (u, v) = one-lexing x y in absurd (f (ap (λ l. l.code) u ∙ g))
+  one_text (AnswersText.made x f z) (AnswersText.unmade y g) = let (u, v) = one-lexing x y in absurd (g (ap (λ l. l.code) (sym u) ∙ f))
+  one_text (AnswersText.made x f z) (AnswersText.made y g w) = let (u, v) = one-lexing x y in let (p, q) = one_answer (rw (u, v) at z) w in (p, v, q)
 
 -- two outcomes that the contract of `read_as` allows are equal: the answer, every number of the list room, and every number of the four rooms
 abbrev answer_of : Answer → Numbers
@@ -47,13 +47,13 @@ made_fits (Lexes.too_many h x f) e = absurd (omega arith)
 made_fits (Lexes.made {ts = ts} h x f) e = (simp (length-append, length-replicate) (omega (arith, f.rows, (reads_lent h.ascii x f.most).whole.rows)), f.most)
 
 -- built-in names, a text, an edition, a limit and rooms within the limits: scratch has the 4,096 rows that the longest list asks for, and the symbol room the built-in rows
-pub record Within-limits (names : Builtins) (text : List ℕ) (edition limit : ℕ) (before : Rooms) : Type 0 where
+pub record WithinLimits (names : Builtins) (text : List ℕ) (edition limit : ℕ) (before : Rooms) : Type 0 where
   pub short : length text ≤ 65536
   pub some_depth : 1 ≤ limit
   pub least_depth : limit ≤ 64
   pub edition_right : RightEdition edition
   pub scratch : 4096 ≤ length before.scratch / scratch_width
-  pub named : Right-names names
+  pub named : RightNames names
   pub names_fit : RightSymbols names (length before.symbols)
 
 -- the codes of the maker's refusals, within the limits
@@ -70,7 +70,7 @@ unmade_code (Lexes.too_many h x f) s n = Unmade.too_many refl
 unmade_code (Lexes.made h x f) s n = absurd (n refl)
 
 -- of what the maker makes of a text within the limits, the door finds nothing wrong but a token outside the profile
-only_outside : {p : Profile} {names : Builtins} {text ts : List ℕ} {edition limit : ℕ} {before : Rooms} {turn code at from upto : ℕ} → Within-limits names text edition limit before → Lent text ts →
+only_outside : {p : Profile} {names : Builtins} {text ts : List ℕ} {edition limit : ℕ} {before : Rooms} {turn code at from upto : ℕ} → WithinLimits names text edition limit before → Lent text ts →
     Wrong (call p names text ts edition limit before) turn code at from upto → (p ≡ Profile.guard) × (code ≡ 17)
 only_outside w l (Wrong.list x) = absurd (x l.whole)
 only_outside w l (Wrong.text x) = absurd (omega (arith, w.short))
@@ -93,16 +93,16 @@ only_outside {p} {ts = ts} w l (Wrong.outside {i = i} x) = (of_guards p (kind ts
 -- tree
 pub data Texts (p : Profile) (names : Builtins) (text : List ℕ) (edition limit : ℕ) (before after : Rooms) (r : Numbers) : Type 0 where
   unmade : Unmade r.code → Texts p names text edition limit before after r
-  outside : {ts : List ℕ} → Text-reads text 0 ts → p ≡ Profile.guard → r.code ≡ 17 → Turned-at (call p names text ts edition limit before) (numbers r) after → Texts p names text edition limit before after r
-  refused : {ts : List ℕ} → Text-reads text 0 ts → Refused-at (call p names text ts edition limit before) (numbers r) after → Texts p names text edition limit before after r
-  tree : {ts : List ℕ} {t : Tree Label} → Text-reads text 0 ts → r.code ≡ 0 → Read-as (call p names text ts edition limit before) (numbers r) after t → Texts p names text edition limit before after r
+  outside : {ts : List ℕ} → TextReads text 0 ts → p ≡ Profile.guard → r.code ≡ 17 → TurnedAt (call p names text ts edition limit before) (numbers r) after → Texts p names text edition limit before after r
+  refused : {ts : List ℕ} → TextReads text 0 ts → RefusedAt (call p names text ts edition limit before) (numbers r) after → Texts p names text edition limit before after r
+  tree : {ts : List ℕ} {t : Tree Label} → TextReads text 0 ts → r.code ≡ 0 → ReadAs (call p names text ts edition limit before) (numbers r) after t → Texts p names text edition limit before after r
 
-pub text_read : {p : Profile} {names : Builtins} {text : List ℕ} {edition limit : ℕ} {list room : List ℕ} {before after : Rooms} {r : Numbers} → Within-limits names text edition limit before → Read p names text edition limit list room before after r → Texts p names text edition limit before after r
+pub text_read : {p : Profile} {names : Builtins} {text : List ℕ} {edition limit : ℕ} {list room : List ℕ} {before after : Rooms} {r : Numbers} → WithinLimits names text edition limit before → Read p names text edition limit list room before after r → Texts p names text edition limit before after r
 text_read {p} {names} {text} {edition} {limit} {list} {before = before} {after = after} {r = r} w q = by q.answers refl refl
   where
-    by : {a : Answer} {m : List ℕ} {s : Rooms} → Answers-text p names text edition limit list before a m s → a ≡ numbers r → s ≡ after → Texts p names text edition limit before after r
-    by (Answers-text.unmade x n) e f = Texts.unmade (rw (ap (λ m. m.code) e) at (unmade_code x w.short n))
-    by (Answers-text.made {l = l} {room = m} x n z) e f = pick (sorts (rw (e, f) at z))
+    by : {a : Answer} {m : List ℕ} {s : Rooms} → AnswersText p names text edition limit list before a m s → a ≡ numbers r → s ≡ after → Texts p names text edition limit before after r
+    by (AnswersText.unmade x n) e f = Texts.unmade (rw (ap (λ m. m.code) e) at (unmade_code x w.short n))
+    by (AnswersText.made {l = l} {room = m} x n z) e f = pick (sorts (rw (e, f) at z))
       where
         pick : Sorts (call p names text (made_list l m) edition limit before) (numbers r) after → Texts p names text edition limit before after r
         pick (Sorts.read d y) = Texts.tree (made x n).reads (ap (λ m. m.code) y.numbers_are) y

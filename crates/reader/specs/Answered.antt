@@ -18,9 +18,9 @@ lexed_numbers l = refuse l.code l.at l.start l.end l.expected
 abbrev pub made_list : Lexed → List ℕ → List ℕ
 made_list l room = take (3 * l.count) room
 
-pub data Answers-text (p : Profile) (names : Builtins) (text : List ℕ) (edition limit : ℕ) (list : List ℕ) (before : Rooms) : Answer → List ℕ → Rooms → Type 0 where
-  unmade : {l : Lexed} {room : List ℕ} → Lexes text list l room → (l.code ≡ 0 → ⊥) → Answers-text p names text edition limit list before (lexed_numbers l) room before
-  made : {l : Lexed} {room : List ℕ} {a : Answer} {after : Rooms} → Lexes text list l room → l.code ≡ 0 → Answers (call p names text (made_list l room) edition limit before) a after → Answers-text p names text edition limit list before a room after
+pub data AnswersText (p : Profile) (names : Builtins) (text : List ℕ) (edition limit : ℕ) (list : List ℕ) (before : Rooms) : Answer → List ℕ → Rooms → Type 0 where
+  unmade : {l : Lexed} {room : List ℕ} → Lexes text list l room → (l.code ≡ 0 → ⊥) → AnswersText p names text edition limit list before (lexed_numbers l) room before
+  made : {l : Lexed} {room : List ℕ} {a : Answer} {after : Rooms} → Lexes text list l room → l.code ≡ 0 → Answers (call p names text (made_list l room) edition limit before) a after → AnswersText p names text edition limit list before a room after
 
 pub record Read (p : Profile) (names : Builtins) (text : List ℕ) (edition limit : ℕ) (list room : List ℕ) (before after : Rooms) (r : Numbers) : Type 0 where
-  pub answers : Answers-text p names text edition limit list before (numbers r) room after
+  pub answers : AnswersText p names text edition limit list before (numbers r) room after

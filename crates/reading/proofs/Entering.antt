@@ -17,7 +17,7 @@ use Rattle.grammar.specs.Space.{has_word, Worded, Lacks}
 use Rattle.grammar.proofs.Growth.{padded_length}
 use Rattle.names.specs.Resolved.{names_of}
 use Rattle.reading.specs.Answers.{node_of}
-use Rattle.reading.specs.Parts.{grown, no_room, Makes, Makes-list}
+use Rattle.reading.specs.Parts.{grown, no_room, Makes, MakesList}
 use Rattle.reading.specs.State.{State, state, written, Standing, Lent, Within}
 use Rattle.reading.specs.declared.Cursor.{Cursor}
 use Rattle.reading.specs.declared.Read.{Read}
@@ -104,20 +104,20 @@ row_tried {ts} {f} {a} {xs} {zs} {ns} {ns'} {ls} {ss} {c} {k} {st} {en} {fields}
 pub list_tried : {ts : List ℕ} {f : Label} {a : ℕ} {xs zs : List Handle} {ns ns' ls ls' ss links : List ℕ} {k st en : ℕ} {fields : List ℕ} {n : Node} {r : Read} (c : Cursor) (m : ℕ) → Standing (state ns ls ss c) →
     c.nodes < absent → has_word f ≡ false → make ts (names_of ts ss) f a c.at (written (state ns ls ss c)) xs zs ≡ entered c ns ls k st en fields links → length links ≡ 3 * m →
     (3 * (c.links + m) ≤ length ls → Written (3 * c.links) (3 * (c.links + m)) links ls ls') → length ls' ≡ length ls → {h : ℕ} →
-    Makes-list (length ls') n (record { at = c.at; nodes = c.nodes; links = c.links + m; held = h }) r → Tried c.nodes k st en fields ns ns' n →
+    MakesList (length ls') n (record { at = c.at; nodes = c.nodes; links = c.links + m; held = h }) r → Tried c.nodes k st en fields ns ns' n →
     Tries ts f a (state ns ls ss (record { at = c.at; nodes = c.nodes; links = c.links; held = h })) xs zs ns' ls' ss r
 list_tried {ts} {f} {a} {xs} {zs} {ns} {ns'} {ls} {ls'} {ss} {links} {k} {st} {en} {fields} {n} c m w b v e l g z {h} q t = pick q t.says
   where
     long : length (take (3 * c.links) ls ++ links) ≡ 3 * (c.links + m)
     long = omega (arith, l, length-append (take (3 * c.links) ls) links, length-take-le (3 * c.links) ls w.link_rows)
 
-    pick : {r : Read} → Makes-list (length ls') n (record { at = c.at; nodes = c.nodes; links = c.links + m; held = h }) r → Attempt c.nodes st en (padded (k ∷ st ∷ en ∷ fields)) ns ns' n →
+    pick : {r : Read} → MakesList (length ls') n (record { at = c.at; nodes = c.nodes; links = c.links + m; held = h }) r → Attempt c.nodes st en (padded (k ∷ st ∷ en ∷ fields)) ns ns' n →
         Tries ts f a (state ns ls ss (record { at = c.at; nodes = c.nodes; links = c.links; held = h })) xs zs ns' ls' ss r
-    pick (Makes-list.full q) i = Tries.lacking (links_unmade (k ∷ st ∷ en ∷ fields) (take (3 * c.links) ls ++ links) w (λ h z. plain v h) e (omega (arith, long, z)))
-    pick (Makes-list.listed q (Makes.made o)) (Attempt.there y i d) = Tries.made (list_made {fields = fields} m (record { row = i; handle = d }) y (omega (arith, z)) v (g (omega (arith, z))) e)
-    pick (Makes-list.listed q (Makes.full o)) (Attempt.there y i d) = absurd (omega (arith, ap (λ n. n.id) d, o))
-    pick (Makes-list.listed q (Makes.made o)) (Attempt.full y i d) = absurd (o (ap (λ n. n.id) d))
-    pick (Makes-list.listed q (Makes.full o)) (Attempt.full y i d) = rw i (Tries.lacking (row_unmade (k ∷ st ∷ en ∷ fields) (take (3 * c.links) ls ++ links) w (λ h z. plain v h) e (omega (arith, long, z)) y))
+    pick (MakesList.full q) i = Tries.lacking (links_unmade (k ∷ st ∷ en ∷ fields) (take (3 * c.links) ls ++ links) w (λ h z. plain v h) e (omega (arith, long, z)))
+    pick (MakesList.listed q (Makes.made o)) (Attempt.there y i d) = Tries.made (list_made {fields = fields} m (record { row = i; handle = d }) y (omega (arith, z)) v (g (omega (arith, z))) e)
+    pick (MakesList.listed q (Makes.full o)) (Attempt.there y i d) = absurd (omega (arith, ap (λ n. n.id) d, o))
+    pick (MakesList.listed q (Makes.made o)) (Attempt.full y i d) = absurd (o (ap (λ n. n.id) d))
+    pick (MakesList.listed q (Makes.full o)) (Attempt.full y i d) = rw i (Tries.lacking (row_unmade (k ∷ st ∷ en ∷ fields) (take (3 * c.links) ls ++ links) w (λ h z. plain v h) e (omega (arith, long, z)) y))
 
 -- what is made after a part that wrote nothing, from before that part
 module _ {ts : List ℕ} {h : Label} {b : ℕ} {s s₁ : State} {vs us hs : List Handle} (m : Made ts h b s vs us hs s₁) (w : written s ≡ written s₁) where

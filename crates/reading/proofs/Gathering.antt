@@ -20,7 +20,7 @@ use Rattle.grammar.specs.Space.{has_word}
 use Rattle.grammar.specs.Token.{start, end}
 use Rattle.names.specs.Resolved.{names_of}
 use Rattle.reading.specs.Answers.{node_of, name_of, holding, Listed, Filled, Fills}
-use Rattle.reading.specs.Parts.{Makes, Makes-list, Gathered}
+use Rattle.reading.specs.Parts.{Makes, MakesList, Gathered}
 use Rattle.reading.specs.Reading.{Reading}
 use Rattle.reading.specs.State.{State, state, written, held, Lent, Within, Ready}
 use Rattle.reading.specs.declared.Cursor.{Cursor}
@@ -136,7 +136,7 @@ module _ {ts ns ls ss : List ℕ} {c : Cursor} where
   -- the row of a node whose items are gathered
   gathered_tried : {base : ℕ} {ls' : List ℕ} {d : Cursor} {f : Label} {a k st en : ℕ} {xs zs items : List Handle} {ns' below fields : List ℕ} {n : Node} {r : Read} → Within ts (state ns ls ss c) →
       Lent ts → Gathered base c ss ls ls' d → Kept base below c.held ss items → has_word f ≡ false →
-      make ts (names_of ts ss) f a c.at (written (state ns ls ss c)) xs zs ≡ entered c ns ls k st en fields (links_of items) → Makes-list (length ls') n d r →
+      make ts (names_of ts ss) f a c.at (written (state ns ls ss c)) xs zs ≡ entered c ns ls k st en fields (links_of items) → MakesList (length ls') n d r →
       Tried d.nodes k st en fields ns ns' n → Tries ts f a (holding base (state ns ls ss c)) xs zs ns' ls' ss r
   gathered_tried {base} w l g k v e m i =
       let h : 3 * c.held ≤ length ss = omega (arith, w.links, w.at, w.roomy.scratch) in
@@ -156,7 +156,7 @@ module _ {ts ns ns' ls ss : List ℕ} {c : Cursor} {a st : ℕ} {n x y : Node} {
 
 -- the nodes that have a list, at a the first of its tokens
 module _ {ts ns ns' ls ls' ss below : List ℕ} {c d : Cursor} {base a st : ℕ} {n : Node} {r : Read} (w : Within ts (state ns ls ss c)) (l : Lent ts) (g : Gathered base c ss ls ls' d) (p : st ≡ start ts a)
-    (m : Makes-list (length ls') n d r) where
+    (m : MakesList (length ls') n d r) where
   pub map_tried : {en : ℕ} {xs zs : List Handle} → Kept base below c.held ss xs → end ts (c.at - 1) ≡ en →
       Tried d.nodes (number_of Form-of.Map) st en (c.links ∷ (c.held - base) ∷ []) ns ns' n →
       Tries ts (Label.Row Form-of.Map) a (holding base (state ns ls ss c)) xs zs ns' ls' ss r

@@ -23,7 +23,7 @@ use Rattle.grammar.specs.Rows.{links_of, walk}
 use Rattle.grammar.proofs.Machine.{one_reading, read_not_refused, one_refusal}
 use Rattle.names.specs.Resolved.{names_of}
 use Rattle.reading.specs.Answers.{node_of, name_of, tail_of, holding, Took, Consumed, AnswerCase, Answered, Listed, ListCase, Lists, StateCase, States}
-use Rattle.reading.specs.Parts.{Makes, Makes-list, Separates, Separated, Gathered, Ends, Ended, Untailed, Bare, head_form, Lone}
+use Rattle.reading.specs.Parts.{Makes, MakesList, Separates, Separated, Gathered, Ends, Ended, Untailed, Bare, head_form, Lone}
 use Rattle.reading.specs.Reading.{refusal, Success}
 use Rattle.reading.specs.State.{State, state, written, held, Within}
 use Rattle.reading.specs.declared.Cursor.{Cursor}
@@ -165,11 +165,11 @@ one_made (Makes.full a) (Makes.full b) = refl
 one_made (Makes.made a) (Makes.full b) = absurd (a b)
 one_made (Makes.full a) (Makes.made b) = absurd (b a)
 
-pub one_made_list : {m : ℕ} {n : Node} {c : Cursor} {r r' : Read} → Makes-list m n c r → Makes-list m n c r' → r ≡ r'
-one_made_list (Makes-list.listed h a) (Makes-list.listed i b) = one_made a b
-one_made_list (Makes-list.full h) (Makes-list.full i) = refl
-one_made_list (Makes-list.listed h a) (Makes-list.full i) = absurd (omega arith)
-one_made_list (Makes-list.full h) (Makes-list.listed i b) = absurd (omega arith)
+pub one_made_list : {m : ℕ} {n : Node} {c : Cursor} {r r' : Read} → MakesList m n c r → MakesList m n c r' → r ≡ r'
+one_made_list (MakesList.listed h a) (MakesList.listed i b) = one_made a b
+one_made_list (MakesList.full h) (MakesList.full i) = refl
+one_made_list (MakesList.listed h a) (MakesList.full i) = absurd (omega arith)
+one_made_list (MakesList.full h) (MakesList.listed i b) = absurd (omega arith)
 
 pub one_separated : {ts : List ℕ} {n : Node} {c : Cursor} {z : ℕ} (r r' : Read) → Separated ts n c z r → Separated ts n c z r' → r ≡ r'
 unfolding Separates

@@ -39,9 +39,9 @@ pub data Makes (n : Node) (c : Cursor) : Read → Type 0 where
   full : n.id ≡ absent → Makes n c (Read.Refused (no_room c.at))
 
 -- and of one whose row has links, so many as the cursor counts in a room of so many numbers
-pub data Makes-list (numbers : ℕ) (n : Node) (c : Cursor) : Read → Type 0 where
-  listed : {r : Read} → link_width * c.links ≤ numbers → Makes n c r → Makes-list numbers n c r
-  full : numbers < link_width * c.links → Makes-list numbers n c (Read.Refused (no_room c.at))
+pub data MakesList (numbers : ℕ) (n : Node) (c : Cursor) : Read → Type 0 where
+  listed : {r : Read} → link_width * c.links ≤ numbers → Makes n c r → MakesList numbers n c r
+  full : numbers < link_width * c.links → MakesList numbers n c (Read.Refused (no_room c.at))
 
 -- the rows held since `base` are held no more, and counted as links. They are links if there is room for them
 pub record Gathered (base : ℕ) (c : Cursor) (scratch before after : List ℕ) (d : Cursor) : Type 0 where

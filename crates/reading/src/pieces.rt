@@ -5,7 +5,7 @@ ghost use Rattle.grammar.specs.Handle.{absent};
 ghost use Rattle.grammar.specs.Label.{number_of};
 ghost use Rattle.grammar.specs.Operator.{joining};
 ghost use Rattle.grammar.specs.Token.{count};
-ghost use Rattle.reading.specs.Parts.{no_room, Makes, Makes-list, Ended, Untailed, Bare, Lone, binding_node, joined_fields};
+ghost use Rattle.reading.specs.Parts.{no_room, Makes, MakesList, Ended, Untailed, Bare, Lone, binding_node, joined_fields};
 ghost use Rattle.reading.specs.declared.Read.{Read};
 
 use crate::{Cursor, Read, Refusal, codes};
@@ -96,7 +96,7 @@ pub fn made(node: Node, cur: Cursor) -> Read
 // Ruled out: a row whose links are not there; a refusal at another token than the one after the node.
 pub fn made_list(links: &[u32], node: Node, cur: Cursor) -> Read
     requires { (cur.nodes < absent) × (cur.links < absent) }
-    ensures { Makes-list (length links.now) node cur result }
+    ensures { MakesList (length links.now) node cur result }
 {
     let mut read = made(node, cur);
     if links.len() < LINK_WIDTH * cur.links {

@@ -22,15 +22,15 @@ pub passed : {P : Type 0} {r : Bool} → Decides P r → not r ≡ false → P
 passed {r = r} d e = held (said d (not-false r e))
 
 -- of the cuts of the first i scripts none goes back or past the end
-pub record So-far (cuts : List ℕ) (side long i : ℕ) : Type 0 where
+pub record SoFar (cuts : List ℕ) (side long i : ℕ) : Type 0 where
   pub few : i ≤ scripts cuts
   pub forth : {k : ℕ} → k < i → cut_start cuts side k ≤ cut_end cuts side k
   pub within : {k : ℕ} → k < i → cut_end cuts side k ≤ long
 
-pub none_yet : {cuts : List ℕ} {side long : ℕ} → So-far cuts side long 0
+pub none_yet : {cuts : List ℕ} {side long : ℕ} → SoFar cuts side long 0
 none_yet = record { few = omega arith; forth = λ h. absurd (omega (arith, h)); within = λ h. absurd (omega (arith, h)) }
 
-pub one_more : {cuts : List ℕ} {side long i : ℕ} → So-far cuts side long i → i < scripts cuts → cut_start cuts side i ≤ cut_end cuts side i → cut_end cuts side i ≤ long → So-far cuts side long (i + 1)
+pub one_more : {cuts : List ℕ} {side long i : ℕ} → SoFar cuts side long i → i < scripts cuts → cut_start cuts side i ≤ cut_end cuts side i → cut_end cuts side i ≤ long → SoFar cuts side long (i + 1)
 one_more {cuts} {side} {long} {i} s h f w =
     record {
       few = omega (arith, h);
@@ -38,7 +38,7 @@ one_more {cuts} {side} {long} {i} s h f w =
       within = λ {k} l. elim (ℕ_discrete k i) [ yes e ↦ subst (λ n. cut_end cuts side n ≤ long) (sym e) w | no e ↦ s.within (omega (arith, l, e)) ];
     }
 
-pub all_seen : {cuts : List ℕ} {side long i : ℕ} → So-far cuts side long i → scripts cuts ≤ i → Forward cuts side long
+pub all_seen : {cuts : List ℕ} {side long i : ℕ} → SoFar cuts side long i → scripts cuts ≤ i → Forward cuts side long
 all_seen s h = record { forth = λ l. s.forth (omega (arith, h, l)); within = λ l. s.within (omega (arith, h, l)) }
 
 -- 32 parts of any number of rows

@@ -10,12 +10,12 @@ use Rattle.grammar.specs.Label.{Label}
 use Rattle.grammar.specs.Phrase.{Tree}
 use Rattle.grammar.specs.Profile.{script}
 use Rattle.grammar.specs.Room.{Rooms, node_width, link_width, symbol_width, scratch_width}
-use Rattle.grammar.proofs.Demands.{Read-as}
+use Rattle.grammar.proofs.Demands.{ReadAs}
 use Rattle.reader.proofs.Texts.{one_read}
 use Rattle.syntax.specs.Parsed.{numbers, call}
 use Rattle.syntax.specs.declared.Numbers.{Numbers}
 use Rattle.syntax.proofs.Promises.{one_parse, success_reads}
-use Rattle.scripts.specs.Joined.{Lent, Joined, cut_start, of_list, scripts, answer_width, Fits, text_of, list_of, rooms_of, answer_at, listed, Source, Single, Answered, Kept, Past, First, Answers-all, lent}
+use Rattle.scripts.specs.Joined.{Lent, Joined, cut_start, of_list, scripts, answer_width, Fits, text_of, list_of, rooms_of, answer_at, listed, Source, Single, Answered, Kept, Past, First, AnswersAll, lent}
 use Rattle.scripts.proofs.Parts.{kept_back}
 use Rattle.scripts.proofs.Cuts.{first_start, next_start, rows_rise}
 
@@ -34,12 +34,12 @@ pub record Alike (j : Joined) (i : ℕ) (j' : Joined) (k : ℕ) : Type 0 where
   pub rooms : rooms_of j i j.lent ≡ rooms_of j' k j'.lent
 
 -- then so is what comes of them, whatever the other scripts are and whatever is answered to them
-pub record Same-outcome (j : Joined) (i : ℕ) (after : Lent) (j' : Joined) (k : ℕ) (after' : Lent) : Type 0 where
+pub record SameOutcome (j : Joined) (i : ℕ) (after : Lent) (j' : Joined) (k : ℕ) (after' : Lent) : Type 0 where
   pub answer : answer_at i after ≡ answer_at k after'
   pub list : list_of j i after ≡ list_of j' k after'
   pub rooms : rooms_of j i after ≡ rooms_of j' k after'
 
-pub neighbours : {s : Source} {j j' : Joined} {i k : ℕ} {after after' : Lent} → Alike j i j' k → Answered s j i after → Answered s j' k after' → Same-outcome j i after j' k after'
+pub neighbours : {s : Source} {j j' : Joined} {i k : ℕ} {after after' : Lent} → Alike j i j' k → Answered s j i after → Answered s j' k after' → SameOutcome j i after j' k after'
 neighbours e x y =
     let (u, v, w) = one_single (rw (e.names, e.edition, e.limit, e.text, e.list, e.rooms) at x.single) y.single in
     record { answer = x.stands ∙ ap listed u ∙ sym y.stands; list = v; rooms = w }
@@ -99,17 +99,17 @@ module _ {s : Source} {j : Joined} {after after' : Lent} (g : Fits j) (x : First
       lent_same : {a b c d e f a' b' c' d' e' f' : List ℕ} → a ≡ a' → b ≡ b' → c ≡ c' → d ≡ d' → e ≡ e' → f ≡ f' → lent a b c d e f ≡ lent a' b' c' d' e' f'
       lent_same t u v w y z = rw (t, u, v, w, y, z) refl
 
-pub one_outcome : {s : Source} {j : Joined} {code code' : ℕ} {after after' : Lent} → Answers-all s j code after → Answers-all s j code' after' → (code ≡ code') × (after ≡ after')
-one_outcome (Answers-all.turned_away n) (Answers-all.turned_away m) = (refl, refl)
-one_outcome (Answers-all.turned_away n) (Answers-all.answered f y) = absurd (n f)
-one_outcome (Answers-all.answered f x) (Answers-all.turned_away n) = absurd (n f)
-one_outcome (Answers-all.answered f x) (Answers-all.answered g y) = (refl, one_after f x y)
+pub one_outcome : {s : Source} {j : Joined} {code code' : ℕ} {after after' : Lent} → AnswersAll s j code after → AnswersAll s j code' after' → (code ≡ code') × (after ≡ after')
+one_outcome (AnswersAll.turned_away n) (AnswersAll.turned_away m) = (refl, refl)
+one_outcome (AnswersAll.turned_away n) (AnswersAll.answered f y) = absurd (n f)
+one_outcome (AnswersAll.answered f x) (AnswersAll.turned_away n) = absurd (n f)
+one_outcome (AnswersAll.answered f x) (AnswersAll.answered g y) = (refl, one_after f x y)
 
 -- demand 3, of each script by itself: one that succeeds has a reading, which is the only one, and just its rows are in its part of the rooms
 pub script_reads : {j : Joined} {n i : ℕ} {after : Lent} (f : First Source.given j n after) (h : i < n) → (f.each h).answer.code ≡ 0 →
-    (t : Tree Label) × Read-as (call script j.names (text_of j i) (list_of j i j.lent) j.edition j.limit (rooms_of j i j.lent)) (numbers (f.each h).answer) (rooms_of j i after) t
+    (t : Tree Label) × ReadAs (call script j.names (text_of j i) (list_of j i j.lent) j.edition j.limit (rooms_of j i j.lent)) (numbers (f.each h).answer) (rooms_of j i after) t
 script_reads {j} {i = i} {after = after} f h e = by (f.each h).single e
   where
     by : {list : List ℕ} {rooms : Rooms} {a : Numbers} → Single j.names (text_of j i) j.edition j.limit (list_of j i j.lent) (rooms_of j i j.lent) Source.given list rooms a → a.code ≡ 0 →
-        (t : Tree Label) × Read-as (call script j.names (text_of j i) (list_of j i j.lent) j.edition j.limit (rooms_of j i j.lent)) (numbers a) rooms t
+        (t : Tree Label) × ReadAs (call script j.names (text_of j i) (list_of j i j.lent) j.edition j.limit (rooms_of j i j.lent)) (numbers a) rooms t
     by (Single.parsed x) = success_reads x

@@ -7,7 +7,7 @@ use mathlib.Core.Path.{◌≡◌, refl, sym, ◌∙◌, subst}
 use lib.ListN.{length}
 use Rattle.grammar.specs.Room.{node_width, link_width, symbol_width, scratch_width}
 use Rattle.syntax.specs.Parsed.{rooms}
-use Rattle.scripts.specs.Joined.{Lent, Joined, cut_start, cut_end, of_list, scripts, answer_width, Forward, Fits, row_part, list_of, Source, Answered, First, Answers-all, lent, joined}
+use Rattle.scripts.specs.Joined.{Lent, Joined, cut_start, cut_end, of_list, scripts, answer_width, Forward, Fits, row_part, list_of, Source, Answered, First, AnswersAll, lent, joined}
 use Rattle.scripts.specs.Steps.{OutsideRows, Step}
 use Rattle.scripts.proofs.Cuts.{next_start, starts_rise, rows_rise}
 use Rattle.scripts.proofs.Parts.{part_below, part_kept, kept_after}
@@ -65,7 +65,7 @@ module _ {s : Source} {j : Joined} {now after : Lent} {i long : ℕ} (fwd : Forw
       rise width = rows_rise width j.rows (omega arith)
 
 -- everything that is lent has the length that it had
-pub record Same-lengths (before after : Lent) : Type 0 where
+pub record SameLengths (before after : Lent) : Type 0 where
   pub list : length after.list ≡ length before.list
   pub nodes : length after.rooms.nodes ≡ length before.rooms.nodes
   pub links : length after.rooms.links ≡ length before.rooms.links
@@ -78,7 +78,7 @@ pub record Turned (s : Source) (j : Joined) (i : ℕ) (now : Lent) : Type 0 wher
   pub few : i ≤ scripts j.cuts
   pub fits : Fits j
   pub first : First s j i now
-  pub long : Same-lengths j.lent now
+  pub long : SameLengths j.lent now
 
 pub start : {s : Source} {j : Joined} → Fits j → Turned s j 0 j.lent
 start f = record { few = omega arith; fits = f; first = begun; long = record { list = refl; nodes = refl; links = refl; symbols = refl; scratch = refl; answers = refl } }
@@ -96,5 +96,5 @@ next h t x =
       long = record { list = x.list.long ∙ long.list; nodes = x.nodes.long ∙ long.nodes; links = x.links.long ∙ long.links; symbols = x.symbols.long ∙ long.symbols; scratch = x.scratch.long ∙ long.scratch; answers = x.answers.long ∙ long.answers };
     }
 
-pub all_answered : {s : Source} {j : Joined} {i : ℕ} {now : Lent} → scripts j.cuts ≤ i → Turned s j i now → Answers-all s j 0 now
-all_answered {s} {j} {i} {now} h t = let e : i ≡ scripts j.cuts = omega (arith, h, t.few) in Answers-all.answered t.fits (subst (λ n. First s j n now) e t.first)
+pub all_answered : {s : Source} {j : Joined} {i : ℕ} {now : Lent} → scripts j.cuts ≤ i → Turned s j i now → AnswersAll s j 0 now
+all_answered {s} {j} {i} {now} h t = let e : i ≡ scripts j.cuts = omega (arith, h, t.few) in AnswersAll.answered t.fits (subst (λ n. First s j n now) e t.first)

@@ -53,7 +53,7 @@ pub record Forward (cuts : List ℕ) (side long : ℕ) : Type 0 where
   pub forth : {i : ℕ} → i < scripts cuts → cut_start cuts side i ≤ cut_end cuts side i
   pub within : {i : ℕ} → i < scripts cuts → cut_end cuts side i ≤ long
 
-pub record Right-cuts (cuts : List ℕ) (text list : ℕ) : Type 0 where
+pub record RightCuts (cuts : List ℕ) (text list : ℕ) : Type 0 where
   pub some : 1 ≤ scripts cuts
   pub few : scripts cuts ≤ 32
   pub even : length cuts ≡ 2 * scripts cuts
@@ -61,7 +61,7 @@ pub record Right-cuts (cuts : List ℕ) (text list : ℕ) : Type 0 where
   pub list_cuts : Forward cuts of_list list
 
 -- n parts of so many rows fit rooms of these lengths, and n answers theirs
-pub record Room-for (n rows nodes links symbols scratch answers : ℕ) : Type 0 where
+pub record RoomFor (n rows nodes links symbols scratch answers : ℕ) : Type 0 where
   pub nodes_fit : node_width * (rows * n) ≤ nodes
   pub links_fit : link_width * (rows * n) ≤ links
   pub symbols_fit : symbol_width * (rows * n) ≤ symbols
@@ -70,8 +70,8 @@ pub record Room-for (n rows nodes links symbols scratch answers : ℕ) : Type 0 
 
 -- none of '0 or more than 32 scripts, an odd list of cuts, a cut that goes back or past an end, or rooms smaller than the parts need'
 pub record Fits (j : Joined) : Type 0 where
-  pub cuts_right : Right-cuts j.cuts (length j.text) (length j.lent.list)
-  pub room : Room-for (scripts j.cuts) j.rows (length j.lent.rooms.nodes) (length j.lent.rooms.links) (length j.lent.rooms.symbols) (length j.lent.rooms.scratch) (length j.lent.answers)
+  pub cuts_right : RightCuts j.cuts (length j.text) (length j.lent.list)
+  pub room : RoomFor (scripts j.cuts) j.rows (length j.lent.rooms.nodes) (length j.lent.rooms.links) (length j.lent.rooms.symbols) (length j.lent.rooms.scratch) (length j.lent.answers)
 
 -- the numbers from place s up to place e
 abbrev pub part : (s e : ℕ) → List ℕ → List ℕ
@@ -136,9 +136,9 @@ pub record First (s : Source) (j : Joined) (n : ℕ) (after : Lent) : Type 0 whe
   pub past : Past j.cuts j.rows n j.lent after
 
 -- the code of a call, and what it leaves: 19 'before all', and 'nothing is changed then'
-pub data Answers-all (s : Source) (j : Joined) : (code : ℕ) → Lent → Type 0 where
-  turned_away : (Fits j → ⊥) → Answers-all s j 19 j.lent
-  answered : {after : Lent} → Fits j → First s j (scripts j.cuts) after → Answers-all s j 0 after
+pub data AnswersAll (s : Source) (j : Joined) : (code : ℕ) → Lent → Type 0 where
+  turned_away : (Fits j → ⊥) → AnswersAll s j 19 j.lent
+  answered : {after : Lent} → Fits j → First s j (scripts j.cuts) after → AnswersAll s j 0 after
 
 -- as the code has them
 abbrev pub lent : (list nodes links symbols scratch answers : List ℕ) → Lent

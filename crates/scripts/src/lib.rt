@@ -4,7 +4,7 @@
 ghost use Rattle.std.specs.Prelude.{◌+◌, ◌*◌, ◌≤◌, ◌<◌, ◌++◌, ◌≡◌, length, drop};
 ghost use Rattle.grammar.specs.Builtin.{builtins as names_in};
 ghost use Rattle.spelling.specs.Decides.{Decides};
-ghost use Rattle.scripts.specs.Joined.{cut_end, cut_start, scripts, Forward, Right-cuts, RoomFor, Fits, listed, Source, Answers-all, lent, joined};
+ghost use Rattle.scripts.specs.Joined.{cut_end, cut_start, scripts, Forward, RightCuts, RoomFor, Fits, listed, Source, AnswersAll, lent, joined};
 ghost use Rattle.scripts.specs.Steps.{Placed, Step};
 
 use ast::{LINK_WIDTH, NODE_WIDTH};
@@ -86,7 +86,7 @@ fn forward(cuts: &[u32], side: usize, long: usize) -> bool
 
 // Whether the cuts are right for a text and a list of these lengths.
 fn right_cuts(cuts: &[u32], text: usize, list: usize) -> bool
-    ensures { Decides (Right-cuts cuts.now text list) result }
+    ensures { Decides (RightCuts cuts.now text list) result }
 {
     let n = cuts.len() / 2;
     if n < 1 {
@@ -224,7 +224,7 @@ pub fn parse_scripts(
     scratch: &mut [u32],
     answers: &mut [u32],
 ) -> u32
-    ensures { Answers-all Source.given (joined (names_in names.now rows.now) text.now cuts.now edition limit part (lent tokens.now nodes.old links.old symbols.old scratch.old answers.old)) result (lent tokens.now nodes.new links.new symbols.new scratch.new answers.new) }
+    ensures { AnswersAll Source.given (joined (names_in names.now rows.now) text.now cuts.now edition limit part (lent tokens.now nodes.old links.old symbols.old scratch.old answers.old)) result (lent tokens.now nodes.new links.new symbols.new scratch.new answers.new) }
 {
     if !right_cuts(cuts, text.len(), tokens.len()) {
         return TURNED_AWAY;
@@ -312,7 +312,7 @@ pub fn read_scripts(
     scratch: &mut [u32],
     answers: &mut [u32],
 ) -> u32
-    ensures { Answers-all Source.made (joined (names_in names.now rows.now) text.now cuts.now edition limit part (lent list.old nodes.old links.old symbols.old scratch.old answers.old)) result (lent list.new nodes.new links.new symbols.new scratch.new answers.new) }
+    ensures { AnswersAll Source.made (joined (names_in names.now rows.now) text.now cuts.now edition limit part (lent list.old nodes.old links.old symbols.old scratch.old answers.old)) result (lent list.new nodes.new links.new symbols.new scratch.new answers.new) }
 {
     if !right_cuts(cuts, text.len(), list.len()) {
         return TURNED_AWAY;

@@ -5,8 +5,8 @@ use Rattle.std.specs.Prelude.{ℕ, ◌≤◌, ◌<◌, List, [], ◌∷◌, ◌+
 use Rattle.children.specs.Below.{Below, Child, Places as Places-below}
 use Rattle.children.specs.declared.Children.{Children}
 use Rattle.diagnostics.specs.Line.{Placed}
-use Rattle.diagnostics.specs.Message.{Message-given}
-use Rattle.diagnostics.specs.Reason.{Reason-given}
+use Rattle.diagnostics.specs.Message.{MessageGiven}
+use Rattle.diagnostics.specs.Reason.{ReasonGiven}
 use Rattle.diagnostics.specs.declared.Message.{Message}
 use Rattle.diagnostics.specs.declared.Place.{Place}
 use Rattle.expected.specs.Tells.{Tells}
@@ -37,9 +37,9 @@ pub data Parses (p : Profile) (names : Builtins) (text ts : List ℕ) (edition l
   short : length room < 8 → Parses p names text ts edition limit before room before room 13
   parsed : {after : Rooms} {a : Numbers} → 8 ≤ length room → Parsed p names text ts edition limit before after a → Parses p names text ts edition limit before room after (put (listed a) room) a.code
 
-pub data Reads-text (p : Profile) (names : Builtins) (text : List ℕ) (edition limit : ℕ) (list : List ℕ) (before : Rooms) (room : List ℕ) : List ℕ → Rooms → List ℕ → ℕ → Type 0 where
-  short : length room < 8 → Reads-text p names text edition limit list before room list before room 13
-  read : {tokens : List ℕ} {after : Rooms} {a : Numbers} → 8 ≤ length room → Read p names text edition limit list tokens before after a → Reads-text p names text edition limit list before room tokens after (put (listed a) room) a.code
+pub data ReadsText (p : Profile) (names : Builtins) (text : List ℕ) (edition limit : ℕ) (list : List ℕ) (before : Rooms) (room : List ℕ) : List ℕ → Rooms → List ℕ → ℕ → Type 0 where
+  short : length room < 8 → ReadsText p names text edition limit list before room list before room 13
+  read : {tokens : List ℕ} {after : Rooms} {a : Numbers} → 8 ≤ length room → Read p names text edition limit list tokens before after a → ReadsText p names text edition limit list before room tokens after (put (listed a) room) a.code
 
 pub data Places (text : List ℕ) (offset : ℕ) (room : List ℕ) : List ℕ → ℕ → Type 0 where
   short : length room < 3 → Places text offset room room 13
@@ -47,18 +47,18 @@ pub data Places (text : List ℕ) (offset : ℕ) (room : List ℕ) : List ℕ �
 
 -- the length alone: it is 0 where the text's room has under 52 bytes
 pub data Writes (code expected found : ℕ) (before after : List ℕ) : ℕ → Type 0 where
-  written : {m : Message} → Message-given code expected found before after m → Writes code expected found before after m.length
+  written : {m : Message} → MessageGiven code expected found before after m → Writes code expected found before after m.length
 
-pub data Writes-reason (text : List ℕ) (code start expected found : ℕ) (before after : List ℕ) : ℕ → Type 0 where
-  written : {m : Message} → Reason-given text code start expected found before after m → Writes-reason text code start expected found before after m.length
+pub data WritesReason (text : List ℕ) (code start expected found : ℕ) (before after : List ℕ) : ℕ → Type 0 where
+  written : {m : Message} → ReasonGiven text code start expected found before after m → WritesReason text code start expected found before after m.length
 
 -- of a name's place
 abbrev pub name_placed : PlaceAnswer → List ℕ
 name_placed p = p.code ∷ p.start ∷ p.end ∷ []
 
-pub data Names-place (names text symbols : List ℕ) (count built symbol : ℕ) (room : List ℕ) : List ℕ → ℕ → Type 0 where
-  short : length room < 3 → Names-place names text symbols count built symbol room room 13
-  place : {p : PlaceAnswer} → 3 ≤ length room → PlaceTold names text symbols count built symbol p → Names-place names text symbols count built symbol room (put (name_placed p) room) p.code
+pub data NamesPlace (names text symbols : List ℕ) (count built symbol : ℕ) (room : List ℕ) : List ℕ → ℕ → Type 0 where
+  short : length room < 3 → NamesPlace names text symbols count built symbol room room 13
+  place : {p : PlaceAnswer} → 3 ≤ length room → PlaceTold names text symbols count built symbol p → NamesPlace names text symbols count built symbol room (put (name_placed p) room) p.code
 
 -- of the open constructs, each its sort and its opening token
 unfoldable pub pairs : List Opening → List ℕ
@@ -70,21 +70,21 @@ abbrev pub told : Told → List ℕ
 told t = t.count ∷ t.lowest ∷ t.chain.count ∷ pairs t.chain.entries
 
 -- the set is answered in both cases
-pub data Tells-expected (ts : List ℕ) (edition limit code at : ℕ) (room : List ℕ) : List ℕ → ℕ → Type 0 where
-  short : {t : Told} → length room < 131 → Tells ts edition limit code at t → Tells-expected ts edition limit code at room room t.kinds
-  whole : {t : Told} → 131 ≤ length room → Tells ts edition limit code at t → Tells-expected ts edition limit code at room (put (told t) room) t.kinds
+pub data TellsExpected (ts : List ℕ) (edition limit code at : ℕ) (room : List ℕ) : List ℕ → ℕ → Type 0 where
+  short : {t : Told} → length room < 131 → Tells ts edition limit code at t → TellsExpected ts edition limit code at room room t.kinds
+  whole : {t : Told} → 131 ≤ length room → Tells ts edition limit code at t → TellsExpected ts edition limit code at room (put (told t) room) t.kinds
 
 -- a row's children, of which the place has one or is absent; and how many places they have
-pub data Has-child (nodes links : List ℕ) (row place r : ℕ) : Type 0 where
-  child : {b : Children} → Below nodes row b → Child links b place r → Has-child nodes links row place r
+pub data HasChild (nodes links : List ℕ) (row place r : ℕ) : Type 0 where
+  child : {b : Children} → Below nodes row b → Child links b place r → HasChild nodes links row place r
 
-pub data Has-places (nodes : List ℕ) (row r : ℕ) : Type 0 where
-  places : {b : Children} → Below nodes row b → Places-below b r → Has-places nodes row r
+pub data HasPlaces (nodes : List ℕ) (row r : ℕ) : Type 0 where
+  places : {b : Children} → Below nodes row b → Places-below b r → HasPlaces nodes row r
 
 -- of rows that another build wrote: the rooms and the room for the answer, and the code
-pub data Checks-rows (g : Given) (room : List ℕ) : Rooms → List ℕ → ℕ → Type 0 where
-  short : length room < 3 → Checks-rows g room g.rooms room 13
-  checked : {code rule row : ℕ} {after : Rooms} → 3 ≤ length room → Checks g code rule row after → Checks-rows g room after (put (code ∷ rule ∷ row ∷ []) room) code
+pub data ChecksRows (g : Given) (room : List ℕ) : Rooms → List ℕ → ℕ → Type 0 where
+  short : length room < 3 → ChecksRows g room g.rooms room 13
+  checked : {code rule row : ℕ} {after : Rooms} → 3 ≤ length room → Checks g code rule row after → ChecksRows g room after (put (code ∷ rule ∷ row ∷ []) room) code
 
 -- of rows without some statements: what is left, or for 22 the rule and the row
 abbrev pub packed : Packed → List ℕ

@@ -8,8 +8,8 @@ ghost use Rattle.grammar.specs.Profile.{script as a-script, guard as a-guard};
 ghost use Rattle.ast.specs.Written.{Written};
 ghost use Rattle.checker.specs.Verdict.{given};
 ghost use Rattle.packing.specs.Answer.{asked};
-ghost use Rattle.scripts.specs.Joined.{Source, Answers-all, lent, joined};
-ghost use Rattle.station.specs.Exports.{put, pairs, told, packed, Parses, Reads-text, Places, Writes, Writes-reason, Names-place, Tells-expected, Has-child, Has-places, Checks-rows, Drops};
+ghost use Rattle.scripts.specs.Joined.{Source, AnswersAll, lent, joined};
+ghost use Rattle.station.specs.Exports.{put, pairs, told, packed, Parses, ReadsText, Places, Writes, WritesReason, NamesPlace, TellsExpected, HasChild, HasPlaces, ChecksRows, Drops};
 ghost use Rattle.syntax.specs.Parsed.{rooms};
 ghost use Rattle.token.specs.Profiled.{profiled};
 
@@ -169,7 +169,7 @@ fn read_text(
     scratch: &mut [u32],
     answer: &mut [u32],
 ) -> u32
-    ensures { Reads-text (profiled profile) (names_in names.now rows.now) text.now edition limit tokens.old (rooms nodes.old links.old symbols.old scratch.old) answer.old tokens.new (rooms nodes.new links.new symbols.new scratch.new) answer.new result }
+    ensures { ReadsText (profiled profile) (names_in names.now rows.now) text.now edition limit tokens.old (rooms nodes.old links.old symbols.old scratch.old) answer.old tokens.new (rooms nodes.new links.new symbols.new scratch.new) answer.new result }
 {
     if answer.len() < 8 {
         return 13;
@@ -198,7 +198,7 @@ pub extern "C" fn kaori_read_with(
     scratch: &mut [u32],
     answer: &mut [u32],
 ) -> u32
-    ensures { Reads-text a-script (names_in names.now rows.now) text.now edition limit tokens.old (rooms nodes.old links.old symbols.old scratch.old) answer.old tokens.new (rooms nodes.new links.new symbols.new scratch.new) answer.new result }
+    ensures { ReadsText a-script (names_in names.now rows.now) text.now edition limit tokens.old (rooms nodes.old links.old symbols.old scratch.old) answer.old tokens.new (rooms nodes.new links.new symbols.new scratch.new) answer.new result }
 {
     read_text(
         names,
@@ -232,7 +232,7 @@ pub extern "C" fn kaori_read_guard_with(
     scratch: &mut [u32],
     answer: &mut [u32],
 ) -> u32
-    ensures { Reads-text a-guard (names_in names.now rows.now) text.now edition limit tokens.old (rooms nodes.old links.old symbols.old scratch.old) answer.old tokens.new (rooms nodes.new links.new symbols.new scratch.new) answer.new result }
+    ensures { ReadsText a-guard (names_in names.now rows.now) text.now edition limit tokens.old (rooms nodes.old links.old symbols.old scratch.old) answer.old tokens.new (rooms nodes.new links.new symbols.new scratch.new) answer.new result }
 {
     read_text(
         names,
@@ -263,7 +263,7 @@ pub extern "C" fn kaori_read(
     scratch: &mut [u32],
     answer: &mut [u32],
 ) -> u32
-    ensures { Reads-text a-script none text.now 1 limit tokens.old (rooms nodes.old links.old symbols.old scratch.old) answer.old tokens.new (rooms nodes.new links.new symbols.new scratch.new) answer.new result }
+    ensures { ReadsText a-script none text.now 1 limit tokens.old (rooms nodes.old links.old symbols.old scratch.old) answer.old tokens.new (rooms nodes.new links.new symbols.new scratch.new) answer.new result }
 {
     let names: [u8; 0] = [0; 0];
     let rows: [u32; 0] = [0; 0];
@@ -301,7 +301,7 @@ pub extern "C" fn kaori_parse_scripts(
     scratch: &mut [u32],
     answers: &mut [u32],
 ) -> u32
-    ensures { Answers-all Source.given (joined (names_in names.now rows.now) text.now cuts.now edition limit part (lent tokens.now nodes.old links.old symbols.old scratch.old answers.old)) result (lent tokens.now nodes.new links.new symbols.new scratch.new answers.new) }
+    ensures { AnswersAll Source.given (joined (names_in names.now rows.now) text.now cuts.now edition limit part (lent tokens.now nodes.old links.old symbols.old scratch.old answers.old)) result (lent tokens.now nodes.new links.new symbols.new scratch.new answers.new) }
 {
     parse_scripts(
         names, rows, text, tokens, cuts, edition, limit, part, nodes, links, symbols, scratch,
@@ -327,7 +327,7 @@ pub extern "C" fn kaori_read_scripts(
     scratch: &mut [u32],
     answers: &mut [u32],
 ) -> u32
-    ensures { Answers-all Source.made (joined (names_in names.now rows.now) text.now cuts.now edition limit part (lent list.old nodes.old links.old symbols.old scratch.old answers.old)) result (lent list.new nodes.new links.new symbols.new scratch.new answers.new) }
+    ensures { AnswersAll Source.made (joined (names_in names.now rows.now) text.now cuts.now edition limit part (lent list.old nodes.old links.old symbols.old scratch.old answers.old)) result (lent list.new nodes.new links.new symbols.new scratch.new answers.new) }
 {
     read_scripts(
         names, rows, text, list, cuts, edition, limit, part, nodes, links, symbols, scratch,
@@ -356,7 +356,7 @@ pub extern "C" fn kaori_reason(
     found: u32,
     room: &mut [u8],
 ) -> usize
-    ensures { Writes-reason text.now code start expected found room.old room.new result }
+    ensures { WritesReason text.now code start expected found room.old room.new result }
 {
     let m = reason(text, code, start, expected, found, room);
     m.length
@@ -393,7 +393,7 @@ pub extern "C" fn kaori_name<'a>(
     symbol: u32,
     answer: &mut [u32],
 ) -> u32
-    ensures { Names-place names.now text.now symbols.now count built symbol answer.old answer.new result }
+    ensures { NamesPlace names.now text.now symbols.now count built symbol answer.old answer.new result }
 {
     if answer.len() < NAME_PLACE {
         return 13;
@@ -416,7 +416,7 @@ pub extern "C" fn kaori_name<'a>(
 // Ruled out: the node rows in the place of the links; the row in the place of the place.
 #[unsafe(no_mangle)]
 pub extern "C" fn kaori_child(nodes: &[u32], links: &[u32], row: u32, place: usize) -> u32
-    ensures { Has-child nodes.now links.now row place result }
+    ensures { HasChild nodes.now links.now row place result }
 {
     let b = below(nodes, row);
     child(links, b, place)
@@ -426,7 +426,7 @@ pub extern "C" fn kaori_child(nodes: &[u32], links: &[u32], row: u32, place: usi
 // Ruled out: how many children there are, where a place has none; none for a row that is not in the room.
 #[unsafe(no_mangle)]
 pub extern "C" fn kaori_children(nodes: &[u32], row: u32) -> usize
-    ensures { Has-places nodes.now row result }
+    ensures { HasPlaces nodes.now row result }
 {
     let b = below(nodes, row);
     places(b)
@@ -479,7 +479,7 @@ pub extern "C" fn kaori_expected(
     at: u32,
     told: &mut [u32],
 ) -> u64
-    ensures { Tells-expected tokens.now edition limit code at told.old told.new result }
+    ensures { TellsExpected tokens.now edition limit code at told.old told.new result }
 {
     let t = expected(tokens, edition, limit, code, at);
     if told.len() < TOLD {
@@ -506,7 +506,7 @@ pub extern "C" fn kaori_check(
     scratch: &mut [u32],
     answer: &mut [u32],
 ) -> u32
-    ensures { Checks-rows (given edition n m s (rooms nodes.now links.now symbols.now scratch.old)) answer.old (rooms nodes.now links.now symbols.now scratch.new) answer.new result }
+    ensures { ChecksRows (given edition n m s (rooms nodes.now links.now symbols.now scratch.old)) answer.old (rooms nodes.now links.now symbols.now scratch.new) answer.new result }
 {
     if answer.len() < VERDICT {
         return 13;

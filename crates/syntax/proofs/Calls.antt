@@ -40,7 +40,7 @@ use Rattle.reading.specs.declared.Read.{Read}
 use Rattle.reading.specs.declared.Refusal.{Refusal}
 use Rattle.reading.specs.declared.Terms.{Terms}
 use Rattle.ast.specs.declared.Node.{Node}
-use Rattle.syntax.specs.Parsed.{numbers, rooms, call, begin, counted_rows, Parsed, Let-in, Completed, CompleteCase, Completes, Cut, All-there, Finished}
+use Rattle.syntax.specs.Parsed.{numbers, rooms, call, begin, counted_rows, Parsed, LetIn, Completed, CompleteCase, Completes, Cut, AllThere, Finished}
 use Rattle.syntax.specs.declared.Numbers.{Numbers}
 
 enough_as : {z : Space} {w v : Rows} → w ≡ v → Enough z v → Enough z w
@@ -74,7 +74,7 @@ module _ {p : Profile} {ts : List ℕ} {terms : Terms} {s : State} {ns ls ss : L
   completed_told e = (rw e at a).says
 
 -- a call that is let in
-module _ {p : Profile} {names : Builtins} {index text ts : List ℕ} {edition limit : ℕ} {before : Rooms} (d : Let-in p names index text ts edition limit before) where
+module _ {p : Profile} {names : Builtins} {index text ts : List ℕ} {edition limit : ℕ} {before : Rooms} (d : LetIn p names index text ts edition limit before) where
   pub lent : Lent text ts
   lent = admitted_lent d.admitted
 
@@ -147,7 +147,7 @@ module _ {p : Profile} {names : Builtins} {index text ts : List ℕ} {edition li
           let fit : Enough (space_of before) (written (state ns ls ss c)) = record { nodes = omega (arith, nodes_long, x.stands.node_rows, x.rooms.nodes); links = omega (arith, links_long, x.stands.link_rows, x.rooms.links) } in
           enough_written ts (symbol names text ts) (symbol names text ts) x.tree (enough_as tree_rows fit)
 
-      pub fitting : All-there c known (rooms ns ls symbols ss)
+      pub fitting : AllThere c known (rooms ns ls symbols ss)
       fitting =
           let w = rw tree_rows at (all_room (named-edition edition) ts (symbol names text ts) p (count ts) x.reads lent.whole.some) in
           let few = rows_few names text ts (count ts) in
@@ -176,7 +176,7 @@ module _ {p : Profile} {names : Builtins} {index text ts : List ℕ} {edition li
 -- what the door's answer says, by its case
 module _ {p : Profile} {names : Builtins} {text ts : List ℕ} {edition limit : ℕ} {before : Rooms} {e : Entry}
     (a : Entered p names text ts edition limit (length before.symbols) (length before.scratch) e) where
-  pub let_in : {index : List ℕ} → Known names index → e ≡ Entry.Open → Let-in p names index text ts edition limit before
+  pub let_in : {index : List ℕ} → Known names index → e ≡ Entry.Open → LetIn p names index text ts edition limit before
   let_in k h = record { admitted = opened ((rw h at a).says before refl refl) refl; known = k }
 
   pub turned : {q : Turned} {r : Numbers} → e ≡ Entry.Refused q → numbers r ≡ entry_numbers (Entry.Refused q) → Parsed p names text ts edition limit before before r

@@ -16,7 +16,7 @@ use Rattle.grammar.proofs.Parents.{parented_length}
 use Rattle.parents.specs.Adopted.{Adoptable, Adopted}
 use Rattle.reading.specs.declared.Cursor.{Cursor}
 use Rattle.reading.specs.declared.Refusal.{Refusal}
-use Rattle.syntax.specs.Parsed.{numbers, rooms, refused_numbers, Cut, counted_rows, All-there, Finished}
+use Rattle.syntax.specs.Parsed.{numbers, rooms, refused_numbers, Cut, counted_rows, AllThere, Finished}
 use Rattle.syntax.specs.declared.Numbers.{Numbers}
 
 -- a room that is cleared from its start
@@ -24,7 +24,7 @@ wiped : {l m : List ℕ} → Cleared 0 l m → m ≡ cleared l
 wiped {l} z = let e : length l - 0 ≡ length l = omega arith in z.zeros ∙ rw e
 
 -- the rows that are counted
-module _ {c : Cursor} {known : ℕ} {ns ls ys ss : List ℕ} (f : All-there c known (rooms ns ls ys ss)) where
+module _ {c : Cursor} {known : ℕ} {ns ls ys ss : List ℕ} (f : AllThere c known (rooms ns ls ys ss)) where
   abbrev all : Rows
   all = counted_rows c (rooms ns ls ys ss)
 

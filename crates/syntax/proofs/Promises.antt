@@ -19,7 +19,7 @@ use Rattle.grammar.specs.Space.{space_of, Enough}
 use Rattle.grammar.specs.Symbol.{symbol_rows, symbol}
 use Rattle.grammar.specs.Token.{kind, count}
 use Rattle.grammar.proofs.Answers.{admitted_not_wrong, one_answer}
-use Rattle.grammar.proofs.Demands.{At-door, Read-as, Refused-at, Sorts, sorts}
+use Rattle.grammar.proofs.Demands.{AtDoor, ReadAs, RefusedAt, Sorts, sorts}
 use Rattle.grammar.proofs.Outcomes.{reading_not_refused}
 use Rattle.syntax.specs.Parsed.{numbers, call, Parsed}
 use Rattle.syntax.specs.declared.Numbers.{Numbers}
@@ -35,10 +35,10 @@ one_parse x y = let (n, m) = one_answer x.answers y.answers in (ap answer_of n, 
 
 module _ {p : Profile} {names : Builtins} {text ts : List ℕ} {edition limit : ℕ} {before after : Rooms} {r : Numbers} (x : Parsed p names text ts edition limit before after r) where
   -- demand 3: what succeeds has a reading, which is the only one, and just its rows are in the rooms
-  pub success_reads : r.code ≡ 0 → (t : Tree Label) × Read-as (call p names text ts edition limit before) (numbers r) after t
+  pub success_reads : r.code ≡ 0 → (t : Tree Label) × ReadAs (call p names text ts edition limit before) (numbers r) after t
   success_reads e = by (sorts x.answers)
     where
-      by : Sorts (call p names text ts edition limit before) (numbers r) after → (t : Tree Label) × Read-as (call p names text ts edition limit before) (numbers r) after t
+      by : Sorts (call p names text ts edition limit before) (numbers r) after → (t : Tree Label) × ReadAs (call p names text ts edition limit before) (numbers r) after t
       by (Sorts.read d {t = t} y) = (t, y)
       by (Sorts.stopped d y) = absurd (omega (arith, y.codes.least))
       by (Sorts.turned y) = absurd (omega (arith, y.codes.least))
@@ -54,19 +54,19 @@ module _ {p : Profile} {names : Builtins} {text ts : List ℕ} {edition limit : 
       by (Sorts.turned z) = absurd (admitted_not_wrong d z.turned.wrong)
 
   -- codes 1 to 7, 17, 18 and 21 are for what the door does not let in, and leave the rooms as they were
-  pub turned_away_unchanged : (Admitted (call p names text ts edition limit before) → ⊥) → At-door r.code × (after ≡ before)
+  pub turned_away_unchanged : (Admitted (call p names text ts edition limit before) → ⊥) → AtDoor r.code × (after ≡ before)
   turned_away_unchanged n = by (sorts x.answers)
     where
-      by : Sorts (call p names text ts edition limit before) (numbers r) after → At-door r.code × (after ≡ before)
+      by : Sorts (call p names text ts edition limit before) (numbers r) after → AtDoor r.code × (after ≡ before)
       by (Sorts.read d y) = absurd (n d)
       by (Sorts.stopped d y) = absurd (n d)
       by (Sorts.turned y) = (y.codes, y.rooms_are)
 
   -- and what it lets in is read, or refused in reading
-  pub let_in_read : Admitted (call p names text ts edition limit before) → (r.code ≡ 0) ⊎ Refused-at (call p names text ts edition limit before) (numbers r) after
+  pub let_in_read : Admitted (call p names text ts edition limit before) → (r.code ≡ 0) ⊎ RefusedAt (call p names text ts edition limit before) (numbers r) after
   let_in_read d = by (sorts x.answers)
     where
-      by : Sorts (call p names text ts edition limit before) (numbers r) after → (r.code ≡ 0) ⊎ Refused-at (call p names text ts edition limit before) (numbers r) after
+      by : Sorts (call p names text ts edition limit before) (numbers r) after → (r.code ≡ 0) ⊎ RefusedAt (call p names text ts edition limit before) (numbers r) after
       by (Sorts.read f y) = inl (ap (λ n. n.code) y.numbers_are)
       by (Sorts.stopped f y) = inr y
       by (Sorts.turned y) = absurd (admitted_not_wrong d y.turned.wrong)

@@ -7,7 +7,7 @@ use Rattle.grammar.specs.Call.{Call}
 use Rattle.grammar.specs.Door.{Admitted}
 use Rattle.grammar.specs.Edition.{edition as named-edition}
 use Rattle.grammar.specs.Label.{Label}
-use Rattle.grammar.specs.Naming.{One-tree}
+use Rattle.grammar.specs.Naming.{OneTree}
 use Rattle.grammar.specs.Parent.{parented}
 use Rattle.grammar.specs.Phrase.{Tree, depth}
 use Rattle.grammar.specs.Profile.{Profile, form, ReadsAll}
@@ -40,7 +40,7 @@ pub record Parsed (p : Profile) (names : Builtins) (text ts : List ℕ) (edition
   pub answers : Answers (call p names text ts edition limit before) (numbers r) after
 
 -- the call is let in, and its names have their index
-pub record Let-in (p : Profile) (names : Builtins) (index text ts : List ℕ) (edition limit : ℕ) (before : Rooms) : Type 0 where
+pub record LetIn (p : Profile) (names : Builtins) (index text ts : List ℕ) (edition limit : ℕ) (before : Rooms) : Type 0 where
   pub admitted : Admitted (call p names text ts edition limit before)
   pub known : Known names index
 
@@ -85,12 +85,12 @@ abbrev pub known_rows : (known : ℕ) → Rooms → List ℕ
 known_rows known r = take (symbol_width * known) r.symbols
 
 -- they stand in the rooms, and are those of one tree
-pub record All-there (c : Cursor) (known : ℕ) (r : Rooms) : Type 0 where
+pub record AllThere (c : Cursor) (known : ℕ) (r : Rooms) : Type 0 where
   pub nodes : node_width * c.nodes ≤ length r.nodes
   pub links : link_width * c.links ≤ length r.links
   pub symbols : symbol_width * known ≤ length r.symbols
   pub few : c.nodes + c.links + known < 65536
-  pub tree : One-tree (counted_rows c r)
+  pub tree : OneTree (counted_rows c r)
 
 -- the numbers of a reading that is whole, and its rows with their parents, then zeros to the end of each room
 pub record Finished (c : Cursor) (known : ℕ) (before after : Rooms) (r : Numbers) : Type 0 where

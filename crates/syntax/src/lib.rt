@@ -11,7 +11,7 @@ ghost use Rattle.grammar.specs.Phrase.{empty, chain, whole};
 ghost use Rattle.grammar.specs.Profile.{script as a-script, guard as a-guard};
 ghost use Rattle.grammar.specs.Token.{count};
 ghost use Rattle.reading.specs.Clauses.{opened, lists};
-ghost use Rattle.syntax.specs.Parsed.{numbers, rooms, begin, completes, Parsed, Let-in, Cut, All-there, Finished};
+ghost use Rattle.syntax.specs.Parsed.{numbers, rooms, begin, completes, Parsed, LetIn, Cut, AllThere, Finished};
 ghost use Rattle.token.specs.Profiled.{profiled};
 
 use ast::room::{clear, link, push};
@@ -195,7 +195,7 @@ fn finish(
     known: usize,
     end: Cursor,
 ) -> Numbers
-    requires { All-there end known (rooms nodes.old links.old symbols.old scratch.old) }
+    requires { AllThere end known (rooms nodes.old links.old symbols.old scratch.old) }
     ensures { Finished end known (rooms nodes.old links.old symbols.old scratch.old) (rooms nodes.new links.new symbols.new scratch.new) result }
 {
     let used = end.links;
@@ -254,7 +254,7 @@ fn answer(
     symbols: &mut [u32],
     scratch: &mut [u32],
 ) -> Numbers
-    requires { Let-in (profiled profile) (names_in names.now rows.now) index.now text.now tokens.now edition limit (rooms nodes.old links.old symbols.old scratch.old) }
+    requires { LetIn (profiled profile) (names_in names.now rows.now) index.now text.now tokens.now edition limit (rooms nodes.old links.old symbols.old scratch.old) }
     ensures { Parsed (profiled profile) (names_in names.now rows.now) text.now tokens.now edition limit (rooms nodes.old links.old symbols.old scratch.old) (rooms nodes.new links.new symbols.new scratch.new) result }
 {
     let known = resolve(names, rows, index, text, tokens, symbols, scratch);

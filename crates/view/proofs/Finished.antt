@@ -14,7 +14,7 @@ use Rattle.grammar.specs.Edition.{Edition, edition}
 use Rattle.grammar.specs.Handle.{absent}
 use Rattle.grammar.specs.Label.{Node, number_of}
 use Rattle.grammar.specs.Outcome.{accepted, Comes}
-use Rattle.grammar.specs.Parent.{tenth, Parent-of}
+use Rattle.grammar.specs.Parent.{tenth, ParentOf}
 use Rattle.grammar.specs.Profile.{Profile}
 use Rattle.grammar.specs.Room.{node_width, own_width}
 use Rattle.grammar.specs.Rows.{Rows, lined}
@@ -62,7 +62,7 @@ module _ {c : Call} {w : Rows} {ss : List ℕ} (d : Admitted c) (o : Comes c.pro
   pub last_parent : {r : ParentAnswer} → ParentTold nodes total (total - 1) r → r ≡ record { code = 0; parent = absent }
   last_parent p = rw (tenth_there (total - 1) (omega (arith, some)), (accepted_rows d o).parents.root) at (p.there enough (omega (arith, some)))
 
-  pub parent_names : {r : ParentAnswer} (j : ℕ) → j + 1 < total → ParentTold nodes total j r → (r.code ≡ 0) × Parent-of w j r.parent
+  pub parent_names : {r : ParentAnswer} (j : ℕ) → j + 1 < total → ParentTold nodes total j r → (r.code ≡ 0) × ParentOf w j r.parent
   parent_names j h p = rw (p.there enough (omega arith), tenth_there j (omega arith)) (refl, (accepted_rows d o).parents.parents j h)
 
   -- the last row of a script is its root

@@ -17,10 +17,10 @@ use Rattle.grammar.specs.Token.{kind}
 use Rattle.grammar.proofs.Answers.{one_answer}
 use Rattle.spelling.specs.Display.{Put}
 use Rattle.spelling.proofs.display.Writing.{one_room}
-use Rattle.wire.specs.Input.{Input-holds, Broken}
-use Rattle.wire.specs.Lines.{Put-within}
+use Rattle.wire.specs.Input.{InputHolds, Broken}
+use Rattle.wire.specs.Lines.{PutWithin}
 use Rattle.wire.specs.Number.{decimal, digits}
-use Rattle.wire.specs.Output.{call, Outputs, Zeros, Output-given}
+use Rattle.wire.specs.Output.{call, Outputs, Zeros, OutputGiven}
 use Rattle.wire.specs.Printed.{fields, line, row, rows, listed, refused, printed}
 use Rattle.wire.proofs.Scanning.{one_script}
 
@@ -39,11 +39,11 @@ one_output (Outputs.answered {text = text} {ts = ts} {a = a} {r = r} h x) (Outpu
 pub one_put : {part before after other : List ℕ} {at next end : ℕ} → Put part at before after next → Put part at before other end → (next ≡ end) × (after ≡ other)
 one_put p q = (p.ends ∙ sym q.ends, one_room p q)
 
-pub one_within : {bound : ℕ} {part before after other : List ℕ} {at next end : ℕ} → Put-within bound part at before after next → Put-within bound part at before other end → (next ≡ end) × (after ≡ other)
+pub one_within : {bound : ℕ} {part before after other : List ℕ} {at next end : ℕ} → PutWithin bound part at before after next → PutWithin bound part at before other end → (next ≡ end) × (after ≡ other)
 one_within p q = one_put p.put q.put
 
 -- so two rooms with an answer in them are equal
-pub one_answered : {input before after other : List ℕ} {n m : ℕ} → Output-given input before after n → Output-given input before other m → (n ≡ m) × (after ≡ other)
+pub one_answered : {input before after other : List ℕ} {n m : ℕ} → OutputGiven input before after n → OutputGiven input before other m → (n ≡ m) × (after ≡ other)
 one_answered x y = one_put (rw (one_output x.right y.right) at x.put) y.put
 
 -- the example: for `a;` the rows of its script
@@ -52,14 +52,14 @@ unfolding listed rows row line fields decimal digits
 example = refl
 
 -- the three ways to answer: a bad input, a success and a refusal
-pub bad_answered : {input before after : List ℕ} {n : ℕ} → Broken input → Put (bytes "bad input\n") 0 before after n → Output-given input before after n
+pub bad_answered : {input before after : List ℕ} {n : ℕ} → Broken input → Put (bytes "bad input\n") 0 before after n → OutputGiven input before after n
 bad_answered b p = record { output = bytes "bad input\n"; right = Outputs.bad b; put = p }
 
-pub success_answered : {input text ts before after : List ℕ} {a : Answer} {r : Rooms} {n : ℕ} → Input-holds input text ts → Answers (call text ts) a r → a.code ≡ 0 → Put (listed a.nodes a.links a.symbols r.nodes r.links r.symbols) 0 before after n → Output-given input before after n
+pub success_answered : {input text ts before after : List ℕ} {a : Answer} {r : Rooms} {n : ℕ} → InputHolds input text ts → Answers (call text ts) a r → a.code ≡ 0 → Put (listed a.nodes a.links a.symbols r.nodes r.links r.symbols) 0 before after n → OutputGiven input before after n
 unfolding printed
 success_answered {ts = ts} {a = a} {r = r} h x e p = record { output = printed ts a r; right = Outputs.answered h x; put = rw (eq-eqb a.code 0 e) p }
 
-pub refusal_answered : {input text ts before after : List ℕ} {a : Answer} {r : Rooms} {n : ℕ} → Input-holds input text ts → Answers (call text ts) a r → (a.code ≡ 0 → ⊥) → Put (refused a.code a.at a.start a.end a.expected (kind ts a.at)) 0 before after n → Output-given input before after n
+pub refusal_answered : {input text ts before after : List ℕ} {a : Answer} {r : Rooms} {n : ℕ} → InputHolds input text ts → Answers (call text ts) a r → (a.code ≡ 0 → ⊥) → Put (refused a.code a.at a.start a.end a.expected (kind ts a.at)) 0 before after n → OutputGiven input before after n
 unfolding printed
 refusal_answered {ts = ts} {a = a} {r = r} h x e p = record { output = printed ts a r; right = Outputs.answered h x; put = rw (ne_eqb a.code 0 e) p }
 
@@ -86,7 +86,7 @@ pub blank : (n : ℕ) → Zeros n (replicate n 0)
 blank n = record { size = sym (length-replicate n 0); zeros = λ i. elim (dec_lt i n) [ yes h ↦ get_or-replicate n i 0 0 h | no h ↦ get_or-eq_default (replicate n 0) 0 {n = i} (omega (arith, length-replicate {A = ℕ} n 0)) ] }
 
 -- an answer fits its room
-pub inside : {input before after : List ℕ} {n : ℕ} → Output-given input before after n → n ≤ length after
+pub inside : {input before after : List ℕ} {n : ℕ} → OutputGiven input before after n → n ≤ length after
 inside {before = before} {after = after} {n = n} x = omega (arith, x.put.ends, ap length x.put.written, length-take n after)
 
 -- no input of more than 13,830 bytes is good, so neither is a part of it that is as long

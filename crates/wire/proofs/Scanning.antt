@@ -10,14 +10,14 @@ use mathlib.Core.Path.{◌≡◌, refl, sym, ap, ◌∙◌}
 use lib.ListN.{length, get_or, take, drop, set, replicate, length-drop, length-set, length-replicate, take-append-drop}
 use lib.Seq.{length-take-le, get_or-take, get_or-set_same, get_or-set_other, drop-set-lt, drop-drop, ext_get_or}
 use Rattle.grammar.specs.Token.{count, kind, start, end, lexeme}
-use Rattle.wire.specs.Input.{Marked, Token-record, Input-holds, Broken, head_size, token_size}
+use Rattle.wire.specs.Input.{Marked, TokenRecord, InputHolds, Broken, head_size, token_size}
 use Rattle.wire.specs.Number.{number}
-use Rattle.wire.specs.Scanned.{Marks, Sizes, FormCase, Scanned, Tokens-filled}
+use Rattle.wire.specs.Scanned.{Marks, Sizes, FormCase, Scanned, TokensFilled}
 use Rattle.wire.specs.declared.input.Script.{Script}
 use Rattle.wire.specs.declared.input.Script.TheVariants.{Bad, Sized}
 
 -- the form that the code measures: the records of a text of this size and of n tokens, by their marks and lengths, and no more
-pub record Input-sized (input : List ℕ) (size n : ℕ) : Type 0 where
+pub record InputSized (input : List ℕ) (size n : ℕ) : Type 0 where
   pub marked : Marked input 0 0x53
   pub size_is : number input 2 ≡ size
   pub most_bytes : size ≤ 8192
@@ -25,10 +25,10 @@ pub record Input-sized (input : List ℕ) (size n : ℕ) : Type 0 where
   pub ends : length input ≡ head_size + size + token_size * n
   pub marks : Marks input (head_size + size) n
 
-held_measured : {input text ts : List ℕ} → Input-holds input text ts → Input-sized input (length text) (count ts)
+held_measured : {input text ts : List ℕ} → InputHolds input text ts → InputSized input (length text) (count ts)
 held_measured h = record { marked = h.marked; size_is = h.size; most_bytes = h.most_bytes; most_tokens = h.most_tokens; ends = h.ends; marks = record { marked = λ i l. (h.tokens_are i l).marked } }
 
-pub measured : {input : List ℕ} {size n : ℕ} → Sizes input size n → Input-sized input size n
+pub measured : {input : List ℕ} {size n : ℕ} → Sizes input size n → InputSized input size n
 measured s = rw (s.size_is, s.count_is) at (held_measured s.holds)
 
 -- the marks of one record more
@@ -39,11 +39,11 @@ pub marks_more : {input : List ℕ} {at i : ℕ} → Marks input at i → Marked
 marks_more {input} {at} {i} m k = record { marked = λ j h. elim (ℕ_discrete j i) [ yes e ↦ rw e k | no e ↦ m.marked j (omega arith) ] }
 
 -- the tokens of one record more
-pub filled_none : (input : List ℕ) (at : ℕ) (list : List ℕ) → Tokens-filled input at 0 list list
+pub filled_none : (input : List ℕ) (at : ℕ) (list : List ℕ) → TokensFilled input at 0 list list
 filled_none input at list = record { size = refl; tokens = λ i h. absurd (omega arith); rest = refl }
 
 -- the text of an input of a form has its size
-text_size : {input : List ℕ} {size n : ℕ} → Input-sized input size n → length (lexeme input head_size (head_size + size)) ≡ size
+text_size : {input : List ℕ} {size n : ℕ} → InputSized input size n → length (lexeme input head_size (head_size + size)) ≡ size
 text_size {input} {size} m = let e : head_size + size - head_size ≡ size = omega arith in rw e (length-take-le size (drop head_size input) (rw (length-drop head_size input) (omega (arith, m.ends))))
 
 -- three numbers that are written as token i, after the first two
@@ -66,7 +66,7 @@ module _ (list : List ℕ) (i k s e : ℕ) where
       ∙ drop-set-lt (3 * (i + 1)) (set list (3 * i) k) (3 * i + 1) s (omega arith)
       ∙ drop-set-lt (3 * (i + 1)) list (3 * i) k (omega arith)
 
-pub filled_more : {input before list : List ℕ} {at i k s e : ℕ} → Tokens-filled input at i before list → 3 * i + 2 < length list → Marked input (at + token_size * i) 0x54 → k ≡ get_or input (at + token_size * i + 2) 0 → s ≡ number input (at + token_size * i + 3) → e ≡ number input (at + token_size * i + 7) → Tokens-filled input at (i + 1) before (with_token list i k s e)
+pub filled_more : {input before list : List ℕ} {at i k s e : ℕ} → TokensFilled input at i before list → 3 * i + 2 < length list → Marked input (at + token_size * i) 0x54 → k ≡ get_or input (at + token_size * i + 2) 0 → s ≡ number input (at + token_size * i + 3) → e ≡ number input (at + token_size * i + 7) → TokensFilled input at (i + 1) before (with_token list i k s e)
 filled_more {input} {before} {list} {at} {i} {k} {s} {e} f h m u v w =
     record {
       size = simp length-set f.size;
@@ -74,7 +74,7 @@ filled_more {input} {before} {list} {at} {i} {k} {s} {e} f h m u v w =
       rest = after_token list i k s e ∙ rest f.rest;
     }
   where
-    this : Token-record input (with_token list i k s e) (at + token_size * i) i
+    this : TokenRecord input (with_token list i k s e) (at + token_size * i) i
     this =
         record {
           marked = m;
@@ -83,7 +83,7 @@ filled_more {input} {before} {list} {at} {i} {k} {s} {e} f h m u v w =
           end_is = get_or-set_same (with_start list i k s) (3 * i + 2) e 0 (simp length-set (omega arith)) ∙ w;
         }
 
-    that : (j : ℕ) → j < i → Token-record input list (at + token_size * j) j → Token-record input (with_token list i k s e) (at + token_size * j) j
+    that : (j : ℕ) → j < i → TokenRecord input list (at + token_size * j) j → TokenRecord input (with_token list i k s e) (at + token_size * j) j
     that j l r =
         record {
           marked = r.marked;
@@ -96,7 +96,7 @@ filled_more {input} {before} {list} {at} {i} {k} {s} {e} f h m u v w =
     rest q = let z : 3 * (i + 1) ≡ 3 * i + 3 = omega arith in rw z (sym (drop-drop 3 (3 * i) list) ∙ ap (drop 3) q ∙ drop-drop 3 (3 * i) before)
 
 -- a token of a list is one of its first 3 n numbers
-first_tokens : {input list : List ℕ} {at n i : ℕ} → i < n → Token-record input list at i → Token-record input (take (3 * n) list) at i
+first_tokens : {input list : List ℕ} {at n i : ℕ} → i < n → TokenRecord input list at i → TokenRecord input (take (3 * n) list) at i
 first_tokens {list = list} {n = n} {i = i} k r =
     record {
       marked = r.marked;
@@ -106,7 +106,7 @@ first_tokens {list = list} {n = n} {i = i} k r =
     }
 
 -- an input of a form, with its tokens written into a list
-pub holding : {input before after : List ℕ} {size n : ℕ} → Input-sized input size n → Tokens-filled input (head_size + size) n before after → 3 * n ≤ length after → Input-holds input (lexeme input head_size (head_size + size)) (take (3 * n) after)
+pub holding : {input before after : List ℕ} {size n : ℕ} → InputSized input size n → TokensFilled input (head_size + size) n before after → 3 * n ≤ length after → InputHolds input (lexeme input head_size (head_size + size)) (take (3 * n) after)
 holding {input} {before} {after} {size} {n} m f h =
     let l : length (lexeme input head_size (head_size + size)) ≡ size = text_size m in
     let w : length (take (3 * n) after) ≡ 3 * n = length-take-le (3 * n) after h in
@@ -125,7 +125,7 @@ holding {input} {before} {after} {size} {n} m f h =
 record Partly (input : List ℕ) (at n i : ℕ) : Type 0 where
   list : List ℕ
   size : length list ≡ 3 * n
-  filled : Tokens-filled input at i (replicate (3 * n) 0) list
+  filled : TokensFilled input at i (replicate (3 * n) 0) list
 
 partly : {input : List ℕ} {at n : ℕ} → Marks input at n → (i : ℕ) → i ≤ n → Partly input at n i
 partly {input} {at} {n} m zero h = record { list = replicate (3 * n) 0; size = length-replicate (3 * n) 0; filled = filled_none input at (replicate (3 * n) 0) }
@@ -135,11 +135,11 @@ partly {input} {at} {n} m (suc i) h =
     record { list = _; size = q.size ∙ length-replicate (3 * n) 0; filled = rw (add-one i) at q }
 
 -- an input that has the form holds what it says, and one that has no form is bad
-pub bad : {input : List ℕ} → ((size n : ℕ) → Input-sized input size n → ⊥) → Scanned input Bad
+pub bad : {input : List ℕ} → ((size n : ℕ) → InputSized input size n → ⊥) → Scanned input Bad
 unfolding FormCase
 bad {input} f = record { says = record { holds_none = λ text ts h. f (length text) (count ts) (held_measured h) } }
 
-pub sized : {input : List ℕ} {size n : ℕ} → Input-sized input size n → Scanned input (Sized size n)
+pub sized : {input : List ℕ} {size n : ℕ} → InputSized input size n → Scanned input (Sized size n)
 unfolding FormCase
 sized {n = n} m =
     let p = partly m.marks n (omega arith) in
@@ -170,11 +170,11 @@ by_threes n ts us h k f = ext_get_or 0 ts us (h ∙ sym k) (λ p l. at_place p (
           | no d ↦ elim (ℕ_discrete (p % 3) 1) [ yes e ↦ moved p (3 * (p / 3) + 1) (omega arith) y | no g ↦ moved p (3 * (p / 3) + 2) (omega arith) z ]
         ]
 
-same_token : {input ts us : List ℕ} {at i : ℕ} → Token-record input ts at i → Token-record input us at i → (kind ts i ≡ kind us i) × (start ts i ≡ start us i) × (end ts i ≡ end us i)
+same_token : {input ts us : List ℕ} {at i : ℕ} → TokenRecord input ts at i → TokenRecord input us at i → (kind ts i ≡ kind us i) × (start ts i ≡ start us i) × (end ts i ≡ end us i)
 same_token x y = (x.kind_is ∙ sym y.kind_is, x.start_is ∙ sym y.start_is, x.end_is ∙ sym y.end_is)
 
 -- every number of a list that was written is settled
-pub one_fill : {input before after other : List ℕ} {at n : ℕ} → 3 * n ≤ length before → Tokens-filled input at n before after → Tokens-filled input at n before other → after ≡ other
+pub one_fill : {input before after other : List ℕ} {at n : ℕ} → 3 * n ≤ length before → TokensFilled input at n before after → TokensFilled input at n before other → after ≡ other
 one_fill {after = after} {other = other} {n = n} h p q = sym (take-append-drop (3 * n) after) ∙ rw (firsts, p.rest ∙ sym q.rest) (take-append-drop (3 * n) other)
   where
     firsts : take (3 * n) after ≡ take (3 * n) other
@@ -185,7 +185,7 @@ pub record Same (text other ts us : List ℕ) : Type 0 where
   pub lists : ts ≡ us
 
 -- an input holds one text and one list at most
-pub one_script : {input text other ts us : List ℕ} → Input-holds input text ts → Input-holds input other us → Same text other ts us
+pub one_script : {input text other ts us : List ℕ} → InputHolds input text ts → InputHolds input other us → Same text other ts us
 one_script {input} {text} {other} {ts} {us} h k =
     let e : length text ≡ length other = sym h.size ∙ k.size in
     let n : count ts ≡ count us = omega (arith, h.ends, k.ends) in

@@ -17,14 +17,14 @@ abbrev pub token_size : ℕ
 token_size = 11
 
 -- the record at a place is that of token i
-pub record Token-record (input ts : List ℕ) (at i : ℕ) : Type 0 where
+pub record TokenRecord (input ts : List ℕ) (at i : ℕ) : Type 0 where
   pub marked : Marked input at 0x54
   pub kind_is : kind ts i ≡ get_or input (at + 2) 0
   pub start_is : start ts i ≡ number input (at + 3)
   pub end_is : end ts i ≡ number input (at + 7)
 
 -- the input is the record of this text, and then those of these tokens, and no more
-pub record Input-holds (input text ts : List ℕ) : Type 0 where
+pub record InputHolds (input text ts : List ℕ) : Type 0 where
   pub marked : Marked input 0 0x53
   pub size : number input 2 ≡ length text
   pub text_is : lexeme input head_size (head_size + length text) ≡ text
@@ -32,8 +32,8 @@ pub record Input-holds (input text ts : List ℕ) : Type 0 where
   pub whole : length ts ≡ 3 * count ts
   pub most_tokens : count ts ≤ 512
   pub ends : length input ≡ head_size + length text + token_size * count ts
-  pub tokens_are : (i : ℕ) → i < count ts → Token-record input ts (head_size + length text + token_size * i) i
+  pub tokens_are : (i : ℕ) → i < count ts → TokenRecord input ts (head_size + length text + token_size * i) i
 
 -- 'A broken record or more input'
 pub record Broken (input : List ℕ) : Type 0 where
-  pub holds_none : (text ts : List ℕ) → Input-holds input text ts → ⊥
+  pub holds_none : (text ts : List ℕ) → InputHolds input text ts → ⊥

@@ -4,7 +4,7 @@ use Rattle.grammar.specs.Room.{node_width, link_width, symbol_width}
 use Rattle.spelling.specs.Display.{Put}
 
 -- these bytes were written into a room from a place on, and no more than so many
-pub record Put-within (bound : ℕ) (part : List ℕ) (at : ℕ) (before after : List ℕ) (next : ℕ) : Type 0 where
+pub record PutWithin (bound : ℕ) (part : List ℕ) (at : ℕ) (before after : List ℕ) (next : ℕ) : Type 0 where
   pub put : Put part at before after next
   pub most : next ≤ at + bound
 

@@ -7,7 +7,7 @@ use Rattle.grammar.specs.Pattern.{bytes}
 use Rattle.grammar.specs.Profile.{Profile}
 use Rattle.grammar.specs.Room.{Rooms, node_width, link_width, symbol_width, scratch_width}
 use Rattle.spelling.specs.Display.{Put}
-use Rattle.wire.specs.Input.{Input-holds, Broken}
+use Rattle.wire.specs.Input.{InputHolds, Broken}
 use Rattle.wire.specs.Printed.{printed}
 
 -- rooms of 512 rows, zero throughout
@@ -25,7 +25,7 @@ call text ts = record { profile = Profile.script; names = none; text = text; tok
 -- for an input this may be printed: one output and no other (`one-output`)
 pub data Outputs (input : List ℕ) : List ℕ → Type 0 where
   bad : Broken input → Outputs input (bytes "bad input\n")
-  answered : {text ts : List ℕ} {a : Answer} {r : Rooms} → Input-holds input text ts → Answers (call text ts) a r → Outputs input (printed ts a r)
+  answered : {text ts : List ℕ} {a : Answer} {r : Rooms} → InputHolds input text ts → Answers (call text ts) a r → Outputs input (printed ts a r)
 
 -- n zeros
 pub record Zeros (n : ℕ) (r : List ℕ) : Type 0 where
@@ -33,7 +33,7 @@ pub record Zeros (n : ℕ) (r : List ℕ) : Type 0 where
   pub zeros : (i : ℕ) → get_or r i 0 ≡ 0
 
 -- the output is written at the start of a room, the rest of the room stays, and n is the output's length
-pub record Output-given (input before after : List ℕ) (n : ℕ) : Type 0 where
+pub record OutputGiven (input before after : List ℕ) (n : ℕ) : Type 0 where
   pub output : List ℕ
   pub right : Outputs input output
   pub put : Put output 0 before after n

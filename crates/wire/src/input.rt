@@ -2,7 +2,7 @@
 ghost use Rattle.std.specs.Prelude.{◌≡◌, ◌+◌, ◌*◌, ◌≤◌, length};
 ghost use Rattle.spelling.specs.Decides.{Decides};
 ghost use Rattle.wire.specs.Number.{number};
-ghost use Rattle.wire.specs.Scanned.{Marks, Scanned, Tokens-filled};
+ghost use Rattle.wire.specs.Scanned.{Marks, Scanned, TokensFilled};
 
 // What an input is: bad, or the records of a text of so many bytes and of so many tokens.
 #[derive(Drop)]
@@ -87,7 +87,7 @@ pub fn scan(input: &[u8]) -> Script
 // Ruled out: a token's end in the place of its start; a number of the list after the n tokens that changes.
 pub fn fill(input: &[u8], from: usize, n: usize, tokens: &mut [u32])
     requires { Marks input.now from n × (from + 11 * n ≤ length input.now) × (3 * n ≤ length tokens.old) }
-    ensures { Tokens-filled input.now from n tokens.old tokens.new }
+    ensures { TokensFilled input.now from n tokens.old tokens.new }
 {
     let mut i = 0;
     while i < n {

@@ -5,7 +5,7 @@ ghost use Rattle.grammar.specs.Token.{kind};
 ghost use Rattle.spelling.specs.Display.{Put};
 ghost use Rattle.wire.specs.Number.{digit as Number·digit, decimal as Number·decimal};
 ghost use Rattle.wire.specs.Printed.{fields, line as Printed·line, row as Printed·row, rows as Printed·rows, listed as Printed·listed, refused as Printed·refused};
-ghost use Rattle.wire.specs.Lines.{Put-within, Line, Lines, Listing, line_size};
+ghost use Rattle.wire.specs.Lines.{PutWithin, Line, Lines, Listing, line_size};
 
 use diagnostics::text::message;
 use spelling::display::put;
@@ -35,7 +35,7 @@ fn decimal(n: u32, room: &mut [u8], at: usize) -> usize
 // Ruled out: a number without its blank; a byte before `at` that changes.
 pub fn numbers(values: &[u32], room: &mut [u8], at: usize) -> usize
     requires { at + 11 * length values.now ≤ length room.old }
-    ensures { Put-within (11 * length values.now) (fields values.now) at room.old room.new result }
+    ensures { PutWithin (11 * length values.now) (fields values.now) at room.old room.new result }
 {
     let mut k = at;
     let mut i = 0;
@@ -50,7 +50,7 @@ pub fn numbers(values: &[u32], room: &mut [u8], at: usize) -> usize
 // A line: its lead, and numbers.
 fn line(lead: &[u8], values: &[u32], room: &mut [u8], at: usize) -> usize
     requires { at + (length lead.now + 11 * length values.now + 1) ≤ length room.old }
-    ensures { Put-within (length lead.now + 11 * length values.now + 1) (Printed·line lead.now values.now) at room.old room.new result }
+    ensures { PutWithin (length lead.now + 11 * length values.now + 1) (Printed·line lead.now values.now) at room.old room.new result }
 {
     let a = put(lead, room, at);
     let b = numbers(values, room, a);
@@ -62,7 +62,7 @@ fn line(lead: &[u8], values: &[u32], room: &mut [u8], at: usize) -> usize
 // Ruled out: the row's number counted from 1; a line without its newline.
 pub fn row(lead: &[u8], width: usize, source: &[u32], i: usize, room: &mut [u8], at: usize) -> usize
     requires { Line lead.now width source.now i room.old at }
-    ensures { Put-within line_size (Printed·row lead.now width source.now i) at room.old room.new result }
+    ensures { PutWithin line_size (Printed·row lead.now width source.now i) at room.old room.new result }
 {
     let from = width * i;
     let to = from + width;
@@ -75,7 +75,7 @@ pub fn row(lead: &[u8], width: usize, source: &[u32], i: usize, room: &mut [u8],
 // The lines of the first n rows.
 fn rows(lead: &[u8], width: usize, source: &[u32], n: usize, room: &mut [u8], at: usize) -> usize
     requires { Lines lead.now width source.now n room.old at }
-    ensures { Put-within (line_size * n) (Printed·rows lead.now width source.now n) at room.old room.new result }
+    ensures { PutWithin (line_size * n) (Printed·rows lead.now width source.now n) at room.old room.new result }
 {
     let mut k = at;
     let mut i: usize = 0;

@@ -8,7 +8,7 @@ use borrow.Author.Rules.{rules}
 use borrow.Author.Tests.{ltb-true, ltb-false}
 use lib.Dec.{ltb}
 use Rattle.grammar.specs.Door.{RightEdition}
-use Rattle.expected.specs.Left.{Asked-of, Asks}
+use Rattle.expected.specs.Left.{AskedOf, Asks}
 use Rattle.expected.proofs.asks.Goals as goal
 
 -- edition 1 or 2
@@ -24,7 +24,7 @@ neither (inl e) (inr h) = omega (arith, e)
 neither (inr e) (inl h) = omega (arith, e)
 neither (inr e) (inr h) = omega (arith, e)
 
-none_asked : {numbers n limit code place : ℕ} → (Asked-of numbers n limit code place → ⊥) → Asks numbers n limit code place false
+none_asked : {numbers n limit code place : ℕ} → (AskedOf numbers n limit code place → ⊥) → Asks numbers n limit code place false
 none_asked f = record { yes = λ e. absurd (let z : ◌≡◌ {A = ℕ} 0 1 = cc in omega (arith, z)); no = λ e a. f a }
 
 asked : {numbers n limit code place : ℕ} → 8 ≤ code → code ≤ 11 → 1 ≤ limit → limit ≤ 64 → numbers % 3 ≡ 0 → numbers ≤ 3 * 4096 → 1 ≤ n → n ≤ 2 → Asks numbers n limit code place (ltb place (numbers / 3))

@@ -4,7 +4,7 @@ use mathlib.Core.Path.{◌≡◌, refl, sym, subst}
 use native.Mathlib.Omega.{arith}
 use borrow.Author.Tests.{not-true, not-false}
 use lib.ListN.{length}
-use Rattle.expected.specs.Left.{Asked-of}
+use Rattle.expected.specs.Left.{AskedOf}
 use Rattle.expected.proofs.Telling.{nothing_told, unasked, as_reached, as_gone}
 use borrow.Author.Rules.{rules}
 use Rattle.expected.proofs.expected.Goals as goal
@@ -13,7 +13,7 @@ pub returns-then-not-asks : goal.returns-then-not-asks
 returns-then-not-asks c =
     let a = c.args in
     let asks = c.asks in
-    nothing_told (unasked (λ z. asks.ensures.no (not-true asks.result c.if-not-asks.true) (subst (Asked-of (length a.tokens.now) a.edition a.limit a.code) (sym c.size-place.ensures) z))) c.nothing.ensures
+    nothing_told (unasked (λ z. asks.ensures.no (not-true asks.result c.if-not-asks.true) (subst (AskedOf (length a.tokens.now) a.edition a.limit a.code) (sym c.size-place.ensures) z))) c.nothing.ensures
 
 pub left-left-requires : goal.left-left-requires
 left-left-requires c = let asked = c.asks.ensures.yes (not-false c.asks.result c.if-not-asks.false) in (c.made-table.ensures, (record { shallow = asked.least_depth; whole = asked.whole; inside = asked.inside }, refl))

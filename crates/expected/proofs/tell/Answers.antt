@@ -8,7 +8,7 @@ use lib.ListN.{length}
 use Rattle.grammar.specs.Edition.{edition as the-edition}
 use Rattle.grammar.specs.Kind.{Eof}
 use Rattle.grammar.specs.Token.{kind}
-use Rattle.expected.specs.Left.{Asked-of, Reached}
+use Rattle.expected.specs.Left.{AskedOf, Reached}
 use Rattle.expected.specs.Steps.{Taken, Bars, Stepped}
 use Rattle.expected.specs.Parts.{opened_by}
 use Rattle.expected.proofs.Leaving.{as_took}
@@ -74,7 +74,7 @@ here c = c.kind_at-kind.ensures ∙ ap (kind (to_start c).args.tokens.now) c.siz
 
 -- what is known where the step has been made
 module _ (c : Made) where
-  asked : Asked-of (length (start c).args.tokens.now) (start c).args.edition (start c).args.limit (start c).args.code (start c).args.at
+  asked : AskedOf (length (start c).args.tokens.now) (start c).args.edition (start c).args.limit (start c).args.code (start c).args.at
   asked = (start c).requires.asked_of
   reached : Reached (the-edition (start c).args.edition) (start c).args.tokens.now (start c).args.limit (start c).args.at (start c).args.room.now (start c).args.top (start c).args.depth
   reached = (start c).requires.reached

@@ -3,7 +3,7 @@ use borrow.Author.Rules.{rules}
 use borrow.Author.Tests.{not-true, not-false}
 use Prim.Native.Nat.{◌-◌, ◌≤◌}
 use native.Mathlib.Omega.{arith}
-use Rattle.lint.specs.Rules.{Cut-at}
+use Rattle.lint.specs.Rules.{CutAt}
 use Rattle.spelling.proofs.Deciding.{held, failed, said}
 use Rattle.children.proofs.Laws.{number_is}
 use Rattle.lint.proofs.Laws.{Passed, begun, one_more, not_closed, no_statement, cut_found, cut_nowhere}

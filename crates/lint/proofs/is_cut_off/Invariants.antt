@@ -3,14 +3,14 @@ use borrow.Author.Rules.{rules}
 use borrow.Author.Tests.{not-true, not-false}
 use Prim.Native.Nat.{◌-◌, ◌≤◌}
 use native.Mathlib.Omega.{arith}
-use Rattle.lint.specs.Rules.{Cut-at}
+use Rattle.lint.specs.Rules.{CutAt}
 use Rattle.spelling.proofs.Deciding.{held, failed, said}
 use Rattle.children.proofs.Laws.{number_is}
 use Rattle.lint.proofs.Laws.{Passed, begun, one_more, not_closed, no_statement, cut_found, cut_nowhere}
 use Rattle.lint.proofs.is_cut_off.Given as goal
 
 abbrev pub invariant-loop-k : goal.invariant-loop-k
-invariant-loop-k l = Passed (Cut-at l.tokens l.end) 0 l.k × (l.k ≤ l.n)
+invariant-loop-k l = Passed (CutAt l.tokens l.end) 0 l.k × (l.k ≤ l.n)
 
 abbrev pub decreases-loop-k : goal.decreases-loop-k
 decreases-loop-k l = l.n - l.k

@@ -6,18 +6,18 @@ use mathlib.Core.Path.{◌≡◌, sym}
 use lib.ListN.{length, take}
 use lib.Seq.{length-take-le}
 use Rattle.grammar.specs.Token.{lexeme}
-use Rattle.wire.specs.Input.{Input-holds}
-use Rattle.wire.specs.Scanned.{Sizes, Tokens-filled}
+use Rattle.wire.specs.Input.{InputHolds}
+use Rattle.wire.specs.Scanned.{Sizes, TokensFilled}
 use Rattle.wire.proofs.Outputs.{success_answered, refusal_answered, counted}
-use Rattle.wire.proofs.Scanning.{Input-sized, measured, holding}
+use Rattle.wire.proofs.Scanning.{InputSized, measured, holding}
 use borrow.Author.Rules.{rules}
 use Rattle.listing.proofs.script.Goals as goal
 
 -- the tokens that were written are the list's first, and the input holds them
-used_length : {input : List ℕ} {size : ℕ} (list : List ℕ) (n : ℕ) → Input-sized input size n → length list ≡ 1536 → 3 * n ≡ length (take (3 * n) list)
+used_length : {input : List ℕ} {size : ℕ} (list : List ℕ) (n : ℕ) → InputSized input size n → length list ≡ 1536 → 3 * n ≡ length (take (3 * n) list)
 used_length list n m h = sym (length-take-le (3 * n) list (omega (arith, m.most_tokens)))
 
-read : {input before after : List ℕ} {size n : ℕ} → Sizes input size n → Tokens-filled input (6 + size) n before after → length after ≡ 1536 → Input-holds input (lexeme input 6 (6 + size)) (take (3 * n) after)
+read : {input before after : List ℕ} {size n : ℕ} → Sizes input size n → TokensFilled input (6 + size) n before after → length after ≡ 1536 → InputHolds input (lexeme input 6 (6 + size)) (take (3 * n) after)
 read s f h = let m = measured s in holding m f (omega (arith, m.most_tokens))
 
 pub overflow_add-from : goal.overflow_add-from

@@ -4,7 +4,7 @@ use borrow.Author.Rules.{rules}
 use native.Mathlib.Omega.{arith}
 use lib.ListN.{length}
 use Rattle.grammar.specs.Token.{count}
-use Rattle.names.specs.Resolved.{Left-out}
+use Rattle.names.specs.Resolved.{LeftOut}
 use Rattle.names.proofs.Passing.{none_out, one_out, all_out}
 use Rattle.names.proofs.leave_out.Goals as goal
 use Rattle.names.proofs.leave_out.Lts as lts

@@ -4,12 +4,12 @@ use borrow.Author.Rules.{rules}
 use native.Mathlib.Omega.{arith}
 use lib.ListN.{length}
 use Rattle.grammar.specs.Token.{count}
-use Rattle.names.specs.Resolved.{Left-out}
+use Rattle.names.specs.Resolved.{LeftOut}
 use Rattle.names.proofs.Passing.{none_out, one_out, all_out}
 use Rattle.names.proofs.leave_out.Given as goal
 
 abbrev pub invariant-loop-i : goal.invariant-loop-i
-invariant-loop-i l = (l.from ≤ l.i) × Left-out l.tokens l.from l.i l.initial.scratch l.scratch
+invariant-loop-i l = (l.from ≤ l.i) × LeftOut l.tokens l.from l.i l.initial.scratch l.scratch
 
 abbrev pub decreases-loop-i : goal.decreases-loop-i
 decreases-loop-i l = l.size - l.i

@@ -39,7 +39,7 @@ use denote.Triple.Spec.{Meets, triple_of}
 use denote.Triple.Statement.{Contract, Triple}
 use denote.Triple.Table.{entered, cited}
 use denote.Triple.Walked.{says, Stays, stay_none, stay_none_slice, walk_of, Goes-none, Goes-none_slice, ends_at, walked, walk_Meets}
-use Rattle.naming.specs.Name.{PlaceTold, Part-told}
+use Rattle.naming.specs.Name.{PlaceTold, PartTold}
 use Rattle.naming.specs.declared.NameAnswer.{NameAnswer}
 use Rattle.naming.specs.declared.PlaceAnswer.{PlaceAnswer}
 use Rattle.naming.specs.contracts.NameAnswer as T
@@ -134,7 +134,7 @@ module _ {M : Type 1} {𝓤 : Ura M} (𝓛 : Logic 𝓤) (mem : Memory → SProp
     Put p = PlaceTold a.0.now a.1.0.now a.1.1.0.now a.1.1.1.0 a.1.1.1.1.0 a.1.1.1.1.1.0 p
 
     abbrev Part : Bor (List ℕ) → Type 0
-    Part r = Part-told a.0 a.1.0 a.1.1.0.now a.1.1.1.0 a.1.1.1.1.0 a.1.1.1.1.1.0 r
+    Part r = PartTold a.0 a.1.0 a.1.1.0.now a.1.1.1.0 a.1.1.1.1.0 a.1.1.1.1.1.0 r
 
     place_said : (p : PlaceAnswer) → ent 𝓤 (ensured 𝓛 place.ended (place.clauses 𝓛 mem run) κs a tt p) (fact 𝓤 (Put p))
     place_said p = ex_e 𝓤 _ (λ ws. snd∗ 𝓤 (sem 𝓛 (lasts place.ended κs a ws)) (fact 𝓤 (Put p)))

@@ -9,7 +9,7 @@ use Rattle.grammar.specs.Rows.{Rows}
 use Rattle.parts.specs.Packed.{root_row, keeps, rows_kept, left}
 use Rattle.packing.specs.Kept.{Placing}
 use Rattle.packing.specs.Roles.{rows}
-use Rattle.packing.specs.Rows.{Packed-all}
+use Rattle.packing.specs.Rows.{PackedAll}
 use Rattle.packing.proofs.Settling.{root_is, first_is, begins, markable, mapped, packable, high_is, high_few, long_few, settled}
 use Rattle.packing.proofs.settle.Goals as goal
 use Rattle.packing.proofs.settle.Lts as lts
@@ -64,7 +64,7 @@ placed c = c.keep.ensures.0
 high : (c : Kept) → get_or c.keep.new.scratch ((started (to_heard c)).args.s + ((started (to_heard c)).args.n - 1)) 0 + 1 ≡ suc (rows_kept (keeps (started (to_heard c)).args.choice.now) (rows_at (started (to_heard c))) (root_row (rows_at (started (to_heard c)))))
 high c = high_is (started (to_heard c)).requires (to_heard c).hear_all-known.ensures (placed c)
 
-all_packed : (c : Packed) → (let a = started (to_heard (to_kept c)) in Packed-all (keeps a.args.choice.now) (left (keeps a.args.choice.now) a.args.builtins (rows_at a)) (rows_at a) c.pack-long.new.nodes c.pack-long.new.links c.pack-long.result)
+all_packed : (c : Packed) → (let a = started (to_heard (to_kept c)) in PackedAll (keeps a.args.choice.now) (left (keeps a.args.choice.now) a.args.builtins (rows_at a)) (rows_at a) c.pack-long.new.nodes c.pack-long.new.links c.pack-long.result)
 all_packed c = let k = to_kept c in let t = to_heard k in c.pack-long.ensures.says (mapped (started t).requires t.hear_all-known.ensures (placed k) k.keep.ensures.1)
 
 few_rows : (c : Kept) → get_or c.keep.new.scratch ((started (to_heard c)).args.s + ((started (to_heard c)).args.n - 1)) 0 + 1 ≤ absent

@@ -2,7 +2,7 @@
 use Prim.Native.Nat.{◌-◌}
 use native.Mathlib.Omega.{arith}
 use Rattle.spelling.proofs.Deciding.{holds, fails}
-use Rattle.scripts.proofs.Cuts.{So-far, none_yet, one_more, all_seen}
+use Rattle.scripts.proofs.Cuts.{SoFar, none_yet, one_more, all_seen}
 use Rattle.scripts.proofs.forward.Goals as goal
 
 cut-start-requires : goal.the-fitted-cut_start-from-requires

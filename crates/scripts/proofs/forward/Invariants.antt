@@ -2,11 +2,11 @@
 use Prim.Native.Nat.{◌-◌}
 use native.Mathlib.Omega.{arith}
 use Rattle.spelling.proofs.Deciding.{holds, fails}
-use Rattle.scripts.proofs.Cuts.{So-far, none_yet, one_more, all_seen}
+use Rattle.scripts.proofs.Cuts.{SoFar, none_yet, one_more, all_seen}
 use Rattle.scripts.proofs.forward.Given as goal
 
 abbrev pub invariant-loop-i : goal.invariant-loop-i
-invariant-loop-i l = So-far l.cuts l.side l.long l.i
+invariant-loop-i l = SoFar l.cuts l.side l.long l.i
 
 abbrev pub decreases-loop-i : goal.decreases-loop-i
 decreases-loop-i l = l.n - l.i

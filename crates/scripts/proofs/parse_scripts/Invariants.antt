@@ -3,7 +3,7 @@ use Prim.Native.Nat.{◌-◌}
 use borrow.Author.Rules.{rules}
 use native.Mathlib.Omega.{arith}
 use Rattle.grammar.specs.Builtin.{builtins}
-use Rattle.scripts.specs.Joined.{Source, Answers-all, lent, joined}
+use Rattle.scripts.specs.Joined.{Source, AnswersAll, lent, joined}
 use Rattle.scripts.proofs.Cuts.{refused, passed}
 use Rattle.scripts.proofs.Turns.{Turned, start, fits_now, next, all_answered}
 use Rattle.scripts.proofs.parse_scripts.Given as goal

@@ -3,19 +3,19 @@ use Prim.Native.Nat.{◌-◌}
 use borrow.Author.Rules.{rules}
 use native.Mathlib.Omega.{arith}
 use Rattle.grammar.specs.Builtin.{builtins}
-use Rattle.scripts.specs.Joined.{Source, Answers-all, lent, joined}
+use Rattle.scripts.specs.Joined.{Source, AnswersAll, lent, joined}
 use Rattle.scripts.proofs.Cuts.{refused, passed}
 use Rattle.scripts.proofs.Turns.{Turned, start, fits_now, next, all_answered}
 use Rattle.scripts.proofs.read_scripts.Goals as goal
 
 pub returns-then-not-right_cuts : goal.returns-then-not-right_cuts
-returns-then-not-right_cuts c = Answers-all.turned_away (λ f. refused c.right_cuts.ensures c.if-not-right_cuts.true f.cuts_right)
+returns-then-not-right_cuts c = AnswersAll.turned_away (λ f. refused c.right_cuts.ensures c.if-not-right_cuts.true f.cuts_right)
 
 pub room_for-requires : goal.room_for-requires
 room_for-requires c = (passed c.right_cuts.ensures c.if-not-right_cuts.false).few
 
 pub returns-then-not-room_for : goal.returns-then-not-room_for
-returns-then-not-room_for c = Answers-all.turned_away (λ f. refused c.room_for.ensures c.if-not-room_for.true f.room)
+returns-then-not-room_for c = AnswersAll.turned_away (λ f. refused c.room_for.ensures c.if-not-room_for.true f.room)
 
 pub loop-i-init : goal.loop-i-init
 loop-i-init c = start record { cuts_right = passed c.right_cuts.ensures c.if-not-right_cuts.false; room = passed c.room_for.ensures c.if-not-room_for.false }

@@ -10,14 +10,14 @@ use Rattle.checker.specs.declared.Verdict.{Verdict}
 use Rattle.foreign.specs.Check.{Given}
 use Rattle.grammar.specs.Room.{Rooms}
 use Rattle.scripts.proofs.Stores.{three}
-use Rattle.station.specs.Exports.{put, Checks-rows}
+use Rattle.station.specs.Exports.{put, ChecksRows}
 use Rattle.station.proofs.kaori_check.Goals as goal
 
-told : {g : Given} {after : Rooms} {room out : List ℕ} {v : Verdict} → 3 ≤ length room → Tells g after v → out ≡ put (v.code ∷ v.rule ∷ v.row ∷ []) room → Checks-rows g room after out v.code
-told h t e = rw e (Checks-rows.checked h t.says)
+told : {g : Given} {after : Rooms} {room out : List ℕ} {v : Verdict} → 3 ≤ length room → Tells g after v → out ≡ put (v.code ∷ v.rule ∷ v.row ∷ []) room → ChecksRows g room after out v.code
+told h t e = rw e (ChecksRows.checked h t.says)
 
 pub returns-then-answer-lt-VERDICT : goal.returns-then-answer-lt-VERDICT
-returns-then-answer-lt-VERDICT c = Checks-rows.short (omega arith)
+returns-then-answer-lt-VERDICT c = ChecksRows.short (omega arith)
 
 pub bounds-answer-1 : goal.bounds-answer-1
 bounds-answer-1 c = simp length-set (omega arith)

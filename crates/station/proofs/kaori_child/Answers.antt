@@ -1,7 +1,7 @@
 -- `kaori_child` meets its contract: what `child` answers of what `below` answers.
 use borrow.Author.Rules.{rules}
-use Rattle.station.specs.Exports.{Has-child}
+use Rattle.station.specs.Exports.{HasChild}
 use Rattle.station.proofs.kaori_child.Goals as goal
 
 pub returns : goal.returns
-returns c = Has-child.child c.below-b.ensures c.child.ensures
+returns c = HasChild.child c.below-b.ensures c.child.ensures

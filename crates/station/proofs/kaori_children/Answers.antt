@@ -1,7 +1,7 @@
 -- `kaori_children` meets its contract: what `places` answers of what `below` answers.
 use borrow.Author.Rules.{rules}
-use Rattle.station.specs.Exports.{Has-places}
+use Rattle.station.specs.Exports.{HasPlaces}
 use Rattle.station.proofs.kaori_children.Goals as goal
 
 pub returns : goal.returns
-returns c = Has-places.places c.below-b.ensures c.places.ensures
+returns c = HasPlaces.places c.below-b.ensures c.places.ensures

@@ -8,14 +8,14 @@ use lib.ListN.{length, length-set}
 use Rattle.naming.specs.Name.{PlaceTold}
 use Rattle.naming.specs.declared.PlaceAnswer.{PlaceAnswer}
 use Rattle.scripts.proofs.Stores.{three}
-use Rattle.station.specs.Exports.{name_placed, put, Names-place}
+use Rattle.station.specs.Exports.{name_placed, put, NamesPlace}
 use Rattle.station.proofs.kaori_name.Goals as goal
 
-told : {names text symbols room out : List ℕ} {count built symbol : ℕ} {p : PlaceAnswer} → 3 ≤ length room → PlaceTold names text symbols count built symbol p → out ≡ put (name_placed p) room → Names-place names text symbols count built symbol room out p.code
-told h q e = rw e (Names-place.place h q)
+told : {names text symbols room out : List ℕ} {count built symbol : ℕ} {p : PlaceAnswer} → 3 ≤ length room → PlaceTold names text symbols count built symbol p → out ≡ put (name_placed p) room → NamesPlace names text symbols count built symbol room out p.code
+told h q e = rw e (NamesPlace.place h q)
 
 pub returns-then-answer-lt-NAME_PLACE : goal.returns-then-answer-lt-NAME_PLACE
-returns-then-answer-lt-NAME_PLACE c = Names-place.short (omega arith)
+returns-then-answer-lt-NAME_PLACE c = NamesPlace.short (omega arith)
 
 pub bounds-answer-1 : goal.bounds-answer-1
 bounds-answer-1 c = simp length-set (omega arith)

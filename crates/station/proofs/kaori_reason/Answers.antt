@@ -1,7 +1,7 @@
 -- `kaori_reason` meets its contract: the length handed back is the one that `reason` answers.
 use borrow.Author.Rules.{rules}
-use Rattle.station.specs.Exports.{Writes-reason}
+use Rattle.station.specs.Exports.{WritesReason}
 use Rattle.station.proofs.kaori_reason.Goals as goal
 
 pub returns : goal.returns
-returns c = Writes-reason.written c.reason-m.ensures
+returns c = WritesReason.written c.reason-m.ensures

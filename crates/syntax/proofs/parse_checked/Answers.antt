@@ -1,7 +1,7 @@
 -- `parse_checked` meets its contract: what its lengths or its built-in names turn away is answered so, and of anything else the profile says what the door would.
 use mathlib.Core.Path.{refl}
 use borrow.Author.Rules.{rules}
-use Rattle.door.specs.Entry.{List-checked}
+use Rattle.door.specs.Entry.{ListChecked}
 use Rattle.door.proofs.Codes.{by_code, by_list}
 use Rattle.syntax.proofs.Calls.{turned}
 use Rattle.syntax.proofs.parse_checked.Goals as goal
@@ -14,4 +14,4 @@ enter-requires c =
     let nothing-wrong = c.if-code-ne0.false in
     let admitted = c.admit-code.ensures in
     let lent = c.requires in
-    record { entered = by_list admitted.code nothing-wrong lent.ascii (List-checked.lent lent c.within-entry.ensures); known = λ _. admitted.known nothing-wrong }
+    record { entered = by_list admitted.code nothing-wrong lent.ascii (ListChecked.lent lent c.within-entry.ensures); known = λ _. admitted.known nothing-wrong }

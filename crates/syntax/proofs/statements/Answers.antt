@@ -22,7 +22,7 @@ use Rattle.reading.proofs.Listings.{Listing, ItemOf, listing_none, listing_more,
 use Rattle.reading.proofs.Refusals.{lowered}
 use Rattle.reading.proofs.Replies.{stated, further}
 use Rattle.parser.proofs.Sorts.{statement_link}
-use Rattle.syntax.proofs.statements.Invariants.{Up-to}
+use Rattle.syntax.proofs.statements.Invariants.{UpTo}
 use Rattle.syntax.proofs.statements.Goals as goal
 use Rattle.syntax.proofs.statements.Lts as lts
 use Rattle.syntax.proofs.statements.Tie as tie

@@ -9,7 +9,7 @@ use Rattle.grammar.specs.Naming.{height}
 use Rattle.grammar.specs.Room.{link_width}
 use Rattle.grammar.specs.Rows.{Rows}
 use Rattle.parts.specs.Packed.{keeps, root_first, statement, statements}
-use Rattle.packing.specs.Known.{Hearing-all}
+use Rattle.packing.specs.Known.{HearingAll}
 use Rattle.packing.specs.Roles.{rows}
 use Rattle.packing.proofs.Beginning.{begun, statement_heard, statement_dropped, some_heard}
 use Rattle.packing.proofs.Rooting.{root_ends, statement_below, statement_is}

@@ -5,8 +5,8 @@ use mathlib.Core.Logic.{inl, inr}
 use mathlib.Core.Path.{◌≡◌, refl}
 use Rattle.grammar.specs.Room.{node_width}
 use lib.ListN.{get_or}
-use Rattle.packing.specs.Rows.{moving, Moves-list}
-use Rattle.packing.proofs.Moving.{next_read, kind_of_row, Lists-done, none_done, moves_next, list_skipped, list_done}
+use Rattle.packing.specs.Rows.{moving, MovesList}
+use Rattle.packing.proofs.Moving.{next_read, kind_of_row, ListsDone, none_done, moves_next, list_skipped, list_done}
 use Rattle.packing.proofs.pack.move_lists.Goals as goal
 use Rattle.packing.proofs.pack.move_lists.Lts as lts
 use Rattle.packing.proofs.pack.move_lists.Tie as tie
@@ -35,7 +35,7 @@ abbrev place : ListBegins → ℕ
 place c = node_width * (to_start c).args.row + (to_loop c).loop-j.j
 
 -- the list's links can be moved
-movable : (c : ListBegins) → Moves-list (to_start c).args.scratch.now (to_start c).args.m c.role-sort.result (to_loop c).loop-j.links (get_or (to_start c).args.nodes.now (place c) 0) (to_loop c).loop-j.to (get_or (to_start c).args.nodes.now (place c + 1) 0)
+movable : (c : ListBegins) → MovesList (to_start c).args.scratch.now (to_start c).args.m c.role-sort.result (to_loop c).loop-j.links (get_or (to_start c).args.nodes.now (place c) 0) (to_loop c).loop-j.to (get_or (to_start c).args.nodes.now (place c + 1) 0)
 movable c = moves_next (to_loop c).loop-j.invariant c.role-sort.ensures (omega arith) (to_start c).requires refl c.if-sort-ge-NODES.true
 
 pub overflow_mul-base : goal.overflow_mul-base

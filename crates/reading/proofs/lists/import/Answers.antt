@@ -17,7 +17,7 @@ use Rattle.grammar.specs.Rule.{rule}
 use Rattle.grammar.specs.Space.{has_word}
 use Rattle.grammar.specs.Token.{start, end}
 use Rattle.grammar.proofs.Room.{paid, spare, links_length}
-use Rattle.reading.specs.Parts.{Makes-list}
+use Rattle.reading.specs.Parts.{MakesList}
 use Rattle.reading.specs.State.{state, Standing, Rooms}
 use Rattle.reading.specs.declared.Cursor.{Cursor}
 use Rattle.reading.specs.declared.Read.{Read}
@@ -54,7 +54,7 @@ Start = lts.Start tie.the-claims reads.Pre reads.Post
 -- the row of an import: the second list's links come after the first's
 tried : {ts ns ns' ls ls' ss : List ℕ} {a h : ℕ} {xs zs : List Handle} {n : Node} {r : Read} (c : Cursor) (m : ℕ) → Standing (state ns ls ss c) → c.nodes-1 < absent → length (links_of xs ++ links_of zs) ≡ 3 * m →
     (3 * (c.links-1 + m) ≤ length ls → Written (3 * c.links-1) (3 * (c.links-1 + m)) (links_of xs ++ links_of zs) ls ls') → length ls' ≡ length ls →
-    Makes-list (length ls') n (record { at = c.at; nodes = c.nodes-1; links = c.links-1 + m; held = h }) r →
+    MakesList (length ls') n (record { at = c.at; nodes = c.nodes-1; links = c.links-1 + m; held = h }) r →
     Tried c.nodes-1 26 (start ts a) (end ts c.at) (c.links-1 ∷ length xs ∷ (c.links-1 + length xs) ∷ length zs ∷ []) ns ns' n →
     Tries ts (Label.Row Form.Import) a (state ns ls ss (record { at = c.at; nodes = c.nodes-1; links = c.links-1; held = h })) xs zs ns' ls' ss r
 unfolding make put fill numbers write rule has_word

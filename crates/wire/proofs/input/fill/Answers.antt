@@ -6,7 +6,7 @@ use mathlib.Core.List.{List}
 use mathlib.Core.Path.{◌≡◌, refl}
 use lib.ListN.{length-set}
 use Rattle.wire.proofs.Scanning.{filled_more}
-use Rattle.wire.specs.Scanned.{Tokens-filled}
+use Rattle.wire.specs.Scanned.{TokensFilled}
 use Rattle.wire.proofs.input.fill.Invariants.{Going}
 use Rattle.wire.proofs.input.fill.Goals as goal
 

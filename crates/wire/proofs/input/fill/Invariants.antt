@@ -6,12 +6,12 @@ use mathlib.Core.List.{List}
 use mathlib.Core.Path.{◌≡◌, refl}
 use lib.ListN.{length-set}
 use Rattle.wire.proofs.Scanning.{filled_more}
-use Rattle.wire.specs.Scanned.{Tokens-filled}
+use Rattle.wire.specs.Scanned.{TokensFilled}
 use Rattle.wire.proofs.input.fill.Given as goal
 
 pub record Going (input : List ℕ) (from n : ℕ) (before after : List ℕ) (i : ℕ) : Type 0 where
   pub within : i ≤ n
-  pub so_far : Tokens-filled input from i before after
+  pub so_far : TokensFilled input from i before after
 
 abbrev pub invariant-loop-i : goal.invariant-loop-i
 invariant-loop-i l = Going l.input l.from l.n l.initial.tokens l.tokens l.i

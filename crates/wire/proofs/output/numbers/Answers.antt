@@ -7,7 +7,7 @@ use mathlib.Core.Path.{◌≡◌, refl, ◌∙◌}
 use lib.ListN.{length, take, get_or}
 use Rattle.wire.proofs.Decimals.{decimal_short}
 use Rattle.wire.proofs.Fields.{no_field, another, all_fields}
-use Rattle.wire.specs.Lines.{Put-within}
+use Rattle.wire.specs.Lines.{PutWithin}
 use Rattle.wire.specs.Printed.{fields}
 use Rattle.wire.proofs.output.numbers.Invariants.{Blanks}
 use Rattle.wire.proofs.output.numbers.Goals as goal

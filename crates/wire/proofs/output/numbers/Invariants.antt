@@ -7,14 +7,14 @@ use mathlib.Core.Path.{◌≡◌, refl, ◌∙◌}
 use lib.ListN.{length, take, get_or}
 use Rattle.wire.proofs.Decimals.{decimal_short}
 use Rattle.wire.proofs.Fields.{no_field, another, all_fields}
-use Rattle.wire.specs.Lines.{Put-within}
+use Rattle.wire.specs.Lines.{PutWithin}
 use Rattle.wire.specs.Printed.{fields}
 use Rattle.wire.proofs.output.numbers.Given as goal
 
 pub record Blanks (values : List ℕ) (at : ℕ) (before after : List ℕ) (k i : ℕ) : Type 0 where
   pub within : i ≤ length values
   pub size : length after ≡ length before
-  pub so_far : Put-within (11 * i) (fields (take i values)) at before after k
+  pub so_far : PutWithin (11 * i) (fields (take i values)) at before after k
 
 abbrev pub invariant-loop-i : goal.invariant-loop-i
 invariant-loop-i l = Blanks l.values l.at l.initial.room l.room l.k l.i

@@ -4,7 +4,7 @@ use native.Mathlib.Omega.{arith}
 use mathlib.Core.List.{List}
 use mathlib.Core.Path.{◌≡◌, refl, ◌∙◌}
 use lib.ListN.{length}
-use Rattle.wire.specs.Lines.{Put-within, line_size}
+use Rattle.wire.specs.Lines.{PutWithin, line_size}
 use Rattle.wire.specs.Printed.{rows}
 use Rattle.wire.proofs.Lines.{no_row, another_row, row_there}
 use borrow.Author.Rules.{rules}

@@ -4,7 +4,7 @@ use native.Mathlib.Omega.{arith}
 use mathlib.Core.List.{List}
 use mathlib.Core.Path.{◌≡◌, refl, ◌∙◌}
 use lib.ListN.{length}
-use Rattle.wire.specs.Lines.{Put-within, line_size}
+use Rattle.wire.specs.Lines.{PutWithin, line_size}
 use Rattle.wire.specs.Printed.{rows}
 use Rattle.wire.proofs.Lines.{no_row, another_row, row_there}
 use borrow.Author.Rules.{rules}
@@ -13,7 +13,7 @@ use Rattle.wire.proofs.output.rows.Given as goal
 pub record Going (lead : List ℕ) (width : ℕ) (source : List ℕ) (n at : ℕ) (before after : List ℕ) (k i : ℕ) : Type 0 where
   pub within : i ≤ n
   pub size : length after ≡ length before
-  pub so_far : Put-within (line_size * i) (rows lead width source i) at before after k
+  pub so_far : PutWithin (line_size * i) (rows lead width source i) at before after k
 
 abbrev pub invariant-loop-i : goal.invariant-loop-i
 invariant-loop-i l = Going l.lead l.width l.source l.n l.at l.initial.room l.room l.k l.i
