@@ -1,7 +1,6 @@
 -- `are_digits` meets its contract: the run of digits is not empty and ends where the text does.
 use mathlib.Core.Path.{sym, ◌∙◌}
 use native.Mathlib.Omega.{arith}
-use borrow.Author.Rules.{rules}
 use Rattle.grammar.specs.Pattern.{Pattern, byte, digit, some}
 use Rattle.grammar.specs.Token.{lexeme}
 use Rattle.grammar.proofs.Lexemes.{lexeme_whole}

@@ -1,21 +1,17 @@
 -- `digits` meets its contract: its loop runs over digits.
-use Prim.Native.Nat.{◌-◌}
 use mathlib.Core.Path.{sym, ◌∙◌}
 use native.Mathlib.Omega.{arith}
-use borrow.Author.Tests.{not-true, not-false}
-use borrow.Author.Rules.{rules}
-use Rattle.grammar.specs.Pattern.{digit}
-use Rattle.grammar.proofs.Runs.{Running, begun, goes_on, stops, is_over}
+use Rattle.grammar.proofs.Runs.{begun, goes_on, stops, is_over}
 use Rattle.lexeme.proofs.digits.Goals as goal
 
 pub loop-at-init : goal.loop-at-init
 loop-at-init c = begun (omega arith)
 
 pub returns-then-not-is_digit : goal.returns-then-not-is_digit
-returns-then-not-is_digit c = stops (omega arith) c.loop-at.invariant (omega arith) (sym c.is_digit.ensures ∙ not-true c.is_digit.result c.if-not-is_digit.true)
+returns-then-not-is_digit c = stops (omega arith) c.loop-at.invariant (omega arith) (sym c.is_digit.ensures ∙ c.if-not-is_digit.true)
 
 pub loop-at-preserved : goal.loop-at-preserved
-loop-at-preserved c = goes_on (omega arith) c.loop-at.invariant (omega arith) (sym c.is_digit.ensures ∙ not-false c.is_digit.result c.if-not-is_digit.false)
+loop-at-preserved c = goes_on (omega arith) c.loop-at.invariant (omega arith) (sym c.is_digit.ensures ∙ c.if-not-is_digit.false)
 
 pub returns : goal.returns
 returns c = is_over (omega arith) c.loop-at.invariant (omega arith)

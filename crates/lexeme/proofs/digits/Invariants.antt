@@ -1,11 +1,7 @@
 -- `digits` meets its contract: its loop runs over digits.
 use Prim.Native.Nat.{◌-◌}
-use mathlib.Core.Path.{sym, ◌∙◌}
-use native.Mathlib.Omega.{arith}
-use borrow.Author.Tests.{not-true, not-false}
-use borrow.Author.Rules.{rules}
 use Rattle.grammar.specs.Pattern.{digit}
-use Rattle.grammar.proofs.Runs.{Running, begun, goes_on, stops, is_over}
+use Rattle.grammar.proofs.Runs.{Running}
 use Rattle.lexeme.proofs.digits.Given as goal
 
 abbrev pub invariant-loop-at : goal.invariant-loop-at

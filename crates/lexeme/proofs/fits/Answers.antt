@@ -1,9 +1,5 @@
 -- `fits` meets its contract: each arm is a way to fit.
-use Prim.Native.Nat.{◌<◌}
-use mathlib.Core.Logic.{⊎_elim}
-use mathlib.Core.Path.{◌≡◌}
 use native.Mathlib.Omega.{arith}
-use borrow.Author.Rules.{rules}
 use Rattle.grammar.specs.Lexeme.{spelling, number, string, identifier}
 use Rattle.grammar.specs.Token.{lexeme}
 use Rattle.spelling.proofs.Deciding.{holds, fails, matching}
@@ -39,5 +35,4 @@ returns-in_default c =
 pub returns-in-0-to-41 : goal.returns-in-0-to-41
 returns-in-0-to-41 c =
     let a = c.args in
-    let spelt : (a.kind < 42) × (a.kind ≡ 40 → ⊥) = ⊎_elim (λ w. omega arith) (λ w. omega arith) c.in-0-to-41-1.branch in
     fits_by_pattern a.kind (lexeme a.text.now a.start a.end) (omega arith) (omega arith) (rw (spelled_pattern a.kind (omega arith) (omega arith) (omega arith)) (literal_decided (spelling a.kind) (lexeme a.text.now a.start a.end) c.spelled.ensures))

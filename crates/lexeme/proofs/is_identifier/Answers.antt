@@ -1,12 +1,7 @@
 -- `is_identifier` meets its contract: the whole text matches exactly where what is left matches a run of letters and digits.
-use Prim.Native.Nat.{◌-◌, ◌≤◌}
-use mathlib.Core.Path.{sym, ◌∙◌, ◌≡◌}
+use mathlib.Core.Path.{sym, ◌∙◌}
 use native.Mathlib.Omega.{arith}
-use borrow.Author.Tests.{not-true, not-false}
-use borrow.Author.Rules.{rules}
-use Rattle.grammar.specs.Derivative.{matches}
 use Rattle.grammar.specs.Lexeme.{letter, identifier}
-use Rattle.grammar.specs.Token.{lexeme}
 use Rattle.grammar.specs.Pattern.{many, byte}
 use Rattle.grammar.proofs.Lexemes.{at_first, at_end}
 use Rattle.grammar.proofs.Matching.{no_byte, many_on, many_none}
@@ -48,24 +43,24 @@ returns-then-start-end c =
 pub returns-then-not-is_letter : goal.returns-then-not-is_letter
 returns-then-not-is_letter c =
     let a = (entry c.before.before).args in
-    sym (at_first identifier a.text.now a.start a.end (omega arith) (omega arith) ∙ identifier_first _ _ ∙ rw (sym c.is_letter.ensures ∙ not-true _ c.if-not-is_letter.true))
+    sym (at_first identifier a.text.now a.start a.end (omega arith) (omega arith) ∙ identifier_first _ _ ∙ rw (sym c.is_letter.ensures ∙ c.if-not-is_letter.true))
 
 pub loop-at-init : goal.loop-at-init
 loop-at-init c =
     let a = (entry c.before.before).args in
-    (omega arith, at_first identifier a.text.now a.start a.end (omega arith) (omega arith) ∙ identifier_first _ _ ∙ rw (sym c.is_letter.ensures ∙ not-false _ c.if-not-is_letter.false))
+    (omega arith, at_first identifier a.text.now a.start a.end (omega arith) (omega arith) ∙ identifier_first _ _ ∙ rw (sym c.is_letter.ensures ∙ c.if-not-is_letter.false))
 
 pub returns-then-not-is_letter_or_digit : goal.returns-then-not-is_letter_or_digit
 returns-then-not-is_letter_or_digit c =
     let l = turn c.before.before in
     let a = (entry (first l)).args in
-    sym (l.loop-at.invariant.1 ∙ at_first (many (byte letter_or_digit)) a.text.now l.loop-at.at a.end (omega arith) (omega arith) ∙ many_on letter_or_digit _ _ ∙ rw (sym c.is_letter_or_digit.ensures ∙ not-true _ c.if-not-is_letter_or_digit.true))
+    sym (l.loop-at.invariant.1 ∙ at_first (many (byte letter_or_digit)) a.text.now l.loop-at.at a.end (omega arith) (omega arith) ∙ many_on letter_or_digit _ _ ∙ rw (sym c.is_letter_or_digit.ensures ∙ c.if-not-is_letter_or_digit.true))
 
 pub loop-at-preserved : goal.loop-at-preserved
 loop-at-preserved c =
     let l = turn c.before.before in
     let a = (entry (first l)).args in
-    (omega arith, l.loop-at.invariant.1 ∙ at_first (many (byte letter_or_digit)) a.text.now l.loop-at.at a.end (omega arith) (omega arith) ∙ many_on letter_or_digit _ _ ∙ rw (sym c.is_letter_or_digit.ensures ∙ not-false _ c.if-not-is_letter_or_digit.false))
+    (omega arith, l.loop-at.invariant.1 ∙ at_first (many (byte letter_or_digit)) a.text.now l.loop-at.at a.end (omega arith) (omega arith) ∙ many_on letter_or_digit _ _ ∙ rw (sym c.is_letter_or_digit.ensures ∙ c.if-not-is_letter_or_digit.false))
 
 pub returns : goal.returns
 returns c =

@@ -1,5 +1,5 @@
 -- `is_inside` meets its contract: the whole text matches exactly where what is left does, byte after byte, or two after a backslash.
-use Prim.Native.Nat.{◌+◌, ◌-◌, ◌≤◌}
+use Prim.Native.Nat.{◌+◌}
 use mathlib.Core.Bool.{not, ◌&&◌}
 use mathlib.Core.List.{◌∷◌}
 use mathlib.Core.Path.{◌≡◌, sym, ◌∙◌}
@@ -15,7 +15,6 @@ use Rattle.lexeme.specs.Parts.{inside}
 use Rattle.lexeme.proofs.Texts.{inside_quote, inside_plain, inside_cut, inside_escape, inside_open}
 use Rattle.lexeme.proofs.is_inside.Goals as goal
 use Rattle.lexeme.proofs.is_inside.Lts as lts
-use Rattle.lexeme.proofs.is_inside.Tie as tie
 use Rattle.lexeme.proofs.is_inside.Reads as reads
 
 abbrev Else3 : Type 0

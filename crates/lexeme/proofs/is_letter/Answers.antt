@@ -2,7 +2,6 @@
 use Prim.Native.Nat.{ℕ}
 use mathlib.Core.Path.{ap, ◌∙◌}
 use lib.Dec.{eqb}
-use borrow.Author.Rules.{rules}
 use Rattle.lexeme.proofs.Bytes.{letter_class}
 use Rattle.lexeme.proofs.is_letter.Goals as goal
 

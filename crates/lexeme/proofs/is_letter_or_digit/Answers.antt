@@ -3,7 +3,6 @@ use Prim.Native.Nat.{ℕ}
 use mathlib.Core.Bool.{not}
 use mathlib.Core.Path.{ap, ◌∙◌}
 use lib.Dec.{eqb}
-use borrow.Author.Rules.{rules}
 use Rattle.lexeme.proofs.Bytes.{other_class}
 use Rattle.lexeme.proofs.is_letter_or_digit.Goals as goal
 

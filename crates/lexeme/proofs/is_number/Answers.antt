@@ -4,7 +4,6 @@ use mathlib.Core.List.{◌∷◌}
 use mathlib.Core.Path.{◌≡◌, sym, ◌∙◌}
 use native.Mathlib.Omega.{arith}
 use lib.ListN.{get_or}
-use borrow.Author.Rules.{rules}
 use Rattle.grammar.specs.Derivative.{matches}
 use Rattle.grammar.specs.Lexeme.{number}
 use Rattle.grammar.specs.Pattern.{digit, maybe}

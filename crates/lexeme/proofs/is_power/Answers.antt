@@ -1,8 +1,7 @@
 -- `is_power` meets its contract: nothing, or an `e` of either case and what `is_signed` says.
 use mathlib.Core.Path.{sym, ◌∙◌}
 use native.Mathlib.Omega.{arith}
-use borrow.Author.Rules.{rules}
-use mathlib.Core.Logic.{inl, inr}
+use lib.ListN.{get_or}
 use Rattle.grammar.specs.Pattern.{maybe, bytes, among}
 use Rattle.grammar.proofs.Lexemes.{at_first, at_end}
 use Rattle.lexeme.specs.Parts.{power}
@@ -18,9 +17,9 @@ returns-then-start-end c =
 pub returns-in-69 : goal.returns-in-69
 returns-in-69 c =
     let a = c.args in
-    c.before.is_Signed.ensures ∙ sym (at_first (maybe power) a.text.now a.start a.end (omega arith) (omega arith) ∙ power_first _ _ ∙ rw (of_two (among (bytes "eE")) tt c.in-69.is))
+    c.before.is_signed.ensures ∙ sym (at_first (maybe power) a.text.now a.start a.end (omega arith) (omega arith) ∙ power_first _ _ ∙ rw (of_two (among (bytes "eE")) tt c.in-69.is))
 
 pub returns-in_default : goal.returns-in_default
 returns-in_default c =
     let a = c.args in
-    sym (at_first (maybe power) a.text.now a.start a.end (omega arith) (omega arith) ∙ power_first _ _ ∙ rw (not_among _ (bytes "eE") (λ e. c.in_default.rest.1 (inr e), (λ e. c.in_default.rest.1 (inl e), tt))))
+    sym (at_first (maybe power) a.text.now a.start a.end (omega arith) (omega arith) ∙ power_first _ _ ∙ rw (not_among (get_or a.text.now a.start 0) (bytes "eE") (grind arith, (grind arith, tt))))

@@ -1,9 +1,8 @@
 -- `is_signed` meets its contract: a sign, where there is one, and then digits.
 use mathlib.Core.Path.{sym, ◌∙◌}
 use native.Mathlib.Omega.{arith}
-use borrow.Author.Rules.{rules}
+use lib.ListN.{get_or}
 use mathlib.Core.Bool.{not}
-use mathlib.Core.Logic.{inl, inr}
 use borrow.Author.Tests.{not-true}
 use Rattle.grammar.specs.Pattern.{byte, bytes, among, digit, some}
 use Rattle.grammar.proofs.Lexemes.{at_first, at_end}
@@ -25,5 +24,5 @@ returns-in-43 c =
 pub returns-in_default : goal.returns-in_default
 returns-in_default c =
     let a = c.args in
-    let none = not_among _ (bytes "+-") (λ e. c.in_default.rest.1 (inl e), (λ e. c.in_default.rest.1 (inr e), tt)) in
+    let none = not_among (get_or a.text.now a.start 0) (bytes "+-") (grind arith, (grind arith, tt)) in
     c.are_digits-in_default.ensures ∙ at_first (some (byte digit)) a.text.now a.start a.end (omega arith) (omega arith) ∙ sym (at_first signed a.text.now a.start a.end (omega arith) (omega arith) ∙ signed_digits _ _ none)

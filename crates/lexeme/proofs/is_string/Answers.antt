@@ -1,7 +1,6 @@
 -- `is_string` meets its contract: the opening quote, and then what `is_inside` says.
 use mathlib.Core.Path.{sym, ◌∙◌}
 use native.Mathlib.Omega.{arith}
-use borrow.Author.Rules.{rules}
 use borrow.Author.Tests.{ne_eqb}
 use Rattle.grammar.specs.Lexeme.{string}
 use Rattle.grammar.specs.Pattern.{among, bytes}

@@ -4,7 +4,6 @@ use mathlib.Core.List.{List}
 use mathlib.Core.Path.{◌≡◌, sym, ◌∙◌}
 use native.Mathlib.Omega.{arith}
 use lib.ListN.{length}
-use borrow.Author.Rules.{rules}
 use Rattle.grammar.specs.Token.{lexeme}
 use Rattle.grammar.proofs.Lexemes.{lexeme_length}
 use Rattle.spelling.proofs.Deciding.{held, failed}
