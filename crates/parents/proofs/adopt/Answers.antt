@@ -1,11 +1,9 @@
 -- `adopt` meets its contract: row by row, each with the parents of the rows before it.
-use Prim.Native.Nat.{◌-◌, ◌≤◌}
-use borrow.Author.Rules.{rules}
 use native.Mathlib.Omega.{arith}
 use mathlib.Core.Path.{ap, ◌∙◌}
 use Rattle.grammar.specs.Naming.{named_by}
 use Rattle.parents.specs.Adopted.{rows, claims}
-use Rattle.parents.proofs.Adopting.{Adopting, begun, room, next, done}
+use Rattle.parents.proofs.Adopting.{begun, room, next, done}
 use Rattle.parents.proofs.adopt.Goals as goal
 
 pub loop-row-init : goal.loop-row-init
@@ -15,7 +13,7 @@ pub orphan-requires : goal.orphan-requires
 orphan-requires c = room c.requires (omega arith) (omega arith) c.loop-row.invariant.0
 
 pub family-requires : goal.family-requires
-family-requires c = omega (arith, room c.requires (omega arith) (omega arith) c.loop-row.invariant.0, c.orphan.auto.0)
+family-requires c = omega (arith, room c.requires (omega arith) (omega arith) c.loop-row.invariant.0, c.orphan.auto.nodes)
 
 pub loop-row-preserved : goal.loop-row-preserved
 loop-row-preserved c =

@@ -1,10 +1,7 @@
 -- `take_entries` meets its contract: two claims for each link.
 use Prim.Native.Nat.{◌-◌, ◌≤◌}
-use borrow.Author.Rules.{rules}
-use native.Mathlib.Omega.{arith}
-use mathlib.Core.Path.{◌≡◌, refl, ◌∙◌}
 use Rattle.grammar.specs.Naming.{linked_entries}
-use Rattle.parents.proofs.Laws.{Claimed, no_entries, entry_more}
+use Rattle.parents.proofs.Laws.{Claimed}
 use Rattle.parents.proofs.take_entries.Given as goal
 
 abbrev pub invariant-loop-i : goal.invariant-loop-i

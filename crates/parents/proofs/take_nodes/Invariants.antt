@@ -1,10 +1,7 @@
 -- `take_nodes` meets its contract: a claim for each link.
 use Prim.Native.Nat.{◌-◌, ◌≤◌}
-use borrow.Author.Rules.{rules}
-use native.Mathlib.Omega.{arith}
-use mathlib.Core.Path.{◌≡◌, refl, ◌∙◌}
 use Rattle.grammar.specs.Naming.{linked_nodes}
-use Rattle.parents.proofs.Laws.{Claimed, no_nodes, node_more}
+use Rattle.parents.proofs.Laws.{Claimed}
 use Rattle.parents.proofs.take_nodes.Given as goal
 
 abbrev pub invariant-loop-i : goal.invariant-loop-i

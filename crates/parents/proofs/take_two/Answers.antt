@@ -1,5 +1,4 @@
 -- `take_two` meets its contract: two claims.
-use borrow.Author.Rules.{rules}
 use mathlib.Core.Path.{ap, ◌∙◌}
 use Rattle.parents.specs.Adopted.{claim, claims}
 use Rattle.parents.proofs.take_two.Goals as goal
