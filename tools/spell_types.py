@@ -3,13 +3,25 @@
 
 usage: spell_types.py [CRATES]
 
-The names are those of the `record`s and `data` of specs/ and proofs/ that have a dash; a word of a file that is such a name is turned, in
-.antt and .rt files and in must-fail edits. It says where a new name stood before. Running it again changes nothing.
+The names are those of the `record`s and `data` of specs/ and proofs/ that had a dash; a word of a file that is such a name is turned, in
+.antt and .rt files and in must-fail edits. Running it again changes nothing.
 """
 
 import os
 import re
 import sys
+
+NAMES = """
+Admits-code All-known All-named All-standing All-there Answers-all Answers-text As-items As-read As-script As-was Asked-of At-door Both-laid
+Byte-placed Call-goes-on Checks-rows Could-stand Cut-at Cut-off Earlier-kept First-past First-without Follows-all Has-child Has-place Has-places
+Hearing-all Holds-number In-reading In-room Input-holds Input-sized Known-kind Left-at Left-out Lengths-checked Let-in Line-ends List-checked
+List-fits Lists-done Long-string Looked-up Makes-list Message-given Moves-link Moves-list Moves-lists Moves-number Moves-row Name-told Named-in
+Names-place Names-right Numbers-so Of-kind Offset-given On-new-line One-tree One-word Other-byte Output-given Packable-all Packed-all Packed-upto
+Packs-all Packs-rows Parent-of Part-of Part-told Placed-at Profile-checked Put-within Ranges-right Reaching-not Read-as Reads-text Reads-well
+Reason-given Refused-at Right-cuts Right-list Right-names Room-for Row-carried Row-like Row-utters Same-first Same-lengths Same-outcome Same-token
+Same-tree So-far Span-moved Stands-row Stretch-ends Sum-goes-on Tells-expected Text-reads Token-record Tokens-filled Too-deep Tree-kept Turned-at
+Turned-away Up-to Well-formed With-ends With-semicolon Within-limits Writes-reason
+""".split()
 
 WORD = re.compile(r"(?<![\w'-])[A-Z][\w']*(?:-[\w']+)+(?![\w'-])")
 
@@ -26,18 +38,12 @@ def main(argv):
         dirs[:] = sorted(d for d in dirs if d != "out")
         paths += [os.path.join(folder, n) for n in sorted(names) if n.endswith((".antt", ".rt", ".edit"))]
     turn = {}
-    for path in paths:
-        if path.endswith(".antt"):
-            for m in re.finditer(r"(?m)^\s*(?:(?:abbrev|pub|unfoldable) )*(?:record|data) (\S+)", read(path)):
-                if "-" in m.group(1):
-                    first, *rest = m.group(1).split("-")
-                    turn[m.group(1)] = first + "".join(p[:1].upper() + p[1:] for p in rest)
+    for name in NAMES:
+        first, *rest = name.split("-")
+        turn[name] = first + "".join(p[:1].upper() + p[1:] for p in rest)
     changed = 0
     for path in paths:
         text = read(path)
-        for old, new in turn.items():
-            if re.search(r"(?<![\w'-])" + new + r"(?![\w'-])", text):
-                print(f"{path}: {new} stood there before {old} was turned")
         new = WORD.sub(lambda m: turn.get(m.group(0), m.group(0)), text)
         if new != text:
             changed += 1
