@@ -1,5 +1,4 @@
 -- `child` meets its contract: the place says which of the children it is.
-use borrow.Author.Rules.{rules}
 use native.Mathlib.Omega.{arith}
 use Rattle.children.proofs.Laws.{at_first, at_one, at_two, at_later, at_past}
 use Rattle.children.proofs.child.Goals as goal

@@ -14,4 +14,4 @@ unfolding many_of
 returns-in-1 c = (rw c.in-1.is refl, search rules)
 
 pub returns-in_default : goal.returns-in_default
-returns-in_default c = let b = c.args.b in (sym (many_two b.each b.count c.in_default.rest.0.1 c.in_default.rest.1), search rules)
+returns-in_default c = let b = c.args.b in (sym (many_two b.each b.count c.in_default.in_default-own.rest.0.1 c.in_default.in_default-own.rest.1), search rules)
