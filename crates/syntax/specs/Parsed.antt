@@ -16,7 +16,7 @@ use Rattle.grammar.specs.Rows.{Rows, unparented}
 use Rattle.grammar.specs.Space.{Named}
 use Rattle.grammar.specs.Token.{kind, count, start, end}
 use Rattle.names.specs.Resolved.{names_of}
-use Rattle.reading.specs.Clauses.{Slices}
+use Rattle.reading.specs.Clauses.{Slices, Lent}
 use Rattle.reading.specs.Reading.{refusal, Refusing}
 use Rattle.reading.specs.State.{State, state, written, Standing, Rooms as Same-rooms}
 use Rattle.reading.specs.declared.Cursor.{Cursor}
@@ -74,7 +74,7 @@ CompleteCase p ts terms s ns ls ss (Read.Refused q) = Refusing ts terms (form p)
 pub record Completes (p : Profile) (ts : List ℕ) (terms : Terms) (s : State) (ns ls ss : List ℕ) (r : Read) : Type 0 where
   pub says : CompleteCase p ts terms s ns ls ss r
 
-abbrev pub completes : Profile → (tokens nodes links scratch : Slices) (terms : Terms) → Read → Type 0
+abbrev pub completes : Profile → (tokens : Slices) (nodes links scratch : Lent) (terms : Terms) → Read → Type 0
 completes p ts ns ls ss terms r = Completes p ts.entry.now terms (state ns.entry.now ls.entry.now ss.entry.now begin) ns.exit.now ls.exit.now ss.exit.now r
 
 -- the rows that a cursor counts, and the symbol rows, where so many are known
