@@ -1,5 +1,4 @@
 -- `find` meets its contract: a search in the names' index answers the grammar's.
-use borrow.Author.Rules.{rules}
 use Rattle.builtins.proofs.Naming.{known_sought}
 use Rattle.builtins.proofs.find.Goals as goal
 

@@ -1,14 +1,9 @@
 -- `right` meets its contract: the loop keeps that every name passed is right, and that the index is theirs. The measure is how many are left.
 use Prim.Native.Nat.{◌-◌, ◌≤◌}
-use borrow.Author.Rules.{rules}
-use borrow.Author.Tests.{not-true, not-false}
-use native.Mathlib.Omega.{arith}
-use mathlib.Core.Path.{◌≡◌, refl}
+use mathlib.Core.Path.{◌≡◌}
 use lib.ListN.{length}
 use Rattle.grammar.specs.Builtin.{builtins}
-use Rattle.spelling.proofs.Spellings.{whole}
 use Rattle.builtins.specs.Known.{Named}
-use Rattle.builtins.proofs.Naming.{none_named, all_named, not_right}
 use Rattle.builtins.proofs.right.Given as goal
 
 abbrev pub invariant-loop-i : goal.invariant-loop-i
