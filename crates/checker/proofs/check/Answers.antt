@@ -22,10 +22,6 @@ Else4 = lts.Else4 tie.the-claims reads.Pre reads.Post
 abbrev Start : Type 0
 Start = lts.Start tie.the-claims reads.Pre reads.Post
 
--- the start; where all counts are lent; and where the edition is named and the table made
-abbrev Start : Type 0
-Start = Start
-
 abbrev AllLent : Type 0
 AllLent = Else4
 
@@ -69,4 +65,4 @@ pub judge-v-requires : goal.judge-v-requires
 judge-v-requires c = let p = c.before.before.before in judgeable _ _ _ _ _ _ _ _ (lent (to_lent p)) p.slots-table.ensures (omega arith) (omega arith)
 
 pub returns : goal.returns
-returns c = let p = c.before.before.before.before.before.before.before.before.before.before in judged _ _ _ _ _ _ _ _ (lent (to_lent p)) (named p) p.slots-table.ensures c.judge-v.ensures c.judge-v.auto.1.1.1.1.1.0 c.clear.ensures
+returns c = let p = c.before.before.before.before.before.before.before.before.before.before in judged _ _ _ _ _ _ _ _ (lent (to_lent p)) (named p) p.slots-table.ensures c.judge-v.ensures c.judge-v.auto.scratch c.clear.ensures

@@ -19,10 +19,6 @@ AfterKnown = lts.After-known tie.the-claims reads.Pre reads.Post
 abbrev Start : Type 0
 Start = lts.Start tie.the-claims reads.Pre reads.Post
 
--- the start, and where the passes of rules 1, 2 and 3 are done
-abbrev Start : Type 0
-Start = Start
-
 abbrev Known : Type 0
 Known = AfterKnown
 

@@ -16,10 +16,6 @@ AfterFirst2 = lts.After-first2 tie.the-claims reads.Pre reads.Post
 abbrev Start : Type 0
 Start = lts.Start tie.the-claims reads.Pre reads.Post
 
--- the start, and where the pass of rule 7 is done, and that of rule 8
-abbrev Start : Type 0
-Start = Start
-
 abbrev Seventh : Type 0
 Seventh = AfterFirst
 

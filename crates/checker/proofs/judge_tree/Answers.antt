@@ -22,10 +22,6 @@ AfterRooted = lts.After-rooted tie.the-claims reads.Pre reads.Post
 abbrev Start : Type 0
 Start = lts.Start tie.the-claims reads.Pre reads.Post
 
--- the start; where it is known which rows are named once; where the last row is looked at; and where the lists are
-abbrev Start : Type 0
-Start = Start
-
 abbrev Marked : Type 0
 Marked = AfterOnce
 
@@ -59,7 +55,7 @@ returns-then-not-rooted c =
     let q = c.before.before.before in
     let p = to_marked q in
     let (j, k) = (to_start p).requires in
-    rw (c.broken-then-not-rooted.ensures, end p) (judged_rooted j k p.name.ensures (passes_all p.once-unnamed.ensures (λ h. omega (arith, end p))) (sym q.rooted.ensures ∙ not-true _ c.if-not-rooted.true))
+    rw (c.broken-then-not-rooted.ensures, end p) (judged_rooted j k p.name.ensures (passes_all p.once-unnamed.ensures (λ h. omega (arith, end p))) (sym q.rooted.ensures ∙ c.if-not-rooted.true))
 
 pub follow-followed-requires : goal.follow-followed-requires
 follow-followed-requires c = let (j, k) = (to_start (to_marked c.before.before)).requires in all_standing j k.kinds
@@ -70,7 +66,7 @@ returns-then-followed-count c =
     let q = to_rooted f in
     let p = to_marked q in
     let (j, k) = (to_start p).requires in
-    rw c.broken-then-followed-count.ensures (judged_follows j k p.name.ensures (passes_all p.once-unnamed.ensures (λ h. omega (arith, end p))) (sym q.rooted.ensures ∙ not-false _ f.if-not-rooted.false) f.follow-followed.ensures c.if-followed-count.true)
+    rw c.broken-then-followed-count.ensures (judged_follows j k p.name.ensures (passes_all p.once-unnamed.ensures (λ h. omega (arith, end p))) (sym q.rooted.ensures ∙ f.if-not-rooted.false) f.follow-followed.ensures c.if-followed-count.true)
 
 pub returns-then-followed-links : goal.returns-then-followed-links
 returns-then-followed-links c =
@@ -78,7 +74,7 @@ returns-then-followed-links c =
     let q = to_rooted f in
     let p = to_marked q in
     let (j, k) = (to_start p).requires in
-    rw (c.broken-then-followed-links.ensures, end p) (judged_left_over j k p.name.ensures (passes_all p.once-unnamed.ensures (λ h. omega (arith, end p))) (sym q.rooted.ensures ∙ not-false _ f.if-not-rooted.false) f.follow-followed.ensures (λ h. omega arith) c.if-followed-links.true)
+    rw (c.broken-then-followed-links.ensures, end p) (judged_left_over j k p.name.ensures (passes_all p.once-unnamed.ensures (λ h. omega (arith, end p))) (sym q.rooted.ensures ∙ f.if-not-rooted.false) f.follow-followed.ensures (λ h. omega arith) c.if-followed-links.true)
 
 pub judge_items-requires : goal.judge_items-requires
 judge_items-requires c =
@@ -86,4 +82,4 @@ judge_items-requires c =
     let q = to_rooted f in
     let p = to_marked q in
     let (j, k) = (to_start p).requires in
-    (judgeable_in j (omega (arith, j.room)), tree_kept j k p.name.ensures (passes_all p.once-unnamed.ensures (λ h. omega (arith, end p))) (sym q.rooted.ensures ∙ not-false _ f.if-not-rooted.false) f.follow-followed.ensures (λ h. omega arith) (omega arith) c.parents-orphan.ensures)
+    (judgeable_in j (omega (arith, j.room)), tree_kept j k p.name.ensures (passes_all p.once-unnamed.ensures (λ h. omega (arith, end p))) (sym q.rooted.ensures ∙ f.if-not-rooted.false) f.follow-followed.ensures (λ h. omega arith) (omega arith) c.parents-orphan.ensures)

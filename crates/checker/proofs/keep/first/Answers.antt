@@ -46,20 +46,20 @@ pub returns-then-not-row : goal.returns-then-not-row
 returns-then-not-row c =
     let r = c.before.before.before.before in
     let k = r.before.before in
-    found (omega arith) (to_loop k).loop-i.invariant.0 (answers _ _ k.cut_row.ensures r.row.ensures (not-true _ c.if-not-row.true))
+    found (omega arith) (to_loop k).loop-i.invariant.0 (answers _ _ k.cut_row.ensures r.row.ensures (c.if-not-row.true))
 
 pub overflow_add-i : goal.overflow_add-i
-overflow_add-i c = let k = c.before.before.before.before.before.before in omega (arith, k.loop-i-test.true, (to_start (to_loop k)).fits.count)
+overflow_add-i c = let k = c.before.before.before.before.before.before in omega (arith, k.loop-i-test.true, (to_start (to_loop k)).ranges.count.fits)
 
 pub loop-i-preserved : goal.loop-i-preserved
 loop-i-preserved c =
     let r = c.before.before.before.before in
     let k = r.before.before in
     let l = to_loop k in (
-      held_more l.loop-i.invariant.0 (answers _ _ k.cut_row.ensures r.row.ensures (not-false _ c.if-not-row.false)),
-      marked_later (r.row.ensures.marked (not-false _ c.if-not-row.false)),
+      held_more l.loop-i.invariant.0 (answers _ _ k.cut_row.ensures r.row.ensures (c.if-not-row.false)),
+      marked_later (r.row.ensures.marked (c.if-not-row.false)),
       omega (arith, k.loop-i-test.true),
-      r.row.auto.1.1.1.1.0 ∙ l.loop-i.invariant.3,
+      r.row.auto.marks ∙ l.loop-i.invariant.3,
     )
 
 pub returns : goal.returns

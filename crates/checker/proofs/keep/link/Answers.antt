@@ -9,10 +9,10 @@ pub returns-then-code-eq-NAMES : goal.returns-then-code-eq-NAMES
 returns-then-code-eq-NAMES c = c.below.ensures ∙ sym (rw (eq-eqb _ _ c.if-code-eq-NAMES.true) (and_true _))
 
 pub returns-then-not-child : goal.returns-then-not-child
-returns-then-not-child c = rw (ne_eqb _ _ c.if-code-eq-NAMES.false, sym c.child.ensures ∙ not-true _ c.if-not-child.true) refl
+returns-then-not-child c = rw (ne_eqb _ _ c.if-code-eq-NAMES.false, sym c.child.ensures ∙ c.if-not-child.true) refl
 
 pub returns-then-not-second : goal.returns-then-not-second
-returns-then-not-second c = rw (ne_eqb _ _ c.if-code-eq-NAMES.false, sym c.child.ensures ∙ not-false _ c.if-not-child.false, sym c.second.ensures ∙ not-true _ c.if-not-second.true) refl
+returns-then-not-second c = rw (ne_eqb _ _ c.if-code-eq-NAMES.false, sym c.child.ensures ∙ c.if-not-child.false, sym c.second.ensures ∙ c.if-not-second.true) refl
 
 pub returns : goal.returns
-returns c = c.unused.ensures ∙ sym (rw (ne_eqb _ _ c.if-code-eq-NAMES.false, sym c.child.ensures ∙ not-false _ c.if-not-child.false, sym c.second.ensures ∙ not-false _ c.if-not-second.false) (and_true _))
+returns c = c.unused.ensures ∙ sym (rw (ne_eqb _ _ c.if-code-eq-NAMES.false, sym c.child.ensures ∙ c.if-not-child.false, sym c.second.ensures ∙ c.if-not-second.false) (and_true _))

@@ -28,14 +28,14 @@ abbrev to_skip : AtLoop → AfterSkip
 to_skip c = c.before.before.before
 
 pub loop-at-init : goal.loop-at-init
-loop-at-init c = let s = c in (walk_begun s.requires refl s.skip-at.auto.0 s.skip-at.ensures, omega arith)
+loop-at-init c = let s = c in (walk_begun s.requires refl s.skip-at.auto.marks s.skip-at.ensures, omega arith)
 
 pub shape_of-marks-then-not-link : goal.shape_of-marks-then-not-link
-shape_of-marks-then-not-link c = let l = to_loop c.before.before in l.loop-at.invariant.0.size ∙ (to_skip l).skip-at.new.marks
+shape_of-marks-then-not-link c = let l = to_loop c.before.before in l.loop-at.invariant.0.size ∙ (to_skip l).skip-at.auto.marks
 
 pub returns-then-not-link : goal.returns-then-not-link
 unfolding link_keeps
-returns-then-not-link c = walk_broken (to_loop c.before.before).loop-at.invariant.0 (omega arith) (not-true _ c.if-not-link.true) c.link.ensures
+returns-then-not-link c = walk_broken (to_loop c.before.before).loop-at.invariant.0 (omega arith) (c.if-not-link.true) c.link.ensures
 
 pub loop-at-preserved : goal.loop-at-preserved
 unfolding link_keeps
@@ -44,10 +44,10 @@ loop-at-preserved c =
     let m = s.before.before.before.before in
     let d = m.before.before in
     let l = to_loop d.before in
-    (walk_on l.loop-at.invariant.0 (omega arith) l.loop-at.invariant.1 (not-false _ d.if-not-link.false) d.link.ensures m.settle.ensures (s.skip-at-in-loop-at.auto.0 ∙ m.settle.auto.0) s.skip-at-in-loop-at.ensures, omega arith)
+    (walk_on l.loop-at.invariant.0 (omega arith) l.loop-at.invariant.1 (d.if-not-link.false) d.link.ensures m.settle.ensures (s.skip-at-in-loop-at.auto.marks ∙ m.settle.auto.marks) s.skip-at-in-loop-at.ensures, omega arith)
 
 pub shape_of-marks : goal.shape_of-marks
-shape_of-marks c = c.loop-at.invariant.0.size ∙ (to_skip c.before.before).skip-at.new.marks
+shape_of-marks c = c.loop-at.invariant.0.size ∙ (to_skip c.before.before).skip-at.auto.marks
 
 pub returns : goal.returns
 returns c = let s = to_skip c.before.before in walk_ended s.requires refl (omega arith) s.skip-at.ensures c.loop-at.invariant.0

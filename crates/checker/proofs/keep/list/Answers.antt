@@ -29,21 +29,21 @@ pub returns-then-from-count : goal.returns-then-from-count
 returns-then-from-count c = past_list _ _ _ _ _ _ (omega arith) (omega arith) (omega arith)
 
 pub returns-then-not-concerned : goal.returns-then-not-concerned
-returns-then-not-concerned c = unasked_list _ _ _ _ _ _ (omega arith) (omega arith) (omega arith) (sym c.concerned.ensures ∙ not-true _ c.if-not-concerned.true) c.requires.2
+returns-then-not-concerned c = unasked_list _ _ _ _ _ _ (omega arith) (omega arith) (omega arith) (sym c.concerned.ensures ∙ c.if-not-concerned.true) c.requires.2
 
 pub returns-then-s-eq-ENTRIES : goal.returns-then-s-eq-ENTRIES
 returns-then-s-eq-ENTRIES c =
     let w = c.before.before.before in
     let k = w.before.before.before in
-    second_kept (to_start k).requires.2 _ w.if-s-eq-ENTRIES.true (omega arith) w.linked.auto.1.1.1.0 w.linked.ensures
+    second_kept (to_start k).requires.2 _ w.if-s-eq-ENTRIES.true (omega arith) w.linked.auto.marks w.linked.ensures
 
 pub linked-requires-2 : goal.linked-requires-2
 linked-requires-2 c =
     let k = c.before.before.before in
-    first_linkable (to_start k).requires.2 (to_start k).args.s (sym (to_concerned k).concerned.ensures ∙ not-false _ k.if-not-concerned.false) (omega arith) (omega arith) c.if-s-eq-ENTRIES.false (omega arith)
+    first_linkable (to_start k).requires.2 (to_start k).args.s (sym (to_concerned k).concerned.ensures ∙ k.if-not-concerned.false) (omega arith) (omega arith) c.if-s-eq-ENTRIES.false (omega arith)
 
 pub returns : goal.returns
 returns c =
     let w = c.before.before.before in
     let k = w.before.before.before in
-    first_kept (to_start k).requires.2 _ (sym (to_concerned k).concerned.ensures ∙ not-false _ k.if-not-concerned.false) (omega arith) (omega arith) w.if-s-eq-ENTRIES.false (omega arith) w.linked-2.auto.1.1.1.0 w.linked-2.ensures
+    first_kept (to_start k).requires.2 _ (sym (to_concerned k).concerned.ensures ∙ k.if-not-concerned.false) (omega arith) (omega arith) w.if-s-eq-ENTRIES.false (omega arith) w.linked-2.auto.marks w.linked-2.ensures

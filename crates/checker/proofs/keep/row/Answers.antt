@@ -29,20 +29,20 @@ to_two c = c.before.before.before
 
 pub returns-then-not-slot : goal.returns-then-not-slot
 unfolding held_in
-returns-then-not-slot c = broken_off c.slot.ensures _ (not-true _ c.if-not-slot.true)
+returns-then-not-slot c = broken_off c.slot.ensures _ (c.if-not-slot.true)
 
 pub slot-requires-2 : goal.slot-requires-2
-slot-requires-2 c = let o = c in o.slot.ensures.marked (not-false _ o.if-not-slot.false)
+slot-requires-2 c = let o = c in o.slot.ensures.marked (o.if-not-slot.false)
 
 pub returns-then-not-slot-2 : goal.returns-then-not-slot-2
 unfolding held_in
 returns-then-not-slot-2 c =
     let d = c.before.before.before.before in
     let o = to_one d in
-    kept_then o.slot.ensures (not-false _ o.if-not-slot.false) (broken_off d.slot-2.ensures _ (not-true _ c.if-not-slot-2.true))
+    kept_then o.slot.ensures (o.if-not-slot.false) (broken_off d.slot-2.ensures _ (c.if-not-slot-2.true))
 
 pub slot-requires-3 : goal.slot-requires-3
-slot-requires-3 c = let t = c in t.slot-2.ensures.marked (not-false _ t.if-not-slot-2.false)
+slot-requires-3 c = let t = c in t.slot-2.ensures.marked (t.if-not-slot-2.false)
 
 pub returns-then-not-slot-3 : goal.returns-then-not-slot-3
 unfolding held_in
@@ -50,7 +50,7 @@ returns-then-not-slot-3 c =
     let d = c.before.before.before.before in
     let t = to_two d in
     let o = to_one t.before.before.before in
-    kept_then o.slot.ensures (not-false _ o.if-not-slot.false) (kept_then t.slot-2.ensures (not-false _ t.if-not-slot-2.false) (broken_off d.slot-3.ensures _ (not-true _ c.if-not-slot-3.true)))
+    kept_then o.slot.ensures (o.if-not-slot.false) (kept_then t.slot-2.ensures (t.if-not-slot-2.false) (broken_off d.slot-3.ensures _ (c.if-not-slot-3.true)))
 
 pub returns : goal.returns
 unfolding held_in
@@ -59,5 +59,5 @@ returns c =
     let e = d.before.before.before in
     let t = to_two e in
     let o = to_one t.before.before.before in
-    kept_then o.slot.ensures (not-false _ o.if-not-slot.false) (kept_then t.slot-2.ensures (not-false _ t.if-not-slot-2.false)
-    (kept_then e.slot-3.ensures (not-false _ d.if-not-slot-3.false) (spared_kept _ _ _ _ _ _ c.spare.ensures (e.slot-3.ensures.marked (not-false _ d.if-not-slot-3.false)))))
+    kept_then o.slot.ensures (o.if-not-slot.false) (kept_then t.slot-2.ensures (t.if-not-slot-2.false)
+    (kept_then e.slot-3.ensures (d.if-not-slot-3.false) (spared_kept _ _ _ _ _ _ c.spare.ensures (e.slot-3.ensures.marked (d.if-not-slot-3.false)))))

@@ -14,10 +14,10 @@ pub loop-at-init : goal.loop-at-init
 loop-at-init c = (record { rest = refl }, omega arith)
 
 pub returns-then-not-unused : goal.returns-then-not-unused
-returns-then-not-unused c = spare_broken c.loop-at.invariant.0 (omega arith) (not-true _ c.if-not-unused.true) c.unused.ensures
+returns-then-not-unused c = spare_broken c.loop-at.invariant.0 (omega arith) (c.if-not-unused.true) c.unused.ensures
 
 pub loop-at-preserved : goal.loop-at-preserved
-loop-at-preserved c = (spare_more c.loop-at.invariant.0 (omega arith) (not-false _ c.if-not-unused.false) c.unused.ensures, omega arith)
+loop-at-preserved c = (spare_more c.loop-at.invariant.0 (omega arith) (c.if-not-unused.false) c.unused.ensures, omega arith)
 
 pub returns : goal.returns
 returns c = spare_ended c.loop-at.invariant.0 (omega arith)

@@ -26,8 +26,8 @@ Entered = AfterSliceKnown2
 walkable : (c : Placed) → (let a = c.args in Walkable a.rows a.row a.two a.links.now (a.rows + c.place.result) (a.from + a.count))
 walkable c = let p = c.requires in record { low = p.low; inside = p.inside; place = ap (λ k. c.args.rows + k) c.place.ensures }
 
-entered : (c : Entered) → (let a = c.args in let s = c.skip-at in Walks a.rows a.row a.two a.links.now (a.from + a.count) a.from a.marks-1.now s.result s.new.0)
-entered c = walks_over (walkable c.before.before.before.before) c.requires.ready c.skip-at.auto.0 c.skip-at.ensures
+entered : (c : Entered) → (let a = c.args in let s = c.skip-at in Walks a.rows a.row a.two a.links.now (a.from + a.count) a.from a.marks-1.now s.result s.new.marks)
+entered c = walks_over (walkable c.before.before.before.before) c.requires.ready c.skip-at.auto.marks c.skip-at.ensures
 
 pub overflow_add-base : goal.overflow_add-base
 overflow_add-base c = omega (arith, marks_inside (walkable c.before) c.requires.ready)
@@ -44,8 +44,8 @@ loop-at-preserved c =
     let m = n.before.before.before.before in
     let k = m in
     let (w, p, q) = k.loop-at.invariant in
-    let x = walks_link w k.loop-at-test.true p.ready refl k.other-y.ensures k.mark.ensures m.mark-in-loop-at.ensures n.note.ensures (n.note.auto.0 ∙ m.mark-in-loop-at.auto.0 ∙ k.mark.auto.0) in
-    let y = walks_over w x.ready c.skip-at-in-loop-at.auto.0 c.skip-at-in-loop-at.ensures in
+    let x = walks_link w k.loop-at-test.true p.ready refl k.other-y.ensures k.mark.ensures m.mark-in-loop-at.ensures n.note.ensures (n.note.auto.marks ∙ m.mark-in-loop-at.auto.marks ∙ k.mark.auto.marks) in
+    let y = walks_over w x.ready c.skip-at-in-loop-at.auto.marks c.skip-at-in-loop-at.ensures in
     (w, walks_both p (walks_both x y), marks_inside w y.ready)
 
 pub returns : goal.returns
