@@ -9,6 +9,7 @@ use Rattle.foreign.specs.Check.{Lends}
 use Rattle.checker.specs.Verdict.{given, rooms}
 use Rattle.checker.proofs.Answering.{past_nodes, past_links, past_symbols, past_scratch, no_edition, judgeable, judged}
 use Rattle.checker.proofs.check.Goals as goal
+use Rattle.checker.proofs.check.Goals.{then-edition-ne-FIRST+else-edition-ne-SECOND, else-edition-ne-FIRST}
 use Rattle.checker.proofs.check.Lts as lts
 use Rattle.checker.proofs.check.Tie as tie
 use Rattle.checker.proofs.check.Reads as reads
@@ -34,11 +35,11 @@ to_start c = c.before.before.before.before.before.before.before.before
 abbrev to_lent : Made → AllLent
 to_lent c = c.before.before
 
-lent : (c : AllLent) → (let a = (to_start c).args in Lends (given a.edition a.n a.m a.s (rooms a.nodes.now a.links.now a.symbols.now a.scratch-1.now)))
+lent : (c : AllLent) → (let a = (to_start c).args in Lends (given a.edition a.n a.m a.s (rooms a.nodes.now a.links.now a.symbols.now a.scratch.now)))
 lent c = record { nodes = omega arith; links = omega arith; symbols = omega arith; scratch = omega arith }
 
 named : (c : Made) → RightEdition (to_start (to_lent c)).args.edition
-named c = ⊎_elim (λ w. inr (omega arith)) (λ w. inl (omega arith)) c.if-edition-ne-FIRST.branch
+named c = elim c.if-edition-ne-FIRST.branch [ then-edition-ne-FIRST+else-edition-ne-SECOND w ↦ inr (omega arith) | else-edition-ne-FIRST w ↦ inl (omega arith) ]
 
 pub returns-then-nodes-high : goal.returns-then-nodes-high
 returns-then-nodes-high c = rw c.plain.ensures (past_nodes _ _ _ _ _ _ _ _ c.if-nodes-high.true)

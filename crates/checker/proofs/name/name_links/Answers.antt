@@ -26,7 +26,7 @@ Entered = AfterSliceKnown2
 walkable : (c : Placed) → (let a = c.args in Walkable a.rows a.row a.two a.links.now (a.rows + c.place.result) (a.from + a.count))
 walkable c = let p = c.requires in record { low = p.low; inside = p.inside; place = ap (λ k. c.args.rows + k) c.place.ensures }
 
-entered : (c : Entered) → (let a = c.args in let s = c.skip-at in Walks a.rows a.row a.two a.links.now (a.from + a.count) a.from a.marks-1.now s.result s.new.marks)
+entered : (c : Entered) → (let a = c.args in let s = c.skip-at in Walks a.rows a.row a.two a.links.now (a.from + a.count) a.from a.marks.now s.result s.new.marks)
 entered c = walks_over (walkable c.before.before.before.before) c.requires.ready c.skip-at.auto.marks c.skip-at.ensures
 
 pub overflow_add-base : goal.overflow_add-base
