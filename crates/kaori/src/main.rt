@@ -1,6 +1,7 @@
 #![tactic(auto)]
 // The command `kaori`, for those who write scripts: what a script reads as, what is wrong with it, what stands at a place of it, what the editions group differently, and what a guard reads as. And for
 // those who write rows: whether they are those of a tree.
+mod arguments;
 mod builtin;
 mod checked;
 mod compare;
@@ -18,10 +19,13 @@ use checked::check_rows;
 use compare::compare;
 use digits::decimal;
 use guard::guard;
-use libc::STDOUT_FILENO;
 use load::{complain, fail, load};
 use script::{Wish, script};
+use std_io::io::last_error;
 use token::editions;
+
+// The descriptor of standard output.
+const STDOUT_FILENO: i32 = 1;
 
 // The text of `help`. It is one string, since each one is checked by itself.
 const HELP: [u8; 1859] = *b"\
@@ -113,9 +117,9 @@ fn cell_of(word: &[u8; 11]) -> usize {
 }
 
 // The number of the word that argument i is.
-fn word_at(i: usize) -> usize {
+fn word_at(rt: &HostRuntime, i: usize) -> usize {
     let mut room = [b' '; 11];
-    let n = os::arg(i, &mut room);
+    let n = arguments::read(rt, i, &mut room).unwrap_or(0);
     if n == 0 {
         return NO_WORD;
     }
@@ -132,7 +136,7 @@ fn write_text(text: &[u8]) -> u32
     if io::write_all(STDOUT_FILENO, text) {
         return GOOD;
     }
-    fail(b"standard output");
+    fail(b"standard output", last_error());
     STOPPED
 }
 
@@ -176,19 +180,28 @@ fn written(status: u32) -> u32
     if status == UNDONE {
         return UNDONE;
     }
-    if os::errno() != 0 {
-        fail(b"standard output");
+    let error = last_error();
+    if error.raw_os_error() != Some(0) {
+        fail(b"standard output", error);
         return STOPPED;
     }
     status
 }
 
 // The script in a file.
-fn file(names: &[u8], rows: &[u32], wish: Wish, path: &[u8], out: &mut [u8; 4096]) -> u32
+fn file(
+    rt: &HostRuntime,
+    names: &[u8],
+    rows: &[u32],
+    wish: Wish,
+    path: &[u8],
+    out: &mut [u8; 4096],
+) -> u32
     ensures { result ≤ 3 }
 {
     let mut text = io::large_buffer();
     let loaded = load(
+        rt,
         path,
         b": file too large: a script has at most 65,536 bytes",
         &mut text,
@@ -206,11 +219,12 @@ fn listing_room() -> [u8; 1048576] {
 }
 
 // The listing in a file.
-fn listing(wish: Wish, path: &[u8], out: &mut [u8; 4096]) -> u32
+fn listing(rt: &HostRuntime, wish: Wish, path: &[u8], out: &mut [u8; 4096]) -> u32
     ensures { result ≤ 3 }
 {
     let mut text = listing_room();
     let loaded = load(
+        rt,
         path,
         b": file too large: a listing has at most 1,048,576 bytes",
         &mut text,
@@ -223,16 +237,14 @@ fn listing(wish: Wish, path: &[u8], out: &mut [u8; 4096]) -> u32
 }
 
 // What is said of argument i, where it has no place.
-fn refuse(i: usize, why: &[u8]) -> u32
+fn refuse(rt: &HostRuntime, i: usize, why: &[u8]) -> u32
     ensures { result ≤ 3 }
 {
     let mut word = io::buffer();
-    let n = os::arg(i, &mut word);
-    if os::errno() != 0 {
-        fail(b"word");
-        return UNDONE;
+    match arguments::read(rt, i, &mut word) {
+        Ok(n) => complain(&word[..n], why),
+        Err(error) => fail(b"word", error),
     }
-    complain(&word[..n], why);
     UNDONE
 }
 
@@ -245,41 +257,53 @@ fn is_option(word: usize) -> bool {
 }
 
 // The guard that argument i is.
-fn guarded(names: &[u8], rows: &[u32], edition: u32, i: usize, out: &mut [u8; 4096]) -> u32
+fn guarded(
+    rt: &HostRuntime,
+    names: &[u8],
+    rows: &[u32],
+    edition: u32,
+    i: usize,
+    out: &mut [u8; 4096],
+) -> u32
     ensures { result ≤ 3 }
 {
     let mut text = io::large_buffer();
-    let n = os::arg(i, &mut text);
-    if os::errno() != 0 {
+    let Ok(n) = arguments::read(rt, i, &mut text) else {
         complain(
             b"guard",
             b": text too large: a guard has at most 65,536 bytes",
         );
         return UNDONE;
-    }
+    };
     written(guard(names, rows, edition, &text[..n], out))
 }
 
 // The file that an argument names, or the guard that it is.
-fn argument(names: &[u8], rows: &[u32], wish: Wish, i: usize, out: &mut [u8; 4096]) -> u32
+fn argument(
+    rt: &HostRuntime,
+    names: &[u8],
+    rows: &[u32],
+    wish: Wish,
+    i: usize,
+    out: &mut [u8; 4096],
+) -> u32
     ensures { result ≤ 3 }
 {
-    if is_option(word_at(i)) {
-        return refuse(i, b": options stand before the files; see kaori help");
+    if is_option(word_at(rt, i)) {
+        return refuse(rt, i, b": options stand before the files; see kaori help");
     }
     if wish.guard {
-        return guarded(names, rows, wish.edition, i, out);
+        return guarded(rt, names, rows, wish.edition, i, out);
     }
     let mut path = io::buffer();
-    let n = os::arg(i, &mut path);
-    if os::errno() != 0 {
-        fail(b"file name");
-        return UNDONE;
+    match arguments::read(rt, i, &mut path) {
+        Ok(n) if wish.listing => listing(rt, wish, &path[..n], out),
+        Ok(n) => file(rt, names, rows, wish, &path[..n], out),
+        Err(error) => {
+            fail(b"file name", error);
+            UNDONE
+        }
     }
-    if wish.listing {
-        return listing(wish, &path[..n], out);
-    }
-    file(names, rows, wish, &path[..n], out)
 }
 
 // The greater of two statuses.
@@ -306,7 +330,7 @@ fn unnamed(wish: Wish) -> u32
 }
 
 // The files, or guards, of the arguments from `first` up to `end`.
-fn files(names: &[u8], rows: &[u32], wish: Wish, first: usize, end: usize) -> u32
+fn files(rt: &HostRuntime, names: &[u8], rows: &[u32], wish: Wish, first: usize, end: usize) -> u32
     ensures { result ≤ 3 }
 {
     let mut out = io::buffer();
@@ -316,7 +340,7 @@ fn files(names: &[u8], rows: &[u32], wish: Wish, first: usize, end: usize) -> u3
     let mut status = GOOD;
     let mut i = first;
     while i < end {
-        status = worse(status, argument(names, rows, wish, i, &mut out));
+        status = worse(status, argument(rt, names, rows, wish, i, &mut out));
         if status == STOPPED {
             return STOPPED;
         }
@@ -326,22 +350,25 @@ fn files(names: &[u8], rows: &[u32], wish: Wish, first: usize, end: usize) -> u3
 }
 
 // The number from 1 on that argument i writes; 0, with a complaint, where it writes none.
-fn number(i: usize) -> u32 {
+fn number(rt: &HostRuntime, i: usize) -> u32 {
     let mut word = io::buffer();
-    let n = os::arg(i, &mut word);
-    if os::errno() != 0 {
-        fail(b"number");
-        return 0;
+    match arguments::read(rt, i, &mut word) {
+        Ok(n) => {
+            let value = decimal(&word[..n]);
+            if value == 0 {
+                complain(&word[..n], b": not a number from 1 to 999,999,999");
+            }
+            value
+        }
+        Err(error) => {
+            fail(b"number", error);
+            0
+        }
     }
-    let value = decimal(&word[..n]);
-    if value == 0 {
-        complain(&word[..n], b": not a number from 1 to 999,999,999");
-    }
-    value
 }
 
 // What stands at the place that three arguments name: a file, a line and a column.
-fn place(names: &[u8], rows: &[u32], wish: Wish, first: usize, end: usize) -> u32
+fn place(rt: &HostRuntime, names: &[u8], rows: &[u32], wish: Wish, first: usize, end: usize) -> u32
     requires { first ≤ end }
     ensures { result ≤ 3 }
 {
@@ -351,15 +378,15 @@ fn place(names: &[u8], rows: &[u32], wish: Wish, first: usize, end: usize) -> u3
         return UNDONE;
     }
     let mut there = wish;
-    there.line = number(first + 1);
+    there.line = number(rt, first + 1);
     if there.line == 0 {
         return UNDONE;
     }
-    there.column = number(first + 2);
+    there.column = number(rt, first + 2);
     if there.column == 0 {
         return UNDONE;
     }
-    argument(names, rows, there, first, &mut out)
+    argument(rt, names, rows, there, first, &mut out)
 }
 
 // The options: the edition, 0 where one is wrong; whether what is shown is for programs, and whether warnings count; the argument that names the file of built-in names, or
@@ -404,30 +431,37 @@ fn wish_of(word: usize, choice: Choice, many: usize) -> Wish {
 }
 
 // What a command asks for, and the files that follow it.
-fn command(names: &[u8], rows: &[u32], word: usize, choice: Choice, end: usize) -> u32
+fn command(
+    rt: &HostRuntime,
+    names: &[u8],
+    rows: &[u32],
+    word: usize,
+    choice: Choice,
+    end: usize,
+) -> u32
     requires { choice.next ≤ end }
     ensures { result ≤ 3 }
 {
     let wish = wish_of(word, choice, end - choice.next);
     if word == AT {
-        return place(names, rows, wish, choice.next, end);
+        return place(rt, names, rows, wish, choice.next, end);
     }
-    files(names, rows, wish, choice.next, end)
+    files(rt, names, rows, wish, choice.next, end)
 }
 
 // Whether argument i is this word.
-fn is_word(i: usize, word: &[u8]) -> bool {
+fn is_word(rt: &HostRuntime, i: usize, word: &[u8]) -> bool {
     let mut room = [0u8; 16];
-    let n = os::arg(i, &mut room);
+    let n = arguments::read(rt, i, &mut room).unwrap_or(0);
     same(&room[..n], word)
 }
 
 // The edition that argument i names; 0, with a complaint, where it names none.
-fn edition_at(i: usize) -> u32 {
-    if is_word(i, b"1") {
+fn edition_at(rt: &HostRuntime, i: usize) -> u32 {
+    if is_word(rt, i, b"1") {
         return editions::FIRST;
     }
-    if is_word(i, b"2") {
+    if is_word(rt, i, b"2") {
         return editions::SECOND;
     }
     complain(b"--edition", b" takes 1 or 2; see kaori help");
@@ -435,7 +469,7 @@ fn edition_at(i: usize) -> u32 {
 }
 
 // The options after one that takes a value, which argument `next` is.
-fn valued(choice: Choice, word: usize, end: usize) -> Choice
+fn valued(rt: &HostRuntime, choice: Choice, word: usize, end: usize) -> Choice
     requires { choice.next ≤ end }
     ensures { (choice.next ≤ result.next) × (result.next ≤ end) }
 {
@@ -456,13 +490,13 @@ fn valued(choice: Choice, word: usize, end: usize) -> Choice
         after.edition = 0;
         return after;
     }
-    after.edition = edition_at(value);
+    after.edition = edition_at(rt, value);
     after.next = value + 1;
     after
 }
 
 // The options after the one that argument `next` is.
-fn option(choice: Choice, word: usize, end: usize) -> Choice
+fn option(rt: &HostRuntime, choice: Choice, word: usize, end: usize) -> Choice
     requires { choice.next < end }
     ensures { (choice.next < result.next) × (result.next ≤ end) }
 {
@@ -476,21 +510,21 @@ fn option(choice: Choice, word: usize, end: usize) -> Choice
         after.strict = true;
         return after;
     }
-    valued(after, word, end)
+    valued(rt, after, word, end)
 }
 
 // The options that stand from argument `next` on, up to `end` or to any other word.
-fn options(choice: Choice, end: usize) -> Choice
+fn options(rt: &HostRuntime, choice: Choice, end: usize) -> Choice
     requires { choice.next ≤ end }
     ensures { (choice.next ≤ result.next) × (result.next ≤ end) }
 {
     let mut now = choice;
     while now.next < end {
-        let word = word_at(now.next);
+        let word = word_at(rt, now.next);
         if !is_option(word) {
             return now;
         }
-        now = option(now, word, end);
+        now = option(rt, now, word, end);
         if now.edition == 0 {
             return now;
         }
@@ -499,7 +533,14 @@ fn options(choice: Choice, end: usize) -> Choice
 }
 
 // The command beside the names that a file's text lists.
-fn run_named(path: &[u8], text: &[u8], word: usize, choice: Choice, end: usize) -> u32
+fn run_named(
+    rt: &HostRuntime,
+    path: &[u8],
+    text: &[u8],
+    word: usize,
+    choice: Choice,
+    end: usize,
+) -> u32
     requires { (length text.now ≤ 65536) × (choice.next ≤ end) }
     ensures { result ≤ 3 }
 {
@@ -508,22 +549,25 @@ fn run_named(path: &[u8], text: &[u8], word: usize, choice: Choice, end: usize) 
     if count > MOST {
         return UNDONE;
     }
-    command(text, &rows[..NAME_WIDTH * count], word, choice, end)
+    command(rt, text, &rows[..NAME_WIDTH * count], word, choice, end)
 }
 
 // The command beside the names of a file that an argument names.
-fn run_beside(word: usize, choice: Choice, end: usize) -> u32
+fn run_beside(rt: &HostRuntime, word: usize, choice: Choice, end: usize) -> u32
     requires { choice.next ≤ end }
     ensures { result ≤ 3 }
 {
     let mut path = io::buffer();
-    let n = os::arg(choice.names, &mut path);
-    if os::errno() != 0 {
-        fail(b"file name");
-        return UNDONE;
-    }
+    let n = match arguments::read(rt, choice.names, &mut path) {
+        Ok(n) => n,
+        Err(error) => {
+            fail(b"file name", error);
+            return UNDONE;
+        }
+    };
     let mut text = io::large_buffer();
     let loaded = load(
+        rt,
         &path[..n],
         b": file too large: built-in names have at most 65,536 bytes",
         &mut text,
@@ -532,7 +576,7 @@ fn run_beside(word: usize, choice: Choice, end: usize) -> u32
         return UNDONE;
     }
     let size = loaded.size;
-    run_named(&path[..n], &text[..size], word, choice, end)
+    run_named(rt, &path[..n], &text[..size], word, choice, end)
 }
 
 // Whether a command shows objects of JSON.
@@ -570,7 +614,7 @@ fn takes(word: usize, choice: Choice) -> bool {
 }
 
 // A command that shows files or guards, with its options.
-fn run(word: usize, choice: Choice, end: usize) -> u32
+fn run(rt: &HostRuntime, word: usize, choice: Choice, end: usize) -> u32
     requires { choice.next ≤ end }
     ensures { result ≤ 3 }
 {
@@ -581,19 +625,20 @@ fn run(word: usize, choice: Choice, end: usize) -> u32
         return UNDONE;
     }
     if choice.names != 0 {
-        return run_beside(word, choice, end);
+        return run_beside(rt, word, choice, end);
     }
     let names: [u8; 0] = [0; 0];
     let rows: [u32; 0] = [0; 0];
-    command(&names, &rows, word, choice, end)
+    command(rt, &names, &rows, word, choice, end)
 }
 
 // The command of the arguments from i up to `end`. Options stand before it or after it; help where there is none.
-fn start(i: usize, end: usize) -> u32
+fn start(rt: &HostRuntime, i: usize, end: usize) -> u32
     requires { i ≤ end }
     ensures { result ≤ 3 }
 {
     let mut choice = options(
+        rt,
         Choice {
             edition: editions::FIRST,
             json: false,
@@ -610,9 +655,9 @@ fn start(i: usize, end: usize) -> u32
     if at >= end {
         return help();
     }
-    let word = word_at(at);
+    let word = word_at(rt, at);
     if word > VERSION {
-        return refuse(at, b": no such command; see kaori help");
+        return refuse(rt, at, b": no such command; see kaori help");
     }
     if word == VERSION {
         return version();
@@ -621,16 +666,16 @@ fn start(i: usize, end: usize) -> u32
         return help();
     }
     choice.next = at + 1;
-    run(word, options(choice, end), end)
+    run(rt, word, options(rt, choice, end), end)
 }
 
 // Where the command ends that begins at argument i: at the next `then`, or after the last of n arguments.
-fn end_from(i: usize, n: usize) -> usize
+fn end_from(rt: &HostRuntime, i: usize, n: usize) -> usize
     ensures { i ≤ result }
 {
     let mut at = i;
     while at < n {
-        if is_word(at, b"then") {
+        if is_word(rt, at, b"then") {
             return at;
         }
         at += 1;
@@ -639,27 +684,27 @@ fn end_from(i: usize, n: usize) -> usize
 }
 
 // The commands from argument `first` on, with `then` between two. The answer is the worst status.
-fn commands(first: usize) -> u32
+fn commands(rt: &HostRuntime, first: usize) -> u32
     ensures { result ≤ 3 }
 {
-    let n = os::arg_count();
-    let mut end = end_from(first, n);
-    let mut status = start(first, end);
+    let n = arguments::count(rt);
+    let mut end = end_from(rt, first, n);
+    let mut status = start(rt, first, end);
     while end < n {
         if status == STOPPED {
             return STOPPED;
         }
         let next = end + 1;
-        end = end_from(next, n);
-        status = worse(status, start(next, end));
+        end = end_from(rt, next, n);
+        status = worse(status, start(rt, next, end));
     }
     status
 }
 
 // A program answers no status. Where its first argument is `--status`, it writes the digit to descriptor 3 instead, for the script that starts it.
-fn main() {
-    if is_word(1, b"--status") {
-        let status = commands(2);
+fn main(rt: HostRuntime) {
+    if is_word(&rt, 1, b"--status") {
+        let status = commands(&rt, 2);
         if status == GOOD {
             io::write_all(3, b"0");
             return;
@@ -671,5 +716,5 @@ fn main() {
         io::write_all(3, b"2");
         return;
     }
-    commands(1);
+    commands(&rt, 1);
 }

@@ -10,7 +10,9 @@ pub mod words;
 ghost use Rattle.std.specs.Prelude.{◌≤◌, length};
 
 use diagnostics::line::NEWLINE;
-use libc::STDOUT_FILENO;
+
+// The descriptor of standard output.
+const STDOUT_FILENO: i32 = 1;
 
 // Adds a byte, and answers the place after it.
 pub fn put_byte(byte: u8, out: &mut [u8; 4096], at: usize) -> usize
