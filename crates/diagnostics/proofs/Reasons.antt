@@ -6,7 +6,7 @@ use native.Mathlib.Nat.{zero-add}
 use native.Mathlib.Omega.{arith}
 use mathlib.Core.Bool.{true, false}
 use mathlib.Core.List.{List}
-use mathlib.Core.Path.{◌≡◌, refl, sym, ap, ◌∙◌}
+use mathlib.Core.Path.{◌≡◌, refl, sym, ◌∙◌}
 use lib.Dec.{eqb, leb, leb→le}
 use lib.ListN.{length, get_or, take, drop, get_or-eq_default}
 use borrow.Author.Tests.{ne_eqb}
@@ -15,7 +15,7 @@ use Rattle.grammar.specs.Symbol.{same}
 use Rattle.grammar.proofs.Tests.{same_means, within}
 use Rattle.spelling.specs.Display.{Put}
 use Rattle.spelling.proofs.display.Writing.{room_after}
-use Rattle.diagnostics.specs.Message.{text_of, MessageGiven}
+use Rattle.diagnostics.specs.Message.{MessageGiven}
 use Rattle.diagnostics.specs.Reason.{texts, Quote, own, reason_of, ReasonGiven, last, tabled, table, begins, PlacedAt}
 use Rattle.diagnostics.specs.declared.Message.{Message}
 use Rattle.diagnostics.proofs.Messages.{either, text_fits}

@@ -1,5 +1,4 @@
 -- `diagnostics::line::after` meets its contract: it does what `next` does.
-use borrow.Author.Rules.{rules}
 use native.Mathlib.Omega.{arith}
 use mathlib.Core.Path.{sym, ◌∙◌}
 use Rattle.diagnostics.proofs.Places.{next_line, next_column, byte_small}

@@ -1,5 +1,4 @@
 -- `diagnostics::line::ends_line` meets its contract: each of its three answers is one of the ways to tell whether a line ends.
-use borrow.Author.Rules.{rules}
 use Rattle.diagnostics.proofs.Places.{no_return, return_followed, return_last}
 use Rattle.diagnostics.proofs.line.ends_line.Goals as goal
 

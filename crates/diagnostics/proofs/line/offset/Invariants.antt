@@ -1,10 +1,6 @@
 -- `diagnostics::line::offset` meets its contract. Its loop keeps the place of `i`, and that no offset before it has the place that is looked for.
-use borrow.Author.Rules.{rules}
-use borrow.Author.Tests.{not-true, not-false}
 use Prim.Native.Nat.{◌-◌}
-use native.Mathlib.Omega.{arith}
-use mathlib.Core.Path.{refl}
-use Rattle.diagnostics.proofs.Offsets.{Looking, started, passed, is_found, is_nowhere}
+use Rattle.diagnostics.proofs.Offsets.{Looking}
 use Rattle.diagnostics.proofs.line.offset.Given as goal
 
 abbrev pub invariant-loop-here : goal.invariant-loop-here

@@ -1,6 +1,4 @@
 -- `diagnostics::line::place` meets its contract. Its loop keeps the place of `i`.
-use borrow.Author.Rules.{rules}
-use Prim.Native.Nat.{◌-◌, ◌≤◌}
 use native.Mathlib.Omega.{arith}
 use mathlib.Core.Path.{◌≡◌, refl}
 use Rattle.diagnostics.specs.Line.{line_of}

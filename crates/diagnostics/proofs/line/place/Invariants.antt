@@ -1,8 +1,6 @@
 -- `diagnostics::line::place` meets its contract. Its loop keeps the place of `i`.
-use borrow.Author.Rules.{rules}
 use Prim.Native.Nat.{◌-◌, ◌≤◌}
-use native.Mathlib.Omega.{arith}
-use mathlib.Core.Path.{◌≡◌, refl}
+use mathlib.Core.Path.{◌≡◌}
 use Rattle.diagnostics.specs.Line.{line_of}
 use Rattle.diagnostics.proofs.line.place.Given as goal
 

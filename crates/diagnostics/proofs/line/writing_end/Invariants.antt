@@ -1,11 +1,7 @@
 -- `diagnostics::line::writing_end` meets its contract: its loop runs over what is written on the line.
-use borrow.Author.Rules.{rules}
-use borrow.Author.Tests.{not-true, not-false}
 use Prim.Native.Nat.{◌-◌}
-use native.Mathlib.Omega.{arith}
-use mathlib.Core.Path.{sym, ◌∙◌}
 use lib.ListN.{length}
-use Rattle.grammar.proofs.Runs.{Running, begun, goes_on, stops, is_over}
+use Rattle.grammar.proofs.Runs.{Running}
 use Rattle.diagnostics.specs.Line.{inner}
 use Rattle.diagnostics.proofs.line.writing_end.Given as goal
 

@@ -1,7 +1,5 @@
 -- `diagnostics::reason::has_message` meets its contract.
-use borrow.Author.Rules.{rules}
 use borrow.Author.Tests.{le-leb, lt-leb}
-use native.Mathlib.Omega.{arith}
 use Rattle.diagnostics.proofs.reason.has_message.Goals as goal
 
 pub returns-then-code-lt8 : goal.returns-then-code-lt8

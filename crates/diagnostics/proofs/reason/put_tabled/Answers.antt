@@ -1,5 +1,4 @@
 -- `diagnostics::reason::put_tabled` meets its contract: the part that it copies is the text, by the table's rule.
-use borrow.Author.Rules.{rules}
 use native.Mathlib.Omega.{arith}
 use Rattle.diagnostics.proofs.Reasons.{Entry, entry}
 use Rattle.diagnostics.proofs.reason.put_tabled.Goals as goal

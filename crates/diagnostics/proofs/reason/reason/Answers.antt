@@ -1,5 +1,4 @@
 -- `diagnostics::reason::reason` meets its contract: it answers as `message`, or with the text at the place that `which` answers.
-use borrow.Author.Rules.{rules}
 use native.Mathlib.Omega.{arith}
 use mathlib.Core.Path.{sym, ◌∙◌}
 use Rattle.diagnostics.proofs.Reasons.{passed, too_small, written}

@@ -1,6 +1,5 @@
 -- `diagnostics::reason::start_of` meets its contract: each number of the constant is where the definition of the table has that text's start.
 use Prim.Native.Nat.{ℕ, ◌≤◌, ◌<◌}
-use borrow.Author.Rules.{rules}
 use native.Mathlib.Omega.{arith}
 use mathlib.Core.List.{List, [], ◌∷◌}
 use mathlib.Core.Path.{◌≡◌}

@@ -7,11 +7,5 @@ use Rattle.diagnostics.proofs.text.message.Goals as goal
 pub returns-then-room-lt52 : goal.returns-then-room-lt52
 returns-then-room-lt52 c = too_small (search rules)
 
-pub text-length-requires : goal.text-length-requires
-text-length-requires c = search rules
-
-pub shape_of-room : goal.shape_of-room
-shape_of-room c = search rules
-
 pub returns : goal.returns
 returns c = written (omega arith) c.text-length.ensures
