@@ -12,7 +12,7 @@ use lib.ListN.{length, get_or, drop}
 use Rattle.grammar.specs.Edition.{Edition}
 use Rattle.grammar.specs.Handle.{Handle, absent, row}
 use Rattle.grammar.specs.Label.{Node, Label, number_of}
-use Rattle.grammar.specs.Layout.{symbol, nodes, names, layout}
+use Rattle.grammar.specs.Layout.{layout}
 use Rattle.grammar.specs.Naming.{height, named_by, times}
 use Rattle.grammar.specs.Parent.{own, tenth, parent, parented_below, written}
 use Rattle.grammar.specs.Phrase.{Tree, none, more, made}
@@ -30,7 +30,7 @@ use Rattle.parts.specs.Dropped.{items}
 use Rattle.parts.specs.Moved.{Move, moved_node, moved_lists, moved_numbers, list_links, moved_row, moved_links, row_links}
 use Rattle.parts.specs.Packed.{root_row, statement, kept as kept-rows, kept_upto, stays, rows_kept, links_kept, links_before, packing, packed_nodes, packed_links, root_links, root_line, packed_with}
 use Rattle.parts.proofs.Kinship.{Items, Keeps, Kin, Lies, All, kept, replaced}
-use Rattle.parts.proofs.Carrying.{at, moved_own, Step, Place, RowLike}
+use Rattle.parts.proofs.Carrying.{moved_own, Step, Place, RowLike}
 use Rattle.parts.proofs.Likeness.{sent, moved_handle, moved_all}
 use Rattle.parts.proofs.Moving.{covers, Toks, alike}
 use Rattle.parts.proofs.Spanned.{fine}

@@ -3,7 +3,7 @@
 use Prim.Native.Nat.{ℕ, zero, suc, ◌+◌, ◌-◌, ◌*◌, ◌≤◌, ◌<◌}
 use mathlib.Core.Bool.{Bool, true, false, not}
 use mathlib.Core.List.{List, [], ◌∷◌, ◌++◌}
-use mathlib.Core.Path.{◌≡◌, refl, sym, ap, ◌∙◌}
+use mathlib.Core.Path.{◌≡◌, refl, sym, ◌∙◌}
 use native.Mathlib.Decide.{dec_lt}
 use native.Mathlib.Omega.{arith}
 use lib.Dec.{T}
@@ -15,7 +15,6 @@ use Rattle.grammar.specs.Door.{Whole, Roomy, RightSymbols, Sound, Closed, Inside
 use Rattle.grammar.specs.Kind.{Eof}
 use Rattle.grammar.specs.Lexeme.{pattern, spelling}
 use Rattle.grammar.specs.Pattern.{literal}
-use Rattle.grammar.specs.Profile.{Profile}
 use Rattle.grammar.specs.Room.{Rooms}
 use Rattle.grammar.specs.Token.{count, kind, start, end, lexeme}
 use Rattle.grammar.proofs.Lexemes.{lexeme_none}

@@ -7,10 +7,10 @@ use lib.Dec.{T}
 use Rattle.grammar.specs.Edition.{Edition}
 use Rattle.grammar.specs.Handle.{Handle, head}
 use Rattle.grammar.specs.Label.{Node, Label, number_of}
-use Rattle.grammar.specs.Phrase.{Tree, none, more, deeper, made}
-use Rattle.grammar.specs.Rows.{Rows, Walked, put, make, walk}
+use Rattle.grammar.specs.Phrase.{Tree}
+use Rattle.grammar.specs.Rows.{Rows, put, make, walk}
 use Rattle.grammar.specs.Rule.{rule}
-use Rattle.grammar.specs.Token.{kind, start, end}
+use Rattle.grammar.specs.Token.{end}
 use Rattle.grammar.proofs.Room.{cost}
 use Rattle.parts.proofs.Kinship.{Kin, is_import, All}
 
