@@ -1,10 +1,9 @@
--- What is told of a symbol that is known, and of any other; that the numbers of a place are always a part of the symbol's text, and this part is the name; and that
--- no two answers are allowed.
+-- The numbers of a place are always a part of the symbol's text, and this part is the name; and no two answers are allowed.
 use Prim.Native.Nat.{ℕ, ◌+◌, ◌*◌}
 use native.Mathlib.Decide.{dec_le, dec_lt}
 use native.Mathlib.Omega.{arith}
 use mathlib.Core.List.{List}
-use mathlib.Core.Path.{◌≡◌, refl, sym, ◌∙◌}
+use mathlib.Core.Path.{◌≡◌, sym, ◌∙◌}
 use lib.ListN.{length}
 use denote.Ref.{Bor}
 use Rattle.grammar.specs.Room.{symbol_width}
@@ -12,13 +11,6 @@ use Rattle.grammar.specs.Table.{Part, start_of, end_of}
 use Rattle.naming.specs.Name.{chosen, Known, Told, PlaceTold, PartOf, PartTold, NameTold}
 use Rattle.naming.specs.declared.NameAnswer.{NameAnswer}
 use Rattle.naming.specs.declared.PlaceAnswer.{PlaceAnswer}
-
-module _ {names text symbols : List ℕ} {count built symbol : ℕ} where
-  pub refuse : {refused given : Type 0} → (Known names text symbols count built symbol → ⊥) → refused → Told names text symbols count built symbol refused given
-  refuse h x = record { none = λ _. x; there = λ k. absurd (h k) }
-
-  pub give : {refused given : Type 0} → Known names text symbols count built symbol → given → Told names text symbols count built symbol refused given
-  give k x = record { none = λ h. absurd (h k); there = λ _. x }
 
 -- each symbol is known or not
 known_or : (names text symbols : List ℕ) (count built symbol : ℕ) → Dec (Known names text symbols count built symbol)
@@ -68,10 +60,6 @@ module _ {names text : Bor (List ℕ)} {symbols : List ℕ} {count built symbol 
   -- the part that a place's numbers say is the name
   pub handed : {p : PlaceAnswer} {r : Bor (List ℕ)} → PlaceTold names.now text.now symbols count built symbol p → PartOf (chosen built symbol names text) p.start p.end r → PartTold names text symbols count built symbol r
   handed x y = record { says = record { none = λ h. rw (x.none h) at y; there = λ k. rw (x.there k) at y } }
-
-  -- and with the code of the place it is the answer
-  pub answered : {p : PlaceAnswer} {r : Bor (List ℕ)} → PlaceTold names.now text.now symbols count built symbol p → PartTold names text symbols count built symbol r → NameTold names text symbols count built symbol (record { code = p.code; bytes = r })
-  answered x y = record { says = record { none = λ h. (rw (x.none h) refl, y.says.none h); there = λ k. (rw (x.there k) refl, y.says.there k) } }
 
   pub one_part : {r q : Bor (List ℕ)} → PartTold names text symbols count built symbol r → PartTold names text symbols count built symbol q → Same r q
   one_part x y = once x.says y.says part_once part_once
