@@ -1,11 +1,6 @@
 -- `leave_out` meets its contract: token by token. The measure is how many are left.
-use Prim.Native.Nat.{◌+◌, ◌-◌, ◌*◌, ◌≤◌, ◌<◌}
-use borrow.Author.Rules.{rules}
-use native.Mathlib.Omega.{arith}
-use lib.ListN.{length}
-use Rattle.grammar.specs.Token.{count}
+use Prim.Native.Nat.{◌-◌, ◌≤◌}
 use Rattle.names.specs.Resolved.{LeftOut}
-use Rattle.names.proofs.Passing.{none_out, one_out, all_out}
 use Rattle.names.proofs.leave_out.Given as goal
 
 abbrev pub invariant-loop-i : goal.invariant-loop-i

@@ -1,11 +1,7 @@
 -- `script_names` meets its contract: token by token, up to the last or to a word whose row does not fit. The measure is how many are left.
-use Prim.Native.Nat.{◌+◌, ◌-◌, ◌*◌, ◌/◌, ◌<◌}
-use borrow.Author.Rules.{rules}
-use native.Mathlib.Omega.{arith}
-use lib.ListN.{length}
+use Prim.Native.Nat.{◌-◌}
 use Rattle.grammar.specs.Builtin.{builtins}
-use Rattle.names.specs.Resolved.{Open}
-use Rattle.names.proofs.Passing.{Passed, reopened, none_passed, all_passed, cut_short, before, place_inside, passes}
+use Rattle.names.proofs.Passing.{Passed}
 use Rattle.names.proofs.script_names.Given as goal
 
 abbrev pub invariant-loop-i : goal.invariant-loop-i

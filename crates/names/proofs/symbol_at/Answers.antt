@@ -1,5 +1,4 @@
 -- `symbol_at` meets its contract.
-use borrow.Author.Rules.{rules}
 use native.Mathlib.Omega.{arith}
 use Rattle.names.proofs.Readers.{name_at}
 use Rattle.names.proofs.symbol_at.Goals as goal
