@@ -3,15 +3,12 @@ use Prim.Native.Nat.{ℕ, zero, suc, ◌+◌, ◌-◌, ◌/◌, ◌%◌, ◌≤�
 use mathlib.Core.List.{List, [], ◌∷◌, ◌++◌, map, append_assoc, append-nil}
 use mathlib.Core.Path.{◌≡◌, refl, sym, ap, subst, ◌∙◌}
 use native.Mathlib.Omega.{arith}
-use lib.ListN.{length, get_or, take, drop, set, replicate, length-set, length-map, length-append}
+use lib.ListN.{length, get_or, take, drop, replicate, length-set, length-map}
 use lib.Seq.{drop-length, drop-cons, drop-drop, take_all, take_at, take-suc-set, get_or-set_other, length-take-le}
 use borrow.Author.Tests.{lt-ltb, le-ltb}
 use Rattle.grammar.specs.Expected.{Opening as Open, opening}
-use Rattle.grammar.specs.Kaori.{Table}
-use Rattle.grammar.specs.Label.{Label}
 use Rattle.grammar.proofs.Overflow.{opened_append, opened_length}
-use Rattle.grammar.proofs.Stack.{Stack}
-use Rattle.grammar.proofs.Stopping.{opened, marks}
+use Rattle.grammar.proofs.Stopping.{opened}
 use Rattle.expected.specs.Cells.{states, cell, decoded}
 use Rattle.expected.specs.Chains.{nothing, told, Chained}
 use Rattle.expected.specs.Parts.{Extends}

@@ -1,7 +1,7 @@
 -- A list of the table put on a stack cell by cell, from its end.
 use Prim.Native.Nat.{ℕ, suc, ◌+◌, ◌*◌, ◌-◌, ◌/◌, ◌%◌, ◌≤◌, ◌<◌}
 use mathlib.Core.Bool.{Bool, true, false, cond, ◌&&◌, ◌||◌}
-use mathlib.Core.List.{List, [], ◌∷◌, ◌++◌, append_assoc}
+use mathlib.Core.List.{List, ◌∷◌, ◌++◌, append_assoc}
 use mathlib.Core.Path.{◌≡◌, refl, sym, ap, subst, ◌∙◌}
 use native.Mathlib.Omega.{arith}
 use lib.Dec.{T, eqb, ltb, leb, leb→le, ltb→lt, eqb→eq}
@@ -9,8 +9,8 @@ use lib.ListN.{length, get_or, drop, set, length-set}
 use lib.Seq.{slice, slice_empty, slice-cons, drop-cons, drop-set-lt, get_or-set_same}
 use borrow.Author.Tests.{lt-ltb, le-ltb}
 use Rattle.grammar.proofs.Stopping.{marks}
-use Rattle.grammar.proofs.Tests.{both, passes, within}
-use Rattle.expected.specs.Cells.{states, state, cell, joined, list, opens_of, decoded, sound, listed, Sound, bare, more, Celled, Pushed}
+use Rattle.grammar.proofs.Tests.{both, within}
+use Rattle.expected.specs.Cells.{states, state, cell, joined, list, opens_of, decoded, sound, listed, Sound, more, Celled, Pushed}
 use Rattle.expected.specs.Tables.{lengths, lists}
 use Rattle.expected.proofs.Lent.{every, at_every, lengths_length, lists_length}
 

@@ -1,9 +1,9 @@
 -- What is left after the tokens before a place, token by token: each is taken within the limit, or reading is not refused at the place. And that the room suffices:
 -- each cell is at least an item, and there are 12 items for an opening and 11 more at most.
-use Prim.Native.Nat.{ℕ, zero, suc, ◌+◌, ◌*◌, ◌-◌, ◌/◌, ◌%◌, ◌≤◌, ◌<◌}
+use Prim.Native.Nat.{ℕ, ◌+◌, ◌-◌, ◌/◌, ◌%◌, ◌≤◌, ◌<◌}
 use mathlib.Core.Bool.{Bool, true, false, cond}
 use mathlib.Core.List.{List, [], ◌∷◌}
-use mathlib.Core.Path.{◌≡◌, refl, sym, ap, subst, ◌∙◌}
+use mathlib.Core.Path.{◌≡◌, refl, subst, ◌∙◌}
 use native.Mathlib.Decide.{dec_lt}
 use native.Mathlib.Omega.{arith}
 use lib.Dec.{T, ltb, leb, leb→le}
@@ -20,8 +20,8 @@ use Rattle.grammar.specs.Refusal.{Refused, refused}
 use Rattle.grammar.specs.Token.{kind}
 use Rattle.grammar.proofs.Fares.{Fares, Within, start, fares_on, one_on}
 use Rattle.grammar.proofs.Height.{Low, script_low, goes_low, height}
-use Rattle.grammar.proofs.Stack.{want, mark, Stack, Result, took, over, bars, Goes}
-use Rattle.grammar.proofs.Stopping.{Meets, meets, marks, Went, went, onward, onward_over}
+use Rattle.grammar.proofs.Stack.{want, mark, Stack, Result, took, Goes}
+use Rattle.grammar.proofs.Stopping.{meets, marks, Went, went, onward, onward_over}
 use Rattle.grammar.proofs.Tests.{within}
 use Rattle.expected.specs.Cells.{states, cell, decoded, sound, Sound, bare, more}
 use Rattle.expected.specs.Steps.{Taken, Ends, Bars, Case, Stepped}

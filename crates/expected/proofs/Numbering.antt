@@ -1,16 +1,15 @@
 -- The tables of the machine: what comes of each state before each kind. Their rule is one equation for each edition, computed.
 use Prim.Native.Nat.{ℕ, zero, suc, ◌+◌, ◌*◌, ◌≤◌, ◌<◌}
-use mathlib.Core.Bool.{Bool, true, ◌&&◌}
 use mathlib.Core.List.{List, [], ◌∷◌, map}
 use mathlib.Core.Path.{◌≡◌, refl, sym, ap, ◌∙◌}
 use native.Mathlib.Decide.{ℕ_discrete}
 use native.Mathlib.Omega.{arith}
 use lib.Dec.{T, ltb, ltb→lt}
-use lib.ListN.{length, get_or, take, drop}
+use lib.ListN.{get_or, take, drop}
 use lib.Seq.{drop-drop, get_or-take, get_or-drop}
 use Rattle.grammar.specs.Edition.{Edition}
 use Rattle.grammar.specs.Kaori.{above, rules, kaori}
-use Rattle.grammar.proofs.Tests.{both, passes, within}
+use Rattle.grammar.proofs.Tests.{within}
 use Rattle.grammar.proofs.Verdicts.{look, moved, move, needed, link_move}
 use Rattle.expected.specs.Cells.{states, state, joined, list, entry, column_of, Plain, plain, Acts}
 use Rattle.expected.specs.Tables.{table, lengths, lists}

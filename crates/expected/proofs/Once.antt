@@ -1,13 +1,13 @@
 -- Two outcomes that the promise of `expected` allows are the same.
-use Prim.Native.Nat.{ℕ, zero, suc, ◌+◌, ◌≤◌, ◌<◌}
-use mathlib.Core.Bool.{Bool, cond}
-use mathlib.Core.List.{List, map}
+use Prim.Native.Nat.{ℕ, zero, suc, ◌+◌, ◌<◌}
+use mathlib.Core.Bool.{Bool}
+use mathlib.Core.List.{List}
 use mathlib.Core.Path.{◌≡◌, refl, sym, ap, ◌∙◌}
 use native.Mathlib.Decide.{dec_lt}
 use native.Mathlib.Omega.{arith}
-use lib.ListN.{length, get_or, take, get_or-map}
+use lib.ListN.{get_or, take, get_or-map}
 use lib.Seq.{get_or-take, ext_get_or}
-use Rattle.grammar.specs.Expected.{Opening as Open, opening, gathered, how_many, lowest_from}
+use Rattle.grammar.specs.Expected.{Opening as Open, gathered, how_many, lowest_from}
 use Rattle.grammar.proofs.Unexpected.{one_told as one_answer}
 use Rattle.expected.specs.Chains.{nothing, told, Chained}
 use Rattle.expected.specs.Tells.{Tells}

@@ -5,7 +5,7 @@ use mathlib.Core.Bool.{Bool, true, false, ◌||◌}
 use mathlib.Core.List.{List, [], ◌∷◌, ◌++◌}
 use mathlib.Core.Path.{◌≡◌, refl, sym, ap, subst, ◌∙◌}
 use native.Mathlib.Omega.{arith}
-use lib.Dec.{T, ltb, leb, ltb→lt}
+use lib.Dec.{T, ltb, ltb→lt}
 use lib.ListN.{length, get_or, drop, drop_of_length-le}
 use lib.Seq.{drop-cons, drop-drop}
 use borrow.Author.Tests.{lt-ltb, le-ltb}
@@ -13,12 +13,12 @@ use Rattle.grammar.specs.Edition.{Edition}
 use Rattle.grammar.specs.Kaori.{Table, kaori}
 use Rattle.grammar.specs.Label.{Label}
 use Rattle.grammar.specs.Refusal.{Refused}
-use Rattle.grammar.proofs.Overflow.{Overflows, Comes, overflow}
+use Rattle.grammar.proofs.Overflow.{Comes, overflow}
 use Rattle.grammar.proofs.Stack.{want, links, mark, Stack, Turn, Result, took, over, bars, Goes}
-use Rattle.grammar.proofs.Stopping.{marks, Meets, under_mark}
+use Rattle.grammar.proofs.Stopping.{marks, under_mark}
 use Rattle.grammar.proofs.Tests.{within}
 use Rattle.grammar.proofs.Verdicts.{Verdict, takes, passes, refuses, unknown, Sees, look}
-use Rattle.expected.specs.Cells.{states, cell, joined, list, opens_of, entry, taken, passed, barred, unsaid, Plain, plain, barred_by, only_marks, decoded, sound, Sound, bare, more, Acts, Pushed}
+use Rattle.expected.specs.Cells.{states, cell, joined, list, opens_of, entry, taken, passed, barred, plain, barred_by, only_marks, decoded, sound, Sound, more, Acts, Pushed}
 use Rattle.expected.specs.Steps.{TooDeep, Fills, Taken, Ends, Bars, Admits}
 use Rattle.expected.proofs.Laws.{opens_right}
 

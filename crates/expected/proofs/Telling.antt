@@ -1,12 +1,12 @@
 -- What is told is right: a law for each way that an answer is made. Reading is refused at the place exactly as the stack fares there (crate grammar's Fares.antt).
 use Prim.Native.Nat.{ℕ, zero, suc, ◌+◌, ◌≤◌, ◌<◌}
-use mathlib.Core.Bool.{Bool, true, false}
+use mathlib.Core.Bool.{Bool, false}
 use mathlib.Core.List.{List, [], ◌∷◌, ◌++◌, append-nil}
 use mathlib.Core.Logic.{◌↔◌}
 use mathlib.Core.Path.{◌≡◌, refl, sym, ap, subst, ◌∙◌}
 use native.Mathlib.Decide.{ℕ_discrete}
 use native.Mathlib.Omega.{arith}
-use lib.Count.{ones, ones_in, count_trailing_zeros}
+use lib.Count.{ones, ones_in}
 use lib.Dec.{T}
 use lib.ListN.{length, take, drop}
 use lib.Seq.{take_all, take-append-le}
@@ -16,13 +16,13 @@ use Rattle.grammar.specs.Kaori.{Table, kaori, script, an_expression, a_block}
 use Rattle.grammar.specs.Kind.{Eof}
 use Rattle.grammar.specs.Label.{Label}
 use Rattle.grammar.specs.Phrase.{empty, token, part, nested, node, choice, chain, once, refusal}
-use Rattle.grammar.specs.Refusal.{Refused, refused, Refuses}
+use Rattle.grammar.specs.Refusal.{refused}
 use Rattle.grammar.specs.Token.{kind}
 use Rattle.grammar.proofs.Expected.{could, stands}
 use Rattle.grammar.proofs.Fares.{Barring, Fares, fares_on}
 use Rattle.grammar.proofs.Overflow.{Overflows, opened_append, opened_length, script_opens}
 use Rattle.grammar.proofs.Refusing.{refusing}
-use Rattle.grammar.proofs.Stack.{want, links, mark, Stack, Result, took, over, bars, Goes}
+use Rattle.grammar.proofs.Stack.{want, links, mark, Stack, took, over, bars}
 use Rattle.grammar.proofs.Stopping.{opened, marks, Meets, Opens, meets, met_chain, one_met, onward_over, stood}
 use Rattle.expected.specs.Cells.{decoded, entry, barred, barred_by, only_marks, Sound}
 use Rattle.expected.specs.Chains.{Chained}

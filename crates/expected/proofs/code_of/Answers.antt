@@ -1,5 +1,5 @@
 -- `code_of` meets its contract.
-use Prim.Native.Nat.{ℕ, zero, suc, ◌<◌}
+use Prim.Native.Nat.{ℕ, zero, suc}
 use mathlib.Core.Path.{◌≡◌, refl}
 use native.Mathlib.Omega.{arith}
 use Rattle.expected.specs.Parts.{code_of}
@@ -26,4 +26,4 @@ unfolding code_of
 returns-in-3 c = rw c.in-3.is
 
 pub returns-in_default : goal.returns-in_default
-returns-in_default c = other c.args.number c.in_default.rest.0.0.1 c.in_default.rest.0.1 c.in_default.rest.1
+returns-in_default c = other c.args.number (omega arith) (omega arith) (omega arith)

@@ -1,27 +1,25 @@
 -- `expected` meets its contract.
-use Prim.Native.Nat.{ℕ, ◌<◌}
-use mathlib.Core.Path.{◌≡◌, refl, sym, subst}
-use native.Mathlib.Omega.{arith}
-use borrow.Author.Tests.{not-true, not-false}
+use mathlib.Core.Path.{refl, sym, subst}
 use lib.ListN.{length}
 use Rattle.expected.specs.Left.{AskedOf}
 use Rattle.expected.proofs.Telling.{nothing_told, unasked, as_reached, as_gone}
-use borrow.Author.Rules.{rules}
 use Rattle.expected.proofs.expected.Goals as goal
 
 pub returns-then-not-asks : goal.returns-then-not-asks
 returns-then-not-asks c =
     let a = c.args in
     let asks = c.asks in
-    nothing_told (unasked (λ z. asks.ensures.no (not-true asks.result c.if-not-asks.true) (subst (AskedOf (length a.tokens.now) a.edition a.limit a.code) (sym c.size-place.ensures) z))) c.nothing.ensures
+    nothing_told (unasked (λ z. asks.ensures.no c.if-not-asks.true (subst (AskedOf (length a.tokens.now) a.edition a.limit a.code) (sym c.size-place.ensures) z))) c.nothing.ensures
 
 pub left-left-requires : goal.left-left-requires
-left-left-requires c = let asked = c.asks.ensures.yes (not-false c.asks.result c.if-not-asks.false) in (c.made-table.ensures, (record { shallow = asked.least_depth; whole = asked.whole; inside = asked.inside }, refl))
+left-left-requires c = let asked = c.asks.ensures.yes c.if-not-asks.false in record { table_value = c.made-table.ensures; asked = record { shallow = asked.least_depth; whole = asked.whole; inside = asked.inside }; room_len = refl }
 
 pub returns-in_default : goal.returns-in_default
 returns-in_default c =
     let l = rw c.size-place.ensures at c.left-left.ensures in
-    nothing_told (λ h u m. as_gone c.left-left.result (λ t d e. let z : ◌≡◌ {A = ℕ} 0 1 = rw e at c.in_default.keys2 in omega (arith, z)) l c.args.code h m) c.nothing-in_default.ensures
+    nothing_told (λ h u m. as_gone c.left-left.result c.in_default.not-At l c.args.code h m) c.nothing-in_default.ensures
 
 pub tell-requires : goal.tell-requires
-tell-requires c =     let l = rw c.size-place.ensures at c.left-left.ensures in record { table_value = c.made-table.ensures; asked_of = rw c.size-place.ensures at (c.asks.ensures.yes (not-false c.asks.result c.if-not-asks.false)); reached = as_reached c.left-left.result c.in-At.is l }
+tell-requires c =
+    let l = rw c.size-place.ensures at c.left-left.ensures in
+    record { table_value = c.made-table.ensures; asked_of = rw c.size-place.ensures at (c.asks.ensures.yes c.if-not-asks.false); reached = as_reached c.left-left.result c.in-At.is l }

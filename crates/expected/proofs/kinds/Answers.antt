@@ -1,5 +1,4 @@
 -- `kinds` meets its contract: after n turns it is the set of the kinds under n.
-use Prim.Native.Nat.{ℕ, ◌-◌}
 use mathlib.Core.Path.{◌≡◌, subst}
 use native.Mathlib.Omega.{arith}
 use borrow.Author.Rules.{rules}
@@ -7,7 +6,7 @@ use lib.ListN.{drop}
 use Rattle.grammar.specs.Edition.{edition as the-edition}
 use Rattle.expected.specs.Cells.{decoded}
 use Rattle.expected.specs.Steps.{Gathers}
-use Rattle.expected.proofs.Gathering.{Gathering, none_yet, small, more_under, gathering}
+use Rattle.expected.proofs.Gathering.{none_yet, small, more_under, gathering}
 use Rattle.expected.proofs.kinds.Goals as goal
 
 pub loop-kind-init : goal.loop-kind-init

@@ -1,15 +1,7 @@
 -- `left` meets its contract: token by token the stack is what is left, each taken within the limit; or reading is not refused at the place.
-use Prim.Native.Nat.{ℕ, ◌+◌, ◌-◌, ◌≤◌, ◌<◌}
-use mathlib.Core.Logic.{⊎_elim}
-use mathlib.Core.Path.{◌≡◌, refl, sym, subst, ◌∙◌}
-use native.Mathlib.Omega.{arith}
-use borrow.Author.Rules.{rules}
-use lib.ListN.{length}
+use Prim.Native.Nat.{◌-◌, ◌≤◌}
 use Rattle.grammar.specs.Edition.{edition as the-edition}
-use Rattle.grammar.specs.Token.{kind}
-use Rattle.expected.specs.Left.{ComesTo}
-use Rattle.expected.specs.Steps.{Taken, Stepped}
-use Rattle.expected.proofs.Leaving.{Leaving, leaving, spare, shallow, leaving_on, must_take, not_deep, as_took}
+use Rattle.expected.proofs.Leaving.{Leaving}
 use Rattle.expected.proofs.left.Given as goal
 
 abbrev pub invariant-loop-i : goal.invariant-loop-i

@@ -1,7 +1,5 @@
 -- `nothing` meets its contract.
-use borrow.Author.Rules.{rules}
-use mathlib.Core.Path.{◌≡◌, sym, subst, ◌∙◌, refl}
-use lib.Count.{ones, ones_in, count_trailing_zeros}
+use lib.Count.{ones, ones_in}
 use Rattle.expected.specs.Parts.{lowest_of}
 use Rattle.expected.proofs.nothing.Goals as goal
 

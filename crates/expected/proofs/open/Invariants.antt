@@ -1,9 +1,5 @@
 -- `open` meets its contract: the marks below, outermost first, up to as many as may be.
-use Prim.Native.Nat.{ℕ, ◌-◌}
-use mathlib.Core.Path.{refl}
-use native.Mathlib.Omega.{arith}
-use borrow.Author.Rules.{rules}
-use Rattle.expected.proofs.Chaining.{Walking, walk_start, walk_state, walk_mark, walked_most, walked}
+use Rattle.expected.proofs.Chaining.{Walking}
 use Rattle.expected.proofs.open.Given as goal
 
 abbrev pub invariant-loop-i : goal.invariant-loop-i

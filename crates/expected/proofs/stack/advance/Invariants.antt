@@ -1,15 +1,11 @@
 -- `advance` meets its contract: what its loop leaves behind passes the kind on, and the constructs that are open are counted down with their marks.
-use Prim.Native.Nat.{ℕ, ◌-◌, ◌≤◌}
-use mathlib.Core.Path.{◌≡◌, sym, ap, ◌∙◌}
-use native.Mathlib.Omega.{arith}
-use borrow.Author.Rules.{rules}
-use lib.ListN.{length, get_or, drop}
+use Prim.Native.Nat.{◌-◌}
+use mathlib.Core.Path.{◌≡◌}
+use lib.ListN.{length, drop}
 use Rattle.grammar.specs.Edition.{edition as the-edition}
 use Rattle.grammar.proofs.Stopping.{marks}
-use Rattle.expected.specs.Cells.{decoded, Acts}
-use Rattle.expected.specs.Steps.{Stepped, Case}
-use Rattle.expected.proofs.Passing.{fewer, Passing, starting, state_number, pass_mark, mark_less, pass_state, state_next, bar, take, finished}
-use Rattle.expected.proofs.Laws.{opens_few}
+use Rattle.expected.specs.Cells.{decoded}
+use Rattle.expected.proofs.Passing.{Passing}
 use Rattle.expected.proofs.stack.advance.Given as goal
 
 abbrev pub invariant-loop-t : goal.invariant-loop-t

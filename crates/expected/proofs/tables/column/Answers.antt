@@ -1,5 +1,5 @@
 -- `column` meets its contract: the kind, but for four kinds in edition 2.
-use mathlib.Core.Path.{◌≡◌}
+use native.Mathlib.Omega.{arith}
 use borrow.Author.Tests.{ne_eqb}
 use Rattle.grammar.specs.Edition.{edition}
 use Rattle.expected.specs.Cells.{column_of}
@@ -27,4 +27,6 @@ returns-in-21 c = rw (c.if-edition-ne-SECOND.false, c.in-21.is)
 
 pub returns-in_default : goal.returns-in_default
 unfolding edition column_of
-returns-in_default c = rw c.if-edition-ne-SECOND.false (simp (ne_eqb, c.in_default.rest.0.0.0.1, c.in_default.rest.0.0.1, c.in_default.rest.0.1, c.in_default.rest.1))
+returns-in_default c =
+    let k = c.args.kind in
+    rw c.if-edition-ne-SECOND.false (simp (ne_eqb k 24 (omega arith), ne_eqb k 17 (omega arith), ne_eqb k 41 (omega arith), ne_eqb k 21 (omega arith)))

@@ -17,26 +17,14 @@ sized k e h i = i ∙ ap (λ b. get_or b (2646 + k) 0) e ∙ in_lengths k h
 taken : {r : ℕ} {bytes : List ℕ} (i : ℕ) → bytes ≡ tables → r ≡ get_or bytes (2817 + i) 0 → r ≡ get_or lists i 0
 taken i e h = h ∙ ap (λ b. get_or b (2817 + i) 0) e ∙ in_lists i
 
-pub overflow_mul-from : goal.overflow_mul-from
-overflow_mul-from c = search rules
-
-pub overflow_add-list : goal.overflow_add-list
-overflow_add-list c = search rules
-
 pub bounds-table-list : goal.bounds-table-list
 bounds-table-list c = let e = ap length c.requires.table_value in omega (arith, e, tables_length)
-
-pub wider-requires : goal.wider-requires
-wider-requires c = search rules
 
 pub overflow_add-i : goal.overflow_add-i
 overflow_add-i c = let a = c.args in let h = short a.list (search rules) in omega (arith, h, sized a.list c.requires.table_value (search rules) c.wider.ensures)
 
 pub loop-i-init : goal.loop-i-init
 loop-i-init c = let a = c.args in (refl, subst (λ n. Piling a.list a.at a.top a.room.now a.room.now (8 * a.list + n) a.top) (sym (sized a.list c.requires.table_value (search rules) c.wider.ensures)) (piling a.list a.at a.top a.room.now (search rules)))
-
-pub overflow_sub-i : goal.overflow_sub-i
-overflow_sub-i c = search rules
 
 pub overflow_sub-t : goal.overflow_sub-t
 overflow_sub-t c = let p = c.loop-i.invariant.1 in omega (arith, p.height, p.few, c.loop-i.invariant.0)
@@ -46,9 +34,6 @@ overflow_add-i-in-loop-i c = let p = c.loop-i.invariant.1 in omega (arith, p.hig
 
 pub bounds-table-i : goal.bounds-table-i
 bounds-table-i c = let p = c.loop-i.invariant.1 in let e = ap length c.requires.table_value in omega (arith, e, tables_length, p.high, p.few, p.listed)
-
-pub wide-v-requires : goal.wide-v-requires
-wide-v-requires c = search rules
 
 pub cell-requires : goal.cell-requires
 cell-requires c =
@@ -61,9 +46,6 @@ offset_bounds-room-t c = let p = c.loop-i.invariant.1 in omega (arith, p.height)
 
 pub bounds-room-t : goal.bounds-room-t
 bounds-room-t c = let p = c.loop-i.invariant.1 in omega (arith, p.height, p.same_length, p.few, c.loop-i.invariant.0)
-
-pub loop-i-smaller : goal.loop-i-smaller
-loop-i-smaller c = search rules
 
 pub loop-i-preserved : goal.loop-i-preserved
 loop-i-preserved c =

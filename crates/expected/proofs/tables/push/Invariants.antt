@@ -1,13 +1,7 @@
 -- `push` meets its contract: what is there of the list grows from its end. The measure is what is left of it.
-use Prim.Native.Nat.{ℕ, ◌+◌, ◌*◌, ◌-◌, ◌<◌}
-use mathlib.Core.List.{List}
-use mathlib.Core.Path.{◌≡◌, refl, sym, ap, subst, ◌∙◌}
-use native.Mathlib.Omega.{arith}
-use borrow.Author.Rules.{rules}
-use lib.ListN.{length, get_or}
-use Rattle.expected.specs.Tables.{lengths, lists, tables}
-use Rattle.expected.proofs.Lent.{tables_length, in_lengths, in_lists}
-use Rattle.expected.proofs.Laws.{short, Piling, piling, piled_down, pushed, number}
+use Prim.Native.Nat.{◌*◌}
+use mathlib.Core.Path.{◌≡◌}
+use Rattle.expected.proofs.Laws.{Piling}
 use Rattle.expected.proofs.tables.push.Given as goal
 
 abbrev pub invariant-loop-i : goal.invariant-loop-i
