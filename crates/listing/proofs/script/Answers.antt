@@ -45,7 +45,7 @@ pub slice_bounds-tokens-end : goal.slice_bounds-tokens-end
 slice_bounds-tokens-end c = search rules
 
 pub slice_bounds-parse-end-2 : goal.slice_bounds-parse-end-2
-slice_bounds-parse-end-2 c = let start = c in let fill = c.fill in used_length fill.new.1.1.1.0 start.args.n (measured start.requires) fill.auto.1.1.1.0
+slice_bounds-parse-end-2 c = let start = c in let fill = c.fill in used_length fill.new.1.1.1.0 c.args.n (measured c.requires) fill.auto.1.1.1.0
 
 pub slice_bounds-parse-end-3 : goal.slice_bounds-parse-end-3
 slice_bounds-parse-end-3 c = search rules
@@ -95,7 +95,7 @@ pub slice_bounds-tokens-end-2 : goal.slice_bounds-tokens-end-2
 slice_bounds-tokens-end-2 c = search rules
 
 pub slice_bounds-refused-end : goal.slice_bounds-refused-end
-slice_bounds-refused-end c = let start = c in let fill = c.fill in used_length fill.new.1.1.1.0 start.args.n (measured start.requires) fill.auto.1.1.1.0
+slice_bounds-refused-end c = let start = c in let fill = c.fill in used_length fill.new.1.1.1.0 c.args.n (measured c.requires) fill.auto.1.1.1.0
 
 pub refused-requires : goal.refused-requires
 refused-requires c = search rules

@@ -1,11 +1,6 @@
 -- `wire::input::fill` meets its contract: the tokens up to i are written.
-use Prim.Native.Nat.{ℕ, ◌+◌, ◌-◌, ◌*◌, ◌≤◌}
-use borrow.Author.Rules.{rules}
-use native.Mathlib.Omega.{arith}
+use Prim.Native.Nat.{ℕ, ◌-◌, ◌≤◌}
 use mathlib.Core.List.{List}
-use mathlib.Core.Path.{◌≡◌, refl}
-use lib.ListN.{length-set}
-use Rattle.wire.proofs.Scanning.{filled_more}
 use Rattle.wire.specs.Scanned.{TokensFilled}
 use Rattle.wire.proofs.input.fill.Given as goal
 

@@ -1,10 +1,5 @@
 -- `wire::input::marked` meets its contract: the records up to i have their marks.
-use borrow.Author.Rules.{rules}
 use Prim.Native.Nat.{◌-◌, ◌≤◌}
-use native.Mathlib.Omega.{arith}
-use mathlib.Core.Path.{◌≡◌}
-use Rattle.spelling.proofs.Deciding.{holds, fails}
-use Rattle.wire.proofs.Scanning.{marks_more}
 use Rattle.wire.specs.Scanned.{Marks}
 use Rattle.wire.proofs.input.marked.Given as goal
 

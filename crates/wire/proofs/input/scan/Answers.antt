@@ -11,44 +11,23 @@ use Rattle.wire.proofs.input.scan.Goals as goal
 pub returns-then-input-lt6 : goal.returns-then-input-lt6
 returns-then-input-lt6 c = bad (λ size n m. omega (arith, m.ends))
 
-pub bounds-input-0 : goal.bounds-input-0
-bounds-input-0 c = search rules
-
 pub returns-then-input-ne75 : goal.returns-then-input-ne75
 returns-then-input-ne75 c = bad (λ size n m. c.if-input-ne75.true m.marked.first)
-
-pub bounds-input-1 : goal.bounds-input-1
-bounds-input-1 c = search rules
 
 pub returns-then-input-ne83 : goal.returns-then-input-ne83
 returns-then-input-ne83 c = bad (λ size n m. c.if-input-ne83.true m.marked.next)
 
-pub four-size-requires : goal.four-size-requires
-four-size-requires c = search rules
-
-pub overflow_cast-size : goal.overflow_cast-size
-overflow_cast-size c = search rules
-
 pub returns-then-size-gt8192 : goal.returns-then-size-gt8192
 returns-then-size-gt8192 c = bad (λ size n m. omega (arith, m.size_is, m.most_bytes, c.four-size.ensures))
 
-pub overflow_add-from : goal.overflow_add-from
-overflow_add-from c = search rules
-
 pub returns-then-input-from : goal.returns-then-input-from
 returns-then-input-from c = bad (λ size n m. omega (arith, m.size_is, m.ends, c.four-size.ensures))
-
-pub overflow_sub-left : goal.overflow_sub-left
-overflow_sub-left c = search rules
 
 pub returns-then-left-ne0 : goal.returns-then-left-ne0
 returns-then-left-ne0 c = bad (λ size n m. omega (arith, m.size_is, m.ends, c.four-size.ensures))
 
 pub returns-then-n-gt512 : goal.returns-then-n-gt512
 returns-then-n-gt512 c = bad (λ size n m. omega (arith, m.size_is, m.ends, m.most_tokens, c.four-size.ensures))
-
-pub marked-requires : goal.marked-requires
-marked-requires c = search rules
 
 pub returns-then-marked : goal.returns-then-marked
 returns-then-marked c =

@@ -2,7 +2,6 @@
 use native.Mathlib.Omega.{arith}
 use Rattle.spelling.proofs.display.Writing.{joined}
 use Rattle.wire.specs.Printed.{line}
-use borrow.Author.Rules.{rules}
 use Rattle.wire.proofs.output.line.Goals as goal
 
 pub returns : goal.returns
@@ -11,4 +10,4 @@ returns c =
     let lead = c.put-a.ensures in
     let values = c.numbers-b.ensures in
     let end = c.put.ensures in
-    record { put = joined lead (joined values.put-a end); most = omega (arith, lead.ends, values.most, end.ends) }
+    record { put = joined lead (joined values.put end); most = omega (arith, lead.ends, values.most, end.ends) }

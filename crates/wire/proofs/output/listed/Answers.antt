@@ -1,7 +1,6 @@
 -- `wire::output::listed` meets its contract: its parts one after the other.
 use Rattle.spelling.proofs.display.Writing.{joined}
 use Rattle.wire.specs.Printed.{listed}
-use borrow.Author.Rules.{rules}
 use Rattle.wire.proofs.output.listed.Goals as goal
 
 pub returns : goal.returns

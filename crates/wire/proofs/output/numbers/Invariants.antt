@@ -1,12 +1,8 @@
 -- `wire::output::numbers` meets its contract: the numbers up to i are written.
-use borrow.Author.Rules.{rules}
 use Prim.Native.Nat.{ℕ, ◌-◌, ◌*◌, ◌≤◌}
-use native.Mathlib.Omega.{arith}
 use mathlib.Core.List.{List}
-use mathlib.Core.Path.{◌≡◌, refl, ◌∙◌}
-use lib.ListN.{length, take, get_or}
-use Rattle.wire.proofs.Decimals.{decimal_short}
-use Rattle.wire.proofs.Fields.{no_field, another, all_fields}
+use mathlib.Core.Path.{◌≡◌}
+use lib.ListN.{length, take}
 use Rattle.wire.specs.Lines.{PutWithin}
 use Rattle.wire.specs.Printed.{fields}
 use Rattle.wire.proofs.output.numbers.Given as goal

@@ -3,13 +3,11 @@ use native.Mathlib.Omega.{arith}
 use Rattle.diagnostics.proofs.Messages.{text_fits}
 use Rattle.spelling.proofs.display.Writing.{joined}
 use Rattle.wire.specs.Printed.{refused}
-use borrow.Author.Rules.{rules}
 use Rattle.wire.proofs.output.refused.Goals as goal
 
 pub put-requires : goal.put-requires
 put-requires c =
-    let start = c in
-    omega (arith, start.requires, c.line-a.ensures.most, c.told-end_of_text.ensures.ends, text_fits start.args.code start.args.expected c.found.result)
+    omega (arith, c.requires, c.line-a.ensures.most, c.told-end_of_text.ensures.ends, text_fits c.args.code c.args.expected c.found.result)
 
 pub returns : goal.returns
 unfolding refused

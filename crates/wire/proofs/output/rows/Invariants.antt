@@ -1,13 +1,10 @@
 -- `wire::output::rows` meets its contract: the lines of the rows up to i are written.
 use Prim.Native.Nat.{ℕ, ◌-◌, ◌*◌, ◌≤◌}
-use native.Mathlib.Omega.{arith}
 use mathlib.Core.List.{List}
-use mathlib.Core.Path.{◌≡◌, refl, ◌∙◌}
+use mathlib.Core.Path.{◌≡◌}
 use lib.ListN.{length}
 use Rattle.wire.specs.Lines.{PutWithin, line_size}
 use Rattle.wire.specs.Printed.{rows}
-use Rattle.wire.proofs.Lines.{no_row, another_row, row_there}
-use borrow.Author.Rules.{rules}
 use Rattle.wire.proofs.output.rows.Given as goal
 
 pub record Going (lead : List ℕ) (width : ℕ) (source : List ℕ) (n at : ℕ) (before after : List ℕ) (k i : ℕ) : Type 0 where
