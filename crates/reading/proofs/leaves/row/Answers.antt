@@ -17,8 +17,3 @@ returns-in-38 c = rw c.in-38.is c.boolean-in-38.ensures
 
 pub returns-in-39 : goal.returns-in-39
 returns-in-39 c = rw c.in-39.is c.nil.ensures
-
-pub returns-in_default : goal.returns-in_default
-returns-in_default c =
-    let m = c.in_default.rest in
-    simp (ne_eqb _ _ m.0.0.0.0.1, ne_eqb _ _ m.0.0.0.1, ne_eqb _ _ m.0.0.1, ne_eqb _ _ m.0.1, ne_eqb _ _ m.1) c.number.ensures

@@ -8,8 +8,3 @@ returns-in-25 c = rw c.in-25.is c.variable.ensures
 
 pub returns-in-26 : goal.returns-in-26
 returns-in-26 c = rw c.in-26.is c.constant.ensures
-
-pub returns-in_default : goal.returns-in_default
-returns-in_default c =
-    let m = c.in_default.rest in
-    simp (ne_eqb _ _ m.0.1, ne_eqb _ _ m.1) c.ref_.ensures

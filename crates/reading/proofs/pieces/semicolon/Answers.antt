@@ -38,4 +38,4 @@ pub returns-in_default : goal.returns-in_default
 unfolding Ends
 returns-in_default c =
     let k = c.kind_at-kind.ensures in
-    record { says = (λ e. c.if-kind-eq-SEMICOLON.false (k ∙ e), λ e. c.if-kind-eq-RIGHT_BRACE.false (k ∙ e), shut c.in_default.rest.1, refl) }
+    record { says = (λ e. c.if-kind-eq-SEMICOLON.false (k ∙ e), λ e. c.if-kind-eq-RIGHT_BRACE.false (k ∙ e), shut (search rules), refl) }
