@@ -1,8 +1,5 @@
 -- `first_high` meets its contract: the loop keeps that every byte passed is at most 127.
-use borrow.Author.Rules.{rules}
-use Prim.Native.Nat.{◌-◌, ◌≤◌}
-use lib.ListN.{length, get_or}
-use Rattle.door.proofs.Searching.{Passed, passed_none, passed_more}
+use Rattle.door.proofs.Searching.{passed_none, passed_more}
 use Rattle.door.proofs.first_high.Goals as goal
 
 pub loop-i-init : goal.loop-i-init

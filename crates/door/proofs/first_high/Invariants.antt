@@ -1,8 +1,7 @@
 -- `first_high` meets its contract: the loop keeps that every byte passed is at most 127.
-use borrow.Author.Rules.{rules}
 use Prim.Native.Nat.{◌-◌, ◌≤◌}
 use lib.ListN.{length, get_or}
-use Rattle.door.proofs.Searching.{Passed, passed_none, passed_more}
+use Rattle.door.proofs.Searching.{Passed}
 use Rattle.door.proofs.first_high.Given as goal
 
 abbrev pub invariant-loop-i : goal.invariant-loop-i

@@ -1,13 +1,9 @@
 -- `first_outside` meets its contract: the loop keeps that a guard has every token passed.
-use borrow.Author.Rules.{rules}
-use Prim.Native.Nat.{ℕ, ◌-◌, ◌/◌}
-use mathlib.Core.Bool.{Bool, true, false, not}
-use mathlib.Core.Path.{◌≡◌, sym, ap, subst, ◌∙◌}
-use lib.Dec.{T}
+use Prim.Native.Nat.{◌-◌, ◌/◌}
 use lib.ListN.{length}
 use Rattle.grammar.specs.Door.{Inside}
-use Rattle.grammar.specs.Profile.{Profile, allowed}
-use Rattle.door.proofs.Searching.{Passed, passed_none, passed_more, found_here, found_none}
+use Rattle.grammar.specs.Profile.{Profile}
+use Rattle.door.proofs.Searching.{Passed}
 use Rattle.door.proofs.first_outside.Given as goal
 
 abbrev pub invariant-loop-i : goal.invariant-loop-i

@@ -1,11 +1,7 @@
 -- `first_unclosed` meets its contract: the loop keeps that every token passed is Eof just where it is last.
-use Prim.Native.Nat.{◌-◌, ◌/◌}
-use borrow.Author.Rules.{rules}
 use native.Mathlib.Omega.{arith}
 use mathlib.Core.Path.{sym, ◌∙◌}
-use lib.ListN.{length}
-use Rattle.grammar.specs.Door.{Closed}
-use Rattle.door.proofs.Searching.{Passed, passed_none, passed_more, found_here, found_none}
+use Rattle.door.proofs.Searching.{passed_none, passed_more, found_here, found_none}
 use Rattle.door.proofs.first_unclosed.Goals as goal
 
 pub loop-i-init : goal.loop-i-init

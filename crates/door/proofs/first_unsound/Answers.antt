@@ -1,12 +1,7 @@
 -- `first_unsound` meets its contract: the loop keeps that every token passed is sound. The table of spellings that it lends is made before it.
-use borrow.Author.Tests.{not-true, not-false}
 use Rattle.spelling.proofs.Deciding.{held, failed}
 use Rattle.spelling.proofs.Spellings.{whole}
-use borrow.Author.Rules.{rules}
-use Prim.Native.Nat.{◌-◌, ◌/◌}
-use lib.ListN.{length}
-use Rattle.grammar.specs.Door.{Sound}
-use Rattle.door.proofs.Searching.{Passed, passed_none, passed_more, found_here}
+use Rattle.door.proofs.Searching.{passed_none, passed_more, found_here}
 use Rattle.door.proofs.first_unsound.Goals as goal
 
 pub loop-i-init : goal.loop-i-init
@@ -16,7 +11,7 @@ pub slice_bounds-sound-end : goal.slice_bounds-sound-end
 slice_bounds-sound-end c = whole c.words-table.ensures
 
 pub returns-then-not-sound : goal.returns-then-not-sound
-returns-then-not-sound c = found_here c.loop-i.invariant (failed (rw (not-true c.sound.result c.if-not-sound.true) at c.sound.ensures))
+returns-then-not-sound c = found_here c.loop-i.invariant (failed (rw c.if-not-sound.true at c.sound.ensures))
 
 pub loop-i-preserved : goal.loop-i-preserved
-loop-i-preserved c = passed_more c.loop-i.invariant c.loop-i-test.true (held (rw (not-false c.sound.result c.if-not-sound.false) at c.sound.ensures))
+loop-i-preserved c = passed_more c.loop-i.invariant c.loop-i-test.true (held (rw c.if-not-sound.false at c.sound.ensures))

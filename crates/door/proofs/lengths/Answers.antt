@@ -13,14 +13,19 @@ use Rattle.door.proofs.lengths.Goals as goal
 module _ {asks : ℕ → Type 0} (none : asks 0) where
   first : Passed asks 6 1
   first = passed_more passed_none (omega arith) none
+
   second : asks 1 → Passed asks 6 2
   second l = passed_more first (omega arith) l
+
   third : asks 1 → asks 2 → Passed asks 6 3
   third l t = passed_more (second l) (omega arith) t
+
   fourth : asks 1 → asks 2 → asks 3 → Passed asks 6 4
   fourth l t d = passed_more (third l t) (omega arith) d
+
   fifth : asks 1 → asks 2 → asks 3 → asks 4 → Passed asks 6 5
   fifth l t d n = passed_more (fourth l t d) (omega arith) n
+
   all : asks 1 → asks 2 → asks 3 → asks 4 → asks 5 → Passed asks 6 6
   all l t d n r = passed_more (fifth l t d n) (omega arith) r
 

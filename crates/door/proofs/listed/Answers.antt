@@ -1,7 +1,6 @@
 -- `listed` meets its contract: what the two searches found, with the numbers of the token, and else what the profile says.
 use Rattle.door.specs.Entry.{ListChecked}
 use Rattle.door.proofs.Searching.{first_of, all_have}
-use borrow.Author.Rules.{rules}
 use Rattle.door.proofs.listed.Goals as goal
 
 pub returns-then-bad-count : goal.returns-then-bad-count

@@ -3,7 +3,6 @@ use mathlib.Core.Path.{◌≡◌}
 use Prim.Native.Nat.{◌-◌}
 use native.Mathlib.Omega.{arith}
 use Rattle.spelling.proofs.Deciding.{fails, carried}
-use borrow.Author.Rules.{rules}
 use Rattle.door.proofs.sound.Goals as goal
 
 pub returns-then-kind-gt-EOF : goal.returns-then-kind-gt-EOF
@@ -19,7 +18,7 @@ pub returns-then-start-end_at : goal.returns-then-start-end_at
 returns-then-start-end_at c = fails (λ z. let k = z.apart (c.args.at - 1) (omega arith) in omega (arith, c.start_at-start.ensures, c.end_at.ensures))
 
 pub returns-then-at-gt0 : goal.returns-then-at-gt0
-returns-then-at-gt0 c = carried (λ f. record { known = omega (arith, c.kind_at-kind.ensures); forward = omega (arith, c.start_at-start.ensures, c.end_at-end.ensures); inside = omega (arith, c.end_at-end.ensures); apart = λ j e. let y : j ≡ c.args.at - 1 = omega arith in rw y (omega (arith, c.start_at-start.ensures, c.end_at.ensures)); fits = f }) (λ z. z.fits) (rw (c.kind_at-kind.ensures, c.start_at-start.ensures, c.end_at-end.ensures) at c.fits-2.ensures)
+returns-then-at-gt0 c = carried (λ f. record { known = omega (arith, c.kind_at-kind.ensures); forward = omega (arith, c.start_at-start.ensures, c.end_at-end.ensures); inside = omega (arith, c.end_at-end.ensures); apart = λ j e. let y : j ≡ c.args.at - 1 = omega arith in rw y (omega (arith, c.start_at-start.ensures, c.end_at.ensures)); fits = f }) (λ z. z.fits) (rw (c.kind_at-kind.ensures, c.start_at-start.ensures, c.end_at-end.ensures) at c.fits.ensures)
 
 pub returns : goal.returns
-returns c = carried (λ f. record { known = omega (arith, c.kind_at-kind.ensures); forward = omega (arith, c.start_at-start.ensures, c.end_at-end.ensures); inside = omega (arith, c.end_at-end.ensures); apart = λ j e. absurd (omega arith); fits = f }) (λ z. z.fits) (rw (c.kind_at-kind.ensures, c.start_at-start.ensures, c.end_at-end.ensures) at c.before.fits3.ensures)
+returns c = carried (λ f. record { known = omega (arith, c.kind_at-kind.ensures); forward = omega (arith, c.start_at-start.ensures, c.end_at-end.ensures); inside = omega (arith, c.end_at-end.ensures); apart = λ j e. absurd (omega arith); fits = f }) (λ z. z.fits) (rw (c.kind_at-kind.ensures, c.start_at-start.ensures, c.end_at-end.ensures) at c.fits-2.ensures)

@@ -1,6 +1,4 @@
 -- `within` meets its contract: a script has any token, and of a guard the search tells.
-use native.Mathlib.Omega.{arith}
-use borrow.Author.Rules.{rules}
 use Rattle.door.specs.Entry.{ProfileChecked}
 use Rattle.door.proofs.Searching.{first_of, all_have}
 use Rattle.door.proofs.within.Goals as goal
