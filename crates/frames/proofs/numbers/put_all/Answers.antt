@@ -1,10 +1,7 @@
 -- `numbers::put_all` meets its contract: number by number, what is left makes the whole.
-use Prim.Native.Nat.{◌-◌, ◌≤◌}
 use borrow.Author.Rules.{rules}
 use native.Mathlib.Omega.{arith}
-use mathlib.Core.Path.{◌≡◌}
-use lib.ListN.{length}
-use Rattle.frames.proofs.Listing.{Putting, putting, put_more, put_done}
+use Rattle.frames.proofs.Listing.{putting, put_more, put_done}
 use Rattle.frames.proofs.numbers.put_all.Goals as goal
 
 pub loop-i-init : goal.loop-i-init

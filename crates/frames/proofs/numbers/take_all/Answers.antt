@@ -1,10 +1,9 @@
 -- `numbers::take_all` meets its contract: number by number, what is left makes the whole.
-use Prim.Native.Nat.{◌-◌, ◌≤◌}
 use borrow.Author.Rules.{rules}
 use native.Mathlib.Omega.{arith}
-use mathlib.Core.Path.{◌≡◌, ap}
-use lib.ListN.{length, set}
-use Rattle.frames.proofs.Listing.{Taking, taking, take_more, take_done}
+use mathlib.Core.Path.{ap}
+use lib.ListN.{set}
+use Rattle.frames.proofs.Listing.{taking, take_more, take_done}
 use Rattle.frames.proofs.numbers.take_all.Goals as goal
 
 pub loop-i-init : goal.loop-i-init

@@ -1,10 +1,8 @@
 -- `numbers::take_all` meets its contract: number by number, what is left makes the whole.
 use Prim.Native.Nat.{◌-◌, ◌≤◌}
-use borrow.Author.Rules.{rules}
-use native.Mathlib.Omega.{arith}
-use mathlib.Core.Path.{◌≡◌, ap}
-use lib.ListN.{length, set}
-use Rattle.frames.proofs.Listing.{Taking, taking, take_more, take_done}
+use mathlib.Core.Path.{◌≡◌}
+use lib.ListN.{length}
+use Rattle.frames.proofs.Listing.{Taking}
 use Rattle.frames.proofs.numbers.take_all.Given as goal
 
 abbrev pub invariant-loop-i : goal.invariant-loop-i
