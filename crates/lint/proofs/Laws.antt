@@ -19,7 +19,7 @@ use Rattle.grammar.specs.Token.{count, kind, start, end}
 use Rattle.spelling.specs.Decides.{Decides}
 use Rattle.spelling.proofs.Deciding.{holds, fails, carried}
 use Rattle.diagnostics.specs.Line.{ends}
-use Rattle.lint.specs.Reach.{number, kind_of, start_of, end_of, parent_of, last_numbers, last, Takes, next, Ends, here, Past, FirstPast, left_number, Sign, opens, closes, counted, after, brackets, encloses, enclosing, in_block}
+use Rattle.lint.specs.Reach.{number, kind_of, start_of, end_of, parent_of, last_numbers, last, Takes, Ends, here, Past, FirstPast, left_number, Sign, opens, closes, counted, after, brackets, encloses, enclosing, in_block}
 use Rattle.lint.specs.Rules.{LineEnds, OnNewLine, joining, closed, going_on, Reached, ReachingNot, CutAt, CutOff, GoingOn, LongString, Any, Next}
 
 -- a search from a number on: it has come to i, and none of those before is what is looked for

@@ -1,10 +1,6 @@
 -- `breaks` meets its contract: it looks at one byte after another, up to the last that is asked for or that the text has.
-use borrow.Author.Rules.{rules}
-use Prim.Native.Nat.{◌-◌}
-use mathlib.Core.Bool.{true}
-use mathlib.Core.Path.{◌≡◌, sym, ◌∙◌}
-use Rattle.diagnostics.specs.Line.{ends}
-use Rattle.lint.proofs.Laws.{Passed, begun, one_more, line_found, no_line, no_text, not_both}
+use mathlib.Core.Path.{sym, ◌∙◌}
+use Rattle.lint.proofs.Laws.{begun, one_more, line_found, no_line, no_text, not_both}
 use Rattle.lint.proofs.breaks.Goals as goal
 
 pub loop-i-init : goal.loop-i-init

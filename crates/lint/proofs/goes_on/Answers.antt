@@ -1,6 +1,5 @@
 -- `goes_on` meets its contract: each kind is one of the four or none.
 use native.Mathlib.Omega.{arith}
-use mathlib.Core.Logic.{inl, inr}
 use mathlib.Core.Path.{sym}
 use Rattle.grammar.specs.Pattern.{among}
 use Rattle.grammar.proofs.Ranges.{true_on, not_among, of_two}
@@ -11,7 +10,7 @@ pub returns-in_default : goal.returns-in_default
 returns-in_default c = sym (not_among c.args.kind going_on (omega arith, (omega arith, (omega arith, (omega arith, tt)))))
 
 pub returns-in_default-2 : goal.returns-in_default-2
-returns-in_default-2 c = sym (not_among c.args.kind going_on (omega arith, (omega arith, (λ e. c.in_default-1.rest.1 (inl e), (λ e. c.in_default-1.rest.1 (inr e), tt)))))
+returns-in_default-2 c = sym (not_among c.args.kind going_on (omega arith, (omega arith, (grind arith, (grind arith, tt)))))
 
 pub returns-in-1 : goal.returns-in-1
 returns-in-1 c = sym (of_two (among going_on) tt c.in-1.is)

@@ -1,5 +1,4 @@
 -- `is_any` meets its contract: the first rule that is met, or the last.
-use borrow.Author.Rules.{rules}
 use Rattle.spelling.proofs.Deciding.{holds, held, failed, said}
 use Rattle.lint.specs.Rules.{Any}
 use Rattle.lint.proofs.Laws.{any_of}

@@ -7,7 +7,7 @@ use Rattle.lint.specs.Rules.{closed}
 use Rattle.lint.proofs.is_closed.Goals as goal
 
 pub returns-in_default : goal.returns-in_default
-returns-in_default c = sym (not_among c.args.kind closed (c.in_default-1.rest.1, (omega arith, (omega arith, (omega arith, tt)))))
+returns-in_default c = sym (not_among c.args.kind closed (omega arith, (omega arith, (omega arith, (omega arith, tt)))))
 
 pub returns-in_default-2 : goal.returns-in_default-2
 returns-in_default-2 c = sym (not_among c.args.kind closed (omega arith, (omega arith, (omega arith, (omega arith, tt)))))

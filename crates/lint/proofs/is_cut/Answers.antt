@@ -1,5 +1,4 @@
 -- `is_cut` meets its contract: each of three tests can fail, and where none does the rule is met.
-use borrow.Author.Rules.{rules}
 use Rattle.lint.proofs.Laws.{cut_elsewhere, no_brace, cut_here}
 use Rattle.lint.proofs.is_cut.Goals as goal
 

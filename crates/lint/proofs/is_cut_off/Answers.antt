@@ -1,16 +1,12 @@
 -- `is_cut_off` meets its contract: a statement that ends at its own `}`, and one token after another.
-use borrow.Author.Rules.{rules}
-use borrow.Author.Tests.{not-true, not-false}
-use Prim.Native.Nat.{◌-◌, ◌≤◌}
 use native.Mathlib.Omega.{arith}
-use Rattle.lint.specs.Rules.{CutAt}
 use Rattle.spelling.proofs.Deciding.{held, failed, said}
 use Rattle.children.proofs.Laws.{number_is}
-use Rattle.lint.proofs.Laws.{Passed, begun, one_more, not_closed, no_statement, cut_found, cut_nowhere}
+use Rattle.lint.proofs.Laws.{begun, one_more, not_closed, no_statement, cut_found, cut_nowhere}
 use Rattle.lint.proofs.is_cut_off.Goals as goal
 
 pub returns-then-not-is_closed : goal.returns-then-not-is_closed
-returns-then-not-is_closed c = not_closed (number_is c.node.ensures) c.is_closed.ensures (not-true _ c.if-not-is_closed.true)
+returns-then-not-is_closed c = not_closed (number_is c.node.ensures) c.is_closed.ensures c.if-not-is_closed.true
 
 pub returns-then-node-ne-BLOCK : goal.returns-then-node-ne-BLOCK
 returns-then-node-ne-BLOCK c = no_statement (number_is c.node-parent.ensures) (number_is c.node-2.ensures) c.if-node-ne-BLOCK.true
@@ -20,8 +16,7 @@ loop-k-init c = (begun 0, omega arith)
 
 pub returns-then-is_cut : goal.returns-then-is_cut
 returns-then-is_cut c =
-    let m = c in
-    cut_found (number_is m.node.ensures) m.is_closed.ensures (not-false _ m.if-not-is_closed.false) (number_is m.node-parent.ensures) (number_is m.node-2.ensures) m.if-node-ne-BLOCK.false (number_is m.node-end.ensures) (held (said c.is_cut.ensures c.if-is_cut.true))
+    cut_found (number_is c.node.ensures) c.is_closed.ensures c.if-not-is_closed.false (number_is c.node-parent.ensures) (number_is c.node-2.ensures) c.if-node-ne-BLOCK.false (number_is c.node-end.ensures) (held (said c.is_cut.ensures c.if-is_cut.true))
 
 pub loop-k-preserved : goal.loop-k-preserved
 loop-k-preserved c = let l = c.loop-k in (one_more l.invariant.0 (failed (said c.is_cut.ensures c.if-is_cut.false)), omega arith)

@@ -1,12 +1,7 @@
 -- `is_cut_off` meets its contract: a statement that ends at its own `}`, and one token after another.
-use borrow.Author.Rules.{rules}
-use borrow.Author.Tests.{not-true, not-false}
 use Prim.Native.Nat.{◌-◌, ◌≤◌}
-use native.Mathlib.Omega.{arith}
 use Rattle.lint.specs.Rules.{CutAt}
-use Rattle.spelling.proofs.Deciding.{held, failed, said}
-use Rattle.children.proofs.Laws.{number_is}
-use Rattle.lint.proofs.Laws.{Passed, begun, one_more, not_closed, no_statement, cut_found, cut_nowhere}
+use Rattle.lint.proofs.Laws.{Passed}
 use Rattle.lint.proofs.is_cut_off.Given as goal
 
 abbrev pub invariant-loop-k : goal.invariant-loop-k

@@ -1,5 +1,4 @@
 -- `is_going_on` meets its contract: by the kind of the row, and by where its token stands.
-use borrow.Author.Rules.{rules}
 use Rattle.children.proofs.Laws.{number_is}
 use Rattle.lint.proofs.Laws.{call_goes_on, sum_goes_on, neither, other_sign}
 use Rattle.lint.proofs.is_going_on.Goals as goal

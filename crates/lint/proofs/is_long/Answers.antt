@@ -1,5 +1,4 @@
 -- `is_long` meets its contract: the row is a string or it is not, and its span has the lines.
-use borrow.Author.Rules.{rules}
 use Rattle.children.proofs.Laws.{number_is}
 use Rattle.lint.proofs.Laws.{no_string, a_string}
 use Rattle.lint.proofs.is_long.Goals as goal

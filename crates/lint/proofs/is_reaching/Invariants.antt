@@ -1,11 +1,8 @@
 -- `is_reaching` meets its contract: one row after another of what the `not` took.
-use borrow.Author.Rules.{rules}
 use mathlib.Core.Path.{◌≡◌}
 use Rattle.lint.specs.Reach.{last}
 use Rattle.lint.specs.Rules.{Reached}
-use Rattle.spelling.proofs.Deciding.{held, failed, said}
-use Rattle.children.proofs.Laws.{number_is}
-use Rattle.lint.proofs.Laws.{Walked, setting_out, a_step, reaching_from, reaching_nothing, no_not}
+use Rattle.lint.proofs.Laws.{Walked}
 use Rattle.lint.proofs.is_reaching.Given as goal
 
 abbrev pub invariant-loop-x : goal.invariant-loop-x

@@ -1,5 +1,4 @@
 -- `meets` meets its contract: each rule has its own function.
-use borrow.Author.Rules.{rules}
 use Rattle.lint.specs.Rules.{Meets}
 use Rattle.lint.proofs.meets.Goals as goal
 

@@ -1,9 +1,6 @@
 -- `next` meets its contract: one row after another.
-use borrow.Author.Rules.{rules}
-use Prim.Native.Nat.{◌-◌}
 use Rattle.spelling.proofs.Deciding.{held, failed, said}
-use Rattle.lint.specs.Rules.{Meets}
-use Rattle.lint.proofs.Laws.{Passed, begun, one_more, next_found, next_none}
+use Rattle.lint.proofs.Laws.{begun, one_more, next_found, next_none}
 use Rattle.lint.proofs.next.Goals as goal
 
 pub loop-row-init : goal.loop-row-init

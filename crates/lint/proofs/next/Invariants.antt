@@ -1,9 +1,7 @@
 -- `next` meets its contract: one row after another.
-use borrow.Author.Rules.{rules}
 use Prim.Native.Nat.{◌-◌}
-use Rattle.spelling.proofs.Deciding.{held, failed, said}
 use Rattle.lint.specs.Rules.{Meets}
-use Rattle.lint.proofs.Laws.{Passed, begun, one_more, next_found, next_none}
+use Rattle.lint.proofs.Laws.{Passed}
 use Rattle.lint.proofs.next.Given as goal
 
 abbrev pub invariant-loop-row : goal.invariant-loop-row

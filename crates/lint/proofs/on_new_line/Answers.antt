@@ -1,6 +1,4 @@
 -- `on_new_line` meets its contract: the first token and those past the list have no line before them, and in parentheses a line that ends is none.
-use borrow.Author.Rules.{rules}
-use borrow.Author.Tests.{not-true, not-false}
 use native.Mathlib.Omega.{arith}
 use mathlib.Core.Path.{sym, ◌∙◌}
 use Rattle.lint.proofs.Laws.{first_token, no_token, in_brackets, between}
@@ -16,7 +14,7 @@ pub in_block-requires : goal.in_block-requires
 in_block-requires c = c.if-k-tokens.false
 
 pub returns-then-not-in_block : goal.returns-then-not-in_block
-returns-then-not-in_block c = in_brackets (sym c.in_block.ensures ∙ not-true _ c.if-not-in_block.true)
+returns-then-not-in_block c = in_brackets (sym c.in_block.ensures ∙ c.if-not-in_block.true)
 
 pub overflow_sub-k : goal.overflow_sub-k
 overflow_sub-k c = omega (arith, c.if-k-eq0.false)
@@ -32,7 +30,7 @@ returns c =
     between
     (omega (arith, c.if-k-eq0.false))
     c.if-k-tokens.false
-    (sym c.in_block.ensures ∙ not-false _ c.if-not-in_block.false)
+    (sym c.in_block.ensures ∙ c.if-not-in_block.false)
     c.end_at.ensures
     c.start_at.ensures
     c.breaks.ensures

@@ -1,15 +1,13 @@
 -- `reached` meets its contract: an `and` or an `or`, whose sign has no bracket open before it.
-use borrow.Author.Rules.{rules}
-use borrow.Author.Tests.{not-true, not-false}
 use Rattle.children.proofs.Laws.{number_is}
 use Rattle.lint.proofs.Laws.{reached_by, not_joined}
 use Rattle.lint.proofs.reached.Goals as goal
 
 pub returns-then-not-joins : goal.returns-then-not-joins
-returns-then-not-joins c = not_joined (number_is c.node.ensures) c.joins.ensures (not-true _ c.if-not-joins.true)
+returns-then-not-joins c = not_joined (number_is c.node.ensures) c.joins.ensures c.if-not-joins.true
 
 pub brackets-requires : goal.brackets-requires
 brackets-requires c = c.sign-k.ensures.first.within
 
 pub returns : goal.returns
-returns c = reached_by (number_is c.node.ensures) c.joins.ensures (not-false _ c.if-not-joins.false) c.sign-k.ensures (number_is c.node-2.ensures) c.brackets.ensures
+returns c = reached_by (number_is c.node.ensures) c.joins.ensures c.if-not-joins.false c.sign-k.ensures (number_is c.node-2.ensures) c.brackets.ensures

@@ -1,10 +1,7 @@
 -- `reach::brackets` meets its contract: one token after another.
-use borrow.Author.Rules.{rules}
-use Prim.Native.Nat.{◌+◌, ◌-◌, ◌≤◌}
-use native.Mathlib.Omega.{arith}
+use Prim.Native.Nat.{◌-◌, ◌≤◌}
 use mathlib.Core.Path.{◌≡◌}
 use Rattle.lint.specs.Reach.{brackets}
-use Rattle.lint.proofs.Laws.{few, one_bracket_more, none_yet}
 use Rattle.lint.proofs.reach.brackets.Given as goal
 
 abbrev pub invariant-loop-i : goal.invariant-loop-i

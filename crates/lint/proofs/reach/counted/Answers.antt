@@ -1,18 +1,16 @@
 -- `reach::counted` meets its contract: one more, as many, or one fewer where there is one.
-use borrow.Author.Rules.{rules}
 use native.Mathlib.Omega.{arith}
 use mathlib.Core.Path.{refl}
-use borrow.Author.Tests.{not-true, not-false}
 use Rattle.lint.proofs.reach.counted.Goals as goal
 
 pub returns-then-more : goal.returns-then-more
 returns-then-more c = rw c.if-more.true (omega arith)
 
 pub returns-then-not-fewer : goal.returns-then-not-fewer
-returns-then-not-fewer c = rw (c.if-more.false, not-true c.args.fewer c.if-not-fewer.true) refl
+returns-then-not-fewer c = rw (c.if-more.false, c.if-not-fewer.true) refl
 
 pub returns-then-before-eq0 : goal.returns-then-before-eq0
-returns-then-before-eq0 c = rw (c.if-more.false, not-false c.args.fewer c.if-not-fewer.false) (omega arith)
+returns-then-before-eq0 c = rw (c.if-more.false, c.if-not-fewer.false) (omega arith)
 
 pub returns : goal.returns
-returns c = rw (c.if-more.false, not-false c.args.fewer c.if-not-fewer.false) (omega arith)
+returns c = rw (c.if-more.false, c.if-not-fewer.false) (omega arith)

@@ -1,9 +1,7 @@
 -- `reach::enclosing` meets its contract. Its loop goes back token by token, and keeps that from there on the same bracket is found.
-use borrow.Author.Rules.{rules}
-use Prim.Native.Nat.{suc, ◌+◌, ◌-◌, ◌≤◌}
+use Prim.Native.Nat.{suc, ◌-◌}
 use native.Mathlib.Omega.{arith}
 use mathlib.Core.Path.{◌≡◌, refl, sym, ◌∙◌}
-use Rattle.lint.specs.Reach.{enclosing}
 use Rattle.lint.proofs.Laws.{back_one, found_open, none_open, grown}
 use Rattle.lint.proofs.reach.enclosing.Goals as goal
 
@@ -18,10 +16,9 @@ returns-then-is_enclosing c =
 
 pub loop-i-preserved : goal.loop-i-preserved
 loop-i-preserved c =
-    let n = c in
-    let l = n.loop-i in
+    let l = c.loop-i in
     let e : l.i ≡ suc (l.i - 1) = omega arith in (
-      back_one n.args.tokens.now l.closed (l.i - 1) e n.kind_at-kind.ensures n.is_enclosing.ensures n.if-is_enclosing.false c.is_closing.ensures c.is_opening.ensures c.counted-closed.ensures l.invariant.0,
+      back_one c.args.tokens.now l.closed (l.i - 1) e c.kind_at-kind.ensures c.is_enclosing.ensures c.if-is_enclosing.false c.is_closing.ensures c.is_opening.ensures c.counted-closed.ensures l.invariant.0,
       omega (arith, c.counted-closed.ensures, grown c.is_closing.result c.is_opening.result l.closed),
     )
 

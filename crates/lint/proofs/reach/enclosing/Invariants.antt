@@ -1,10 +1,7 @@
 -- `reach::enclosing` meets its contract. Its loop goes back token by token, and keeps that from there on the same bracket is found.
-use borrow.Author.Rules.{rules}
-use Prim.Native.Nat.{suc, ◌+◌, ◌-◌, ◌≤◌}
-use native.Mathlib.Omega.{arith}
-use mathlib.Core.Path.{◌≡◌, refl, sym, ◌∙◌}
+use Prim.Native.Nat.{◌+◌, ◌≤◌}
+use mathlib.Core.Path.{◌≡◌}
 use Rattle.lint.specs.Reach.{enclosing}
-use Rattle.lint.proofs.Laws.{back_one, found_open, none_open, grown}
 use Rattle.lint.proofs.reach.enclosing.Given as goal
 
 abbrev pub invariant-loop-i : goal.invariant-loop-i

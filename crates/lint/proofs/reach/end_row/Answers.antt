@@ -1,8 +1,6 @@
 -- `reach::end_row` meets its contract. Its loop keeps what the row takes last, and that wherever this row ends the first one ends.
-use borrow.Author.Rules.{rules}
-use Prim.Native.Nat.{ℕ}
-use mathlib.Core.Path.{◌≡◌, sym}
-use Rattle.lint.specs.Reach.{last, Ends, here}
+use mathlib.Core.Path.{sym}
+use Rattle.lint.specs.Reach.{Ends, here}
 use Rattle.lint.proofs.reach.end_row.Goals as goal
 
 pub loop-next-init : goal.loop-next-init

@@ -1,8 +1,7 @@
 -- `reach::end_row` meets its contract. Its loop keeps what the row takes last, and that wherever this row ends the first one ends.
-use borrow.Author.Rules.{rules}
 use Prim.Native.Nat.{ℕ}
-use mathlib.Core.Path.{◌≡◌, sym}
-use Rattle.lint.specs.Reach.{last, Ends, here}
+use mathlib.Core.Path.{◌≡◌}
+use Rattle.lint.specs.Reach.{last, Ends}
 use Rattle.lint.proofs.reach.end_row.Given as goal
 
 abbrev pub invariant-loop-next : goal.invariant-loop-next

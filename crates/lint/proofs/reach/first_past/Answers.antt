@@ -1,10 +1,7 @@
 -- `reach::first_past` meets its contract: one token after another.
-use borrow.Author.Rules.{rules}
-use Prim.Native.Nat.{◌-◌}
 use mathlib.Core.Path.{refl}
-use Rattle.lint.specs.Reach.{Past}
 use Rattle.spelling.proofs.Deciding.{held, failed, said}
-use Rattle.lint.proofs.Laws.{Passed, begun, one_more, first_found, first_none}
+use Rattle.lint.proofs.Laws.{begun, one_more, first_found, first_none}
 use Rattle.lint.proofs.reach.first_past.Goals as goal
 
 pub loop-k-init : goal.loop-k-init

@@ -1,4 +1,5 @@
 -- `reach::is_closing` meets its contract: the kind is one of the two or neither.
+use native.Mathlib.Omega.{arith}
 use mathlib.Core.Path.{sym}
 use Rattle.grammar.specs.Kind.{RightParen, RightBrace}
 use Rattle.grammar.proofs.Ranges.{of_two}
@@ -10,4 +11,4 @@ pub returns-in-18 : goal.returns-in-18
 returns-in-18 c = sym (of_two closes tt c.in-18.is)
 
 pub returns-in_default : goal.returns-in_default
-returns-in_default c = neither_of RightParen RightBrace c.in_default.rest.1
+returns-in_default c = neither_of {x = c.args.kind} RightParen RightBrace (grind arith)

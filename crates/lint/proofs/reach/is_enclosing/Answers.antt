@@ -1,5 +1,4 @@
 -- `reach::is_enclosing` meets its contract: a bracket that opens, where no closed one is passed.
-use borrow.Author.Rules.{rules}
 use borrow.Author.Tests.{ne_eqb}
 use mathlib.Core.Path.{refl}
 use Rattle.lint.proofs.reach.is_enclosing.Goals as goal

@@ -1,5 +1,4 @@
 -- `reach::is_past` meets its contract: the offset is tested first, then the kind.
-use borrow.Author.Rules.{rules}
 use Rattle.lint.proofs.Laws.{not_past, past_at, other_kind}
 use Rattle.lint.proofs.reach.is_past.Goals as goal
 

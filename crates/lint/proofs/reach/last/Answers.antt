@@ -1,5 +1,4 @@
 -- `reach::last` meets its contract: the kind's number names it, or there is none.
-use borrow.Author.Rules.{rules}
 use Rattle.children.proofs.Laws.{number_is}
 use Rattle.lint.proofs.Laws.{takes_number, takes_nothing}
 use Rattle.lint.proofs.reach.last.Goals as goal

@@ -1,5 +1,4 @@
 -- `reach::last_number` meets its contract: the table is the definition's, and past it nothing is listed.
-use borrow.Author.Rules.{rules}
 use Rattle.lint.proofs.Laws.{past_kinds}
 use Rattle.lint.proofs.reach.last_number.Goals as goal
 

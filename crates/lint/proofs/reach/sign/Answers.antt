@@ -1,5 +1,4 @@
 -- `reach::sign` meets its contract: the left operand's end, and the first token past it.
-use borrow.Author.Rules.{rules}
 use Rattle.children.proofs.Laws.{number_is}
 use Rattle.lint.proofs.Laws.{sign_at}
 use Rattle.lint.proofs.reach.sign.Goals as goal
@@ -10,6 +9,6 @@ returns c =
     (number_is c.node.ensures)
     c.left_number-place.ensures
     (number_is c.node-2.ensures)
-    c.before.before.before.End-row.ensures
+    c.end_row-end.ensures
     (number_is c.node-3.ensures)
     c.first_past.ensures
