@@ -6,34 +6,20 @@ use lib.ListN.{length}
 use Rattle.wire.proofs.Lines.{row_there}
 use borrow.Author.Rules.{rules}
 use Rattle.listed.proofs.line.rows.Goals as goal
-use Rattle.listed.proofs.line.rows.Lts as lts
-use Rattle.listed.proofs.line.rows.Tie as tie
-use Rattle.listed.proofs.line.rows.Reads as reads
-
-abbrev InLoop : Type 0
-InLoop = lts.In-loop tie.the-claims reads.Pre reads.Post goal.the-invariant-loop-i goal.the-decreases-loop-i
-
-abbrev Start : Type 0
-Start = lts.Start tie.the-claims reads.Pre reads.Post goal.the-invariant-loop-i goal.the-decreases-loop-i
-
-abbrev Turn : Type 0
-Turn = InLoop (row_reads.Asked, row_reads.Learnt) reads.Pre reads.Post invariant-loop decreases-loop
-
-abbrev to_start : Turn → Start (row_reads.Asked, row_reads.Learnt) reads.Pre reads.Post invariant-loop decreases-loop
-to_start c = c.before.before.before.before.before
+use Rattle.listed.proofs.line.rows.Goals.{In-loop-i}
 
 -- row i is in the room
-there : (c : Turn) → (to_start c).args.width * c.loop-i.i + (to_start c).args.width ≤ length (to_start c).args.room.now
-there c = row_there (to_start c).args.width {n = (to_start c).args.n} (omega arith) (to_start c).requires.1
+there : (c : In-loop-i) → c.args.width * c.loop-i.i + c.args.width ≤ length c.args.room.now
+there c = row_there c.args.width {n = c.args.n} (omega arith) c.requires.1
 
 pub overflow_mul-first : goal.overflow_mul-first
-overflow_mul-first c = omega (arith, there c.before)
+overflow_mul-first c = omega (arith, there (goal.at.overflow_mul-first c).In-loop-i)
 
 pub overflow_add-first : goal.overflow_add-first
-overflow_add-first c = omega (arith, there c.before)
+overflow_add-first c = omega (arith, there (goal.at.overflow_add-first c).In-loop-i)
 
 pub offset_bounds-room-first : goal.offset_bounds-room-first
-offset_bounds-room-first c = omega (arith, there c.before)
+offset_bounds-room-first c = omega (arith, there (goal.at.offset_bounds-room-first c).In-loop-i)
 
 pub slice_bounds-row-end : goal.slice_bounds-row-end
-slice_bounds-row-end c = omega (arith, there c.before)
+slice_bounds-row-end c = omega (arith, there (goal.at.slice_bounds-row-end c).In-loop-i)
