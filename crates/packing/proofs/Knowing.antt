@@ -8,7 +8,7 @@ use mathlib.Core.Path.{◌≡◌, refl, sym, ap, ◌∙◌}
 use lib.Dec.{eqb}
 use lib.ListN.{length, get_or, set, take, length-set, length-append}
 use lib.Seq.{get_or-set_same, get_or-set_other}
-use borrow.Author.Tests.{eqb_true, eqb-false, eq-eqb, ne_eqb}
+use borrow.Author.Tests.{eqb-true, eqb-false, eq-eqb, ne_eqb}
 use Rattle.grammar.specs.Naming.{times}
 use Rattle.grammar.specs.Operator.{place}
 use Rattle.grammar.specs.Pattern.{among}
@@ -51,7 +51,7 @@ known ks x e = pick (among ks x) refl e
 -- what one symbol more does to the numbers: it comes last
 numbered_new : (ks : List ℕ) (x : ℕ) → among ks x ≡ false → numbered (ks ++ (x ∷ [])) x ≡ suc (length ks)
 unfolding numbered
-numbered_new ks x e = rw (among_new x ks, place_new x ks e, eqb_true (place x ks) (length ks) (place_all x ks ∙ ap not e)) refl
+numbered_new ks x e = rw (among_new x ks, place_new x ks e, eqb-true (place x ks) (length ks) (place_all x ks ∙ ap not e)) refl
 
 numbered_old : (ks : List ℕ) (x y : ℕ) → (y ≡ x → ⊥) → numbered (ks ++ (x ∷ [])) y ≡ numbered ks y
 unfolding numbered
@@ -73,7 +73,7 @@ once_more : (ks : List ℕ) (x : ℕ) → ((y : ℕ) → times y ks ≤ 1) → a
 once_more ks x h n y = pick (eqb y x) refl
   where
     pick : (b : Bool) → eqb y x ≡ b → times y (ks ++ (x ∷ [])) ≤ 1
-    pick true q = let z = eqb_true y x q in let o : times x (x ∷ []) ≡ 1 = rw (eq-eqb x x refl) (omega arith) in rw z (omega (arith, times_append x ks (x ∷ []), unamong_times ks x n))
+    pick true q = let z = eqb-true y x q in let o : times x (x ∷ []) ≡ 1 = rw (eq-eqb x x refl) (omega arith) in rw z (omega (arith, times_append x ks (x ∷ []), unamong_times ks x n))
     pick false q = let o : times y (x ∷ []) ≡ 0 = rw q (omega arith) in omega (arith, times_append y ks (x ∷ []), h y)
 
 module _ {s b : ℕ} {ss ks ps symbols scratch : List ℕ} {count : ℕ} (h : Hearing s b ss ks ps symbols scratch count) where
@@ -109,7 +109,7 @@ module _ {s b : ℕ} {ss ks ps symbols scratch : List ℕ} {count : ℕ} (h : He
           numbers_then y k o = at (eqb y w.symbol) refl
             where
               at : (t : Bool) → eqb y w.symbol ≡ t → get_or (set scratch w.symbol (count + 1)) y 0 ≡ numbered (ks ++ (w.symbol ∷ [])) y
-              at true i = let z = eqb_true y w.symbol i in rw z (get_or-set_same scratch w.symbol (count + 1) 0 (omega arith) ∙ omega (arith, h.many, numbered_new ks w.symbol o))
+              at true i = let z = eqb-true y w.symbol i in rw z (get_or-set_same scratch w.symbol (count + 1) 0 (omega arith) ∙ omega (arith, h.many, numbered_new ks w.symbol o))
               at false i = let z = eqb-false y w.symbol i in get_or-set_other scratch w.symbol y (count + 1) 0 z ∙ h.numbers y k ∙ sym (numbered_old ks w.symbol y z)
 
           rows_then : take (symbol_width * (count + 1)) (set (set symbols (symbol_width * count) w.from) (symbol_width * count + 1) w.upto) ≡ take (symbol_width * b) ss ++ (ps ++ (w.from ∷ w.upto ∷ []))
@@ -121,7 +121,7 @@ module _ {s b : ℕ} {ss ks ps symbols scratch : List ℕ} {count : ℕ} (h : He
               rw e (p.rows ∙ ap (λ l. l ++ (w.from ∷ w.upto ∷ [])) h.rows ∙ append_assoc (take (symbol_width * b) ss) ps (w.from ∷ w.upto ∷ []))
 
       pick : (t : Bool) → eqb (get_or scratch w.symbol 0) 0 ≡ t → Hearing s b ss (heard (w ∷ []) ks) (ps ++ first_places (w ∷ []) ks) symbols' scratch' r
-      pick true e = fresh (eqb_true (get_or scratch w.symbol 0) 0 e) e
+      pick true e = fresh (eqb-true (get_or scratch w.symbol 0) 0 e) e
       pick false e =
           let o = known ks w.symbol (λ z. eqb-false (get_or scratch w.symbol 0) 0 e (h.numbers w.symbol l ∙ z)) in
           let sc : scratch' ≡ scratch = n.numbers ∙ rw e refl in

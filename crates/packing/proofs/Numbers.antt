@@ -128,16 +128,16 @@ module _ (ns ls : List ℕ) (i from : ℕ) where
     begun_list : (ps : List (ℕ × ℕ)) → 4 ≤ code s → width s ≡ 2 → role_at ns i (p + 1) ≡ 0 → Consecutive (from + lists_size ns i p + get_or xs 1 0) ps → Begun (p + 2) ps
     begun_list ps h e z b = let f : from + lists_size ns i p + get_or xs 1 0 ≡ from + lists_size ns i (p + 2) = omega (arith, size_two l h e z) in rw f at b
 
-  named_lined : {p : ℕ} (ss : List Slot) {xs : List ℕ} → Lined ns i p ss xs → Each (Before i) (naming ls ss xs) → Begun p (list_spots ss xs) → (j : ℕ) → p ≤ j → j < own_width → Named j
+  named_lined : (ss : List Slot) {p : ℕ} {xs : List ℕ} → Lined ns i p ss xs → Each (Before i) (naming ls ss xs) → Begun p (list_spots ss xs) → (j : ℕ) → p ≤ j → j < own_width → Named j
   unfolding naming list_spots
   named_lined [] l e b j h k = nothing j (plain l j h k)
-  named_lined {p} (below n ∷ ss) {xs} l e b j h k = one Named p j h (nothing p (role_first l)) (λ q. named_lined ss (lined_on l) e (begun_one l (list_spots ss (drop 1 xs)) (omega arith) b) j q k)
-  named_lined {p} (child ∷ ss) {xs} l e b j h k = one Named p j h (named_row l refl (head e)) (λ q. named_lined ss (lined_on l) (tail e) (begun_one l (list_spots ss (drop 1 xs)) (omega arith) b) j q k)
-  named_lined {p} (option ∷ ss) {xs} l e b j h k = one Named p j h (named_row l refl (head e)) (λ q. named_lined ss (lined_on l) (tail e) (begun_one l (list_spots ss (drop 1 xs)) (omega arith) b) j q k)
-  named_lined {p} (symbol ∷ ss) {xs} l e b j h k = one Named p j h (names_nothing (omega (arith, role_first l)) (λ z. omega (arith, role_first l))) (λ q. named_lined ss (lined_on l) e (begun_one l (list_spots ss (drop 1 xs)) (omega arith) b) j q k)
-  named_lined {p} (name ∷ ss) l e b j h k =
+  named_lined (below n ∷ ss) {p} {xs} l e b j h k = one Named p j h (nothing p (role_first l)) (λ q. named_lined ss (lined_on l) e (begun_one l (list_spots ss (drop 1 xs)) (omega arith) b) j q k)
+  named_lined (child ∷ ss) {p} {xs} l e b j h k = one Named p j h (named_row l refl (head e)) (λ q. named_lined ss (lined_on l) (tail e) (begun_one l (list_spots ss (drop 1 xs)) (omega arith) b) j q k)
+  named_lined (option ∷ ss) {p} {xs} l e b j h k = one Named p j h (named_row l refl (head e)) (λ q. named_lined ss (lined_on l) (tail e) (begun_one l (list_spots ss (drop 1 xs)) (omega arith) b) j q k)
+  named_lined (symbol ∷ ss) {p} {xs} l e b j h k = one Named p j h (names_nothing (omega (arith, role_first l)) (λ z. omega (arith, role_first l))) (λ q. named_lined ss (lined_on l) e (begun_one l (list_spots ss (drop 1 xs)) (omega arith) b) j q k)
+  named_lined (name ∷ ss) {p} l e b j h k =
       three Named p j h (names_nothing (omega (arith, role_first l)) (λ z. omega (arith, role_first l))) (nothing (p + 1) (l.roles 1 (omega (arith, wide l)))) (nothing (p + 2) (l.roles 2 (omega (arith, wide l)))) (λ q. named_lined ss (lined_on l) e (rw (size_three l) b) j q k)
-  named_lined {p} (nodes ∷ ss) {xs} l e b j h k =
+  named_lined (nodes ∷ ss) {p} {xs} l e b j h k =
       let z = l.roles 1 (omega (arith, wide l)) in
       let f = front (linked_nodes (get_or xs 1 0) (drop (link_width * get_or xs 0 0) ls)) (naming ls ss (drop 2 xs)) e in
       let g = back (linked_nodes (get_or xs 1 0) (drop (link_width * get_or xs 0 0) ls)) (naming ls ss (drop 2 xs)) e in
@@ -145,13 +145,13 @@ module _ (ns ls : List ℕ) (i from : ℕ) where
       (names_list (omega (arith, role_first l)) (sym (number_first l) ∙ b.0) (λ y. rw (number_first l, number_next l (omega arith)) at (nodes_each (Before i) ls (get_or xs 1 0) (get_or xs 0 0) f)) (λ y. absurd (omega (arith, role_first l))))
       (nothing (p + 1) z)
       (λ q. named_lined ss (lined_on l) g (begun_list l (list_spots ss (drop 2 xs)) (omega arith) refl z b.1) j q k)
-  named_lined {p} (names ∷ ss) {xs} l e b j h k =
+  named_lined (names ∷ ss) {p} {xs} l e b j h k =
       let z = l.roles 1 (omega (arith, wide l)) in
       two Named p j h
       (names_list (omega (arith, role_first l)) (sym (number_first l) ∙ b.0) (λ y. absurd (y (role_first l))) (λ y. absurd (omega (arith, role_first l))))
       (nothing (p + 1) z)
       (λ q. named_lined ss (lined_on l) e (begun_list l (list_spots ss (drop 2 xs)) (omega arith) refl z b.1) j q k)
-  named_lined {p} (entries ∷ ss) {xs} l e b j h k =
+  named_lined (entries ∷ ss) {p} {xs} l e b j h k =
       let z = l.roles 1 (omega (arith, wide l)) in
       let f = front (linked_entries (get_or xs 1 0) (drop (link_width * get_or xs 0 0) ls)) (naming ls ss (drop 2 xs)) e in
       let g = back (linked_entries (get_or xs 1 0) (drop (link_width * get_or xs 0 0) ls)) (naming ls ss (drop 2 xs)) e in
@@ -175,21 +175,21 @@ module _ (ns ls : List ℕ) (i s m : ℕ) where
     list_in : 4 ≤ code t → 2 ≤ width t → get_or xs 0 0 + get_or xs 1 0 ≤ m → (code t ≡ 5 → (k : ℕ) → get_or xs 0 0 ≤ k → k < get_or xs 0 0 + get_or xs 1 0 → linked ls k 0 < s) → In p
     list_in h v b f = range_list (omega (arith, role_first l)) (omega (arith, number_first l, number_next l v)) (λ e. rw (number_first l, number_next l v) at (f (sym (role_first l) ∙ e)))
 
-  ranges_lined : {p : ℕ} (ss : List Slot) {xs : List ℕ} → Lined ns i p ss xs → Each (InRange s m) (items ls ss xs) → (j : ℕ) → p ≤ j → j < own_width → In j
+  ranges_lined : (ss : List Slot) {p : ℕ} {xs : List ℕ} → Lined ns i p ss xs → Each (InRange s m) (items ls ss xs) → (j : ℕ) → p ≤ j → j < own_width → In j
   unfolding items
   ranges_lined [] l e j h k = free j (plain l j h k)
-  ranges_lined {p} (below n ∷ ss) l e j h k = one In p j h (free p (role_first l)) (λ q. ranges_lined ss (lined_on l) (tail e) j q k)
-  ranges_lined {p} (child ∷ ss) l e j h k = one In p j h (range_free (omega (arith, role_first l))) (λ q. ranges_lined ss (lined_on l) (tail e) j q k)
-  ranges_lined {p} (option ∷ ss) l e j h k = one In p j h (range_free (omega (arith, role_first l))) (λ q. ranges_lined ss (lined_on l) (tail e) j q k)
-  ranges_lined {p} (symbol ∷ ss) l e j h k = one In p j h (symbol_in l (omega arith) (omega arith) (head e)) (λ q. ranges_lined ss (lined_on l) (tail e) j q k)
-  ranges_lined {p} (name ∷ ss) l e j h k =
+  ranges_lined (below n ∷ ss) {p} l e j h k = one In p j h (free p (role_first l)) (λ q. ranges_lined ss (lined_on l) (tail e) j q k)
+  ranges_lined (child ∷ ss) {p} l e j h k = one In p j h (range_free (omega (arith, role_first l))) (λ q. ranges_lined ss (lined_on l) (tail e) j q k)
+  ranges_lined (option ∷ ss) {p} l e j h k = one In p j h (range_free (omega (arith, role_first l))) (λ q. ranges_lined ss (lined_on l) (tail e) j q k)
+  ranges_lined (symbol ∷ ss) {p} l e j h k = one In p j h (symbol_in l (omega arith) (omega arith) (head e)) (λ q. ranges_lined ss (lined_on l) (tail e) j q k)
+  ranges_lined (name ∷ ss) {p} l e j h k =
       three In p j h (symbol_in l (omega arith) (omega arith) (head e)) (free (p + 1) (l.roles 1 (omega (arith, wide l)))) (free (p + 2) (l.roles 2 (omega (arith, wide l)))) (λ q. ranges_lined ss (lined_on l) (tail e) j q k)
-  ranges_lined {p} (nodes ∷ ss) {xs} l e j h k =
+  ranges_lined (nodes ∷ ss) {p} {xs} l e j h k =
       two In p j h (list_in l (omega arith) (omega arith) (head e) (λ y. absurd (omega arith))) (free (p + 1) (l.roles 1 (omega (arith, wide l)))) (λ q. ranges_lined ss (lined_on l) (back (node_items (get_or xs 1 0) (drop (link_width * get_or xs 0 0) ls)) (items ls ss (drop 2 xs)) (tail e)) j q k)
-  ranges_lined {p} (names ∷ ss) {xs} l e j h k =
+  ranges_lined (names ∷ ss) {p} {xs} l e j h k =
       let f = front (name_items (get_or xs 1 0) (drop (link_width * get_or xs 0 0) ls)) (items ls ss (drop 2 xs)) (tail e) in
       two In p j h (list_in l (omega arith) (omega arith) (head e) (λ y. names_below s m ls (get_or xs 1 0) (get_or xs 0 0) f)) (free (p + 1) (l.roles 1 (omega (arith, wide l)))) (λ q. ranges_lined ss (lined_on l) (back (name_items (get_or xs 1 0) (drop (link_width * get_or xs 0 0) ls)) (items ls ss (drop 2 xs)) (tail e)) j q k)
-  ranges_lined {p} (entries ∷ ss) {xs} l e j h k =
+  ranges_lined (entries ∷ ss) {p} {xs} l e j h k =
       two In p j h (list_in l (omega arith) (omega arith) (head e) (λ y. absurd (omega arith))) (free (p + 1) (l.roles 1 (omega (arith, wide l)))) (λ q. ranges_lined ss (lined_on l) (back (entry_items (get_or xs 1 0) (drop (link_width * get_or xs 0 0) ls)) (items ls ss (drop 2 xs)) (tail e)) j q k)
 
 -- so of the first nine numbers of each row that passed

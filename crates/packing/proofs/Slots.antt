@@ -250,27 +250,27 @@ module _ (m : Move) (ns : List ℕ) (i : ℕ) where
   unfolding numbers_moved
   numbers_suc n = refl
 
-  numbers_left : {p : ℕ} (xs : List ℕ) → Lined ns i p [] xs → xs ≡ rest number_of p
+  numbers_left : (xs : List ℕ) {p : ℕ} → Lined ns i p [] xs → xs ≡ rest number_of p
   unfolding gathered number_moved
-  numbers_left {p} [] l = let e : own_width - p ≡ 0 = omega (arith, l.size) in rw e refl
-  numbers_left {p} (x ∷ xs) l =
+  numbers_left [] {p} l = let e : own_width - p ≡ 0 = omega (arith, l.size) in rw e refl
+  numbers_left (x ∷ xs) {p} l =
       let h : p < own_width = omega (arith, l.size) in
       let z : p + 0 ≡ p = omega arith in
       let y : x ≡ at ns i p = l.numbers 0 (omega arith) ∙ ap (at ns i) z in
       rw (rest_one number_of p h, plain l p (omega arith) h, ← y, ← numbers_left xs (plain_next l)) refl
 
 module _ (m : Move) (same_span : (x : ℕ) → m.span x ≡ x) (ns : List ℕ) (i : ℕ) where
-  numbers_lined : {p : ℕ} (ss : List Slot) {xs : List ℕ} → Lined ns i p ss xs → moved_numbers m ss xs ≡ rest (number_of m ns i) p
+  numbers_lined : (ss : List Slot) {p : ℕ} {xs : List ℕ} → Lined ns i p ss xs → moved_numbers m ss xs ≡ rest (number_of m ns i) p
   unfolding moved_numbers number_moved
   numbers_lined [] {xs} l = numbers_left m ns i xs l
-  numbers_lined {p} (below n ∷ ss) l = rw (rest_one (number_of m ns i) p (omega (arith, wide l)), role_first l, ← number_first l, ← numbers_lined ss (lined_on l)) refl
-  numbers_lined {p} (child ∷ ss) l = rw (rest_one (number_of m ns i) p (omega (arith, wide l)), role_first l, ← number_first l, ← numbers_lined ss (lined_on l)) refl
-  numbers_lined {p} (option ∷ ss) l = rw (rest_one (number_of m ns i) p (omega (arith, wide l)), role_first l, ← number_first l, ← numbers_lined ss (lined_on l)) refl
-  numbers_lined {p} (symbol ∷ ss) l = rw (rest_one (number_of m ns i) p (omega (arith, wide l)), role_first l, ← number_first l, ← numbers_lined ss (lined_on l)) refl
-  numbers_lined {p} (name ∷ ss) l = rw (rest_three (number_of m ns i) p (omega (arith, wide l)), role_first l, l.roles 1 (omega (arith, wide l)), l.roles 2 (omega (arith, wide l)), ← number_first l, ← number_next l (omega arith), ← number_last l (omega arith), ← numbers_lined ss (lined_on l), same_span, same_span) refl
-  numbers_lined {p} (nodes ∷ ss) l = rw (rest_two (number_of m ns i) p (omega (arith, wide l)), role_first l, l.roles 1 (omega (arith, wide l)), ← number_first l, ← number_next l (omega arith), ← numbers_lined ss (lined_on l)) refl
-  numbers_lined {p} (names ∷ ss) l = rw (rest_two (number_of m ns i) p (omega (arith, wide l)), role_first l, l.roles 1 (omega (arith, wide l)), ← number_first l, ← number_next l (omega arith), ← numbers_lined ss (lined_on l)) refl
-  numbers_lined {p} (entries ∷ ss) l = rw (rest_two (number_of m ns i) p (omega (arith, wide l)), role_first l, l.roles 1 (omega (arith, wide l)), ← number_first l, ← number_next l (omega arith), ← numbers_lined ss (lined_on l)) refl
+  numbers_lined (below n ∷ ss) {p} l = rw (rest_one (number_of m ns i) p (omega (arith, wide l)), role_first l, ← number_first l, ← numbers_lined ss (lined_on l)) refl
+  numbers_lined (child ∷ ss) {p} l = rw (rest_one (number_of m ns i) p (omega (arith, wide l)), role_first l, ← number_first l, ← numbers_lined ss (lined_on l)) refl
+  numbers_lined (option ∷ ss) {p} l = rw (rest_one (number_of m ns i) p (omega (arith, wide l)), role_first l, ← number_first l, ← numbers_lined ss (lined_on l)) refl
+  numbers_lined (symbol ∷ ss) {p} l = rw (rest_one (number_of m ns i) p (omega (arith, wide l)), role_first l, ← number_first l, ← numbers_lined ss (lined_on l)) refl
+  numbers_lined (name ∷ ss) {p} l = rw (rest_three (number_of m ns i) p (omega (arith, wide l)), role_first l, l.roles 1 (omega (arith, wide l)), l.roles 2 (omega (arith, wide l)), ← number_first l, ← number_next l (omega arith), ← number_last l (omega arith), ← numbers_lined ss (lined_on l), same_span, same_span) refl
+  numbers_lined (nodes ∷ ss) {p} l = rw (rest_two (number_of m ns i) p (omega (arith, wide l)), role_first l, l.roles 1 (omega (arith, wide l)), ← number_first l, ← number_next l (omega arith), ← numbers_lined ss (lined_on l)) refl
+  numbers_lined (names ∷ ss) {p} l = rw (rest_two (number_of m ns i) p (omega (arith, wide l)), role_first l, l.roles 1 (omega (arith, wide l)), ← number_first l, ← number_next l (omega arith), ← numbers_lined ss (lined_on l)) refl
+  numbers_lined (entries ∷ ss) {p} l = rw (rest_two (number_of m ns i) p (omega (arith, wide l)), role_first l, l.roles 1 (omega (arith, wide l)), ← number_first l, ← number_next l (omega arith), ← numbers_lined ss (lined_on l)) refl
 
 -- the links of a list, one behind another
 list_gathered : (m : Move) (r : ℕ) (ls : List ℕ) (from n : ℕ) → list_moved m r ls from n ≡ gathered (link_moved m r ls) from n
@@ -327,19 +327,19 @@ abbrev list_of : Move → (nodes links : List ℕ) (row j : ℕ) → List ℕ
 list_of m ns ls i j = cond (leb 4 (role_at ns i j)) (list_moved m (role_at ns i j) ls (at ns i j) (at ns i (j + 1))) []
 
 module _ (m : Move) (same_span : (x : ℕ) → m.span x ≡ x) (ns ls : List ℕ) (i : ℕ) where
-  lists_lined : {p : ℕ} (ss : List Slot) {xs : List ℕ} → Lined ns i p ss xs → moved_lists m ls ss xs ≡ rest (list_of m ns ls i) p
+  lists_lined : (ss : List Slot) {p : ℕ} {xs : List ℕ} → Lined ns i p ss xs → moved_lists m ls ss xs ≡ rest (list_of m ns ls i) p
   unfolding moved_lists
   lists_lined [] l = sym (plain_rest (list_of m ns ls i) (λ j e. rw e refl) l)
-  lists_lined {p} (below n ∷ ss) l = rw (rest_one (list_of m ns ls i) p (omega (arith, wide l)), role_first l, ← lists_lined ss (lined_on l)) refl
-  lists_lined {p} (child ∷ ss) l = rw (rest_one (list_of m ns ls i) p (omega (arith, wide l)), role_first l, ← lists_lined ss (lined_on l)) refl
-  lists_lined {p} (option ∷ ss) l = rw (rest_one (list_of m ns ls i) p (omega (arith, wide l)), role_first l, ← lists_lined ss (lined_on l)) refl
-  lists_lined {p} (symbol ∷ ss) l = rw (rest_one (list_of m ns ls i) p (omega (arith, wide l)), role_first l, ← lists_lined ss (lined_on l)) refl
-  lists_lined {p} (name ∷ ss) l = rw (rest_three (list_of m ns ls i) p (omega (arith, wide l)), role_first l, l.roles 1 (omega (arith, wide l)), l.roles 2 (omega (arith, wide l)), ← lists_lined ss (lined_on l)) refl
-  lists_lined {p} (nodes ∷ ss) l =
+  lists_lined (below n ∷ ss) {p} l = rw (rest_one (list_of m ns ls i) p (omega (arith, wide l)), role_first l, ← lists_lined ss (lined_on l)) refl
+  lists_lined (child ∷ ss) {p} l = rw (rest_one (list_of m ns ls i) p (omega (arith, wide l)), role_first l, ← lists_lined ss (lined_on l)) refl
+  lists_lined (option ∷ ss) {p} l = rw (rest_one (list_of m ns ls i) p (omega (arith, wide l)), role_first l, ← lists_lined ss (lined_on l)) refl
+  lists_lined (symbol ∷ ss) {p} l = rw (rest_one (list_of m ns ls i) p (omega (arith, wide l)), role_first l, ← lists_lined ss (lined_on l)) refl
+  lists_lined (name ∷ ss) {p} l = rw (rest_three (list_of m ns ls i) p (omega (arith, wide l)), role_first l, l.roles 1 (omega (arith, wide l)), l.roles 2 (omega (arith, wide l)), ← lists_lined ss (lined_on l)) refl
+  lists_lined (nodes ∷ ss) {p} l =
       rw (rest_two (list_of m ns ls i) p (omega (arith, wide l)), role_first l, l.roles 1 (omega (arith, wide l)), ← lists_lined ss (lined_on l), number_first l, number_next l (omega arith), list_gathered m 4 ls, nodes_moved m same_span ls) refl
-  lists_lined {p} (names ∷ ss) l =
+  lists_lined (names ∷ ss) {p} l =
       rw (rest_two (list_of m ns ls i) p (omega (arith, wide l)), role_first l, l.roles 1 (omega (arith, wide l)), ← lists_lined ss (lined_on l), number_first l, number_next l (omega arith), list_gathered m 5 ls, names_moved m same_span ls) refl
-  lists_lined {p} (entries ∷ ss) l =
+  lists_lined (entries ∷ ss) {p} l =
       rw (rest_two (list_of m ns ls i) p (omega (arith, wide l)), role_first l, l.roles 1 (omega (arith, wide l)), ← lists_lined ss (lined_on l), number_first l, number_next l (omega arith), list_gathered m 6 ls, entries_moved m same_span ls) refl
 
 -- what a row holds
@@ -347,20 +347,20 @@ module _ (ns ls : List ℕ) (i : ℕ) where
   abbrev part_of : ℕ → List Part
   part_of j = number_parts ns ls i j (role_at ns i j)
 
-  parts_lined : {p : ℕ} (ss : List Slot) {xs : List ℕ} → Lined ns i p ss xs → parts ls ss (at ns i 1) (at ns i 2) xs ≡ rest part_of p
+  parts_lined : (ss : List Slot) {p : ℕ} {xs : List ℕ} → Lined ns i p ss xs → parts ls ss (at ns i 1) (at ns i 2) xs ≡ rest part_of p
   unfolding parts number_parts
   parts_lined [] l = sym (plain_rest part_of (λ j e. rw e refl) l)
-  parts_lined {p} (below n ∷ ss) l = rw (rest_one part_of p (omega (arith, wide l)), role_first l, ← parts_lined ss (lined_on l)) refl
-  parts_lined {p} (child ∷ ss) l = rw (rest_one part_of p (omega (arith, wide l)), role_first l, ← parts_lined ss (lined_on l), number_first l) refl
-  parts_lined {p} (option ∷ ss) l = rw (rest_one part_of p (omega (arith, wide l)), role_first l, ← parts_lined ss (lined_on l), number_first l) refl
-  parts_lined {p} (symbol ∷ ss) l = rw (rest_one part_of p (omega (arith, wide l)), role_first l, ← parts_lined ss (lined_on l), number_first l) refl
-  parts_lined {p} (name ∷ ss) l =
+  parts_lined (below n ∷ ss) {p} l = rw (rest_one part_of p (omega (arith, wide l)), role_first l, ← parts_lined ss (lined_on l)) refl
+  parts_lined (child ∷ ss) {p} l = rw (rest_one part_of p (omega (arith, wide l)), role_first l, ← parts_lined ss (lined_on l), number_first l) refl
+  parts_lined (option ∷ ss) {p} l = rw (rest_one part_of p (omega (arith, wide l)), role_first l, ← parts_lined ss (lined_on l), number_first l) refl
+  parts_lined (symbol ∷ ss) {p} l = rw (rest_one part_of p (omega (arith, wide l)), role_first l, ← parts_lined ss (lined_on l), number_first l) refl
+  parts_lined (name ∷ ss) {p} l =
       rw (rest_three part_of p (omega (arith, wide l)), role_first l, l.roles 1 (omega (arith, wide l)), l.roles 2 (omega (arith, wide l)), ← parts_lined ss (lined_on l), number_first l, number_next l (omega arith), number_last l (omega arith)) refl
-  parts_lined {p} (nodes ∷ ss) l =
+  parts_lined (nodes ∷ ss) {p} l =
       rw (rest_two part_of p (omega (arith, wide l)), role_first l, l.roles 1 (omega (arith, wide l)), ← parts_lined ss (lined_on l), number_first l, number_next l (omega arith), parts_gathered 4 ls, nodes_said ls) refl
-  parts_lined {p} (names ∷ ss) l =
+  parts_lined (names ∷ ss) {p} l =
       rw (rest_two part_of p (omega (arith, wide l)), role_first l, l.roles 1 (omega (arith, wide l)), ← parts_lined ss (lined_on l), number_first l, number_next l (omega arith), parts_gathered 5 ls, names_said ls) refl
-  parts_lined {p} (entries ∷ ss) l =
+  parts_lined (entries ∷ ss) {p} l =
       rw (rest_two part_of p (omega (arith, wide l)), role_first l, l.roles 1 (omega (arith, wide l)), ← parts_lined ss (lined_on l), number_first l, number_next l (omega arith), parts_gathered 6 ls, entries_said ls) refl
 
 -- how many links a row's lists have
@@ -403,9 +403,9 @@ module _ {ns : List ℕ} {i p : ℕ} where
       let z : role_at ns i (p + 1) < 4 = rw (l.roles 1 (omega (arith, wide l))) (omega arith) in
       ap (lists_size ns i) (sym e) ∙ size_plain ns i (p + 2) y ∙ ap (lists_size ns i) (sym d) ∙ size_plain ns i (p + 1) z ∙ size_one l (omega arith)
 
-sizes_lined : {ns : List ℕ} {i p : ℕ} (ss : List Slot) {xs : List ℕ} → Lined ns i p ss xs → lists_size ns i p + list_links ss xs ≡ lists_size ns i own_width
+sizes_lined : {ns : List ℕ} {i : ℕ} (ss : List Slot) {p : ℕ} {xs : List ℕ} → Lined ns i p ss xs → lists_size ns i p + list_links ss xs ≡ lists_size ns i own_width
 unfolding list_links
-sizes_lined {ns} {i} {p} [] l = let e : p + (own_width - p) ≡ own_width = omega (arith, l.size) in omega (arith, size_left l (own_width - p) (omega (arith, l.size)), ap (lists_size ns i) e)
+sizes_lined {ns} {i} [] {p} l = let e : p + (own_width - p) ≡ own_width = omega (arith, l.size) in omega (arith, size_left l (own_width - p) (omega (arith, l.size)), ap (lists_size ns i) e)
 sizes_lined (below n ∷ ss) l = rw (← sizes_lined ss (lined_on l), size_one l (omega arith)) refl
 sizes_lined (child ∷ ss) l = rw (← sizes_lined ss (lined_on l), size_one l (omega arith)) refl
 sizes_lined (option ∷ ss) l = rw (← sizes_lined ss (lined_on l), size_one l (omega arith)) refl

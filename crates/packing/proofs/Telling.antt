@@ -11,7 +11,7 @@ use Rattle.grammar.specs.Naming.{height}
 use Rattle.grammar.specs.Room.{Rooms, node_width, link_width, symbol_width, filled, cleared}
 use Rattle.ast.specs.Written.{Cleared}
 use Rattle.foreign.specs.Check.{Checked, Given, Lends, Checks, used, scratch_cleared}
-use Rattle.parts.specs.Packed.{statements, packed, root_row}
+use Rattle.parts.specs.Packed.{statements, root_row}
 use Rattle.packing.specs.Answer.{Asked, Lent, symbols_of, left_rows, left_symbols, refilled, turned, Packs, Settleable, Settled}
 use Rattle.packing.specs.Good.{Good}
 use Rattle.packing.specs.declared.Packed.{Packed}

@@ -1,6 +1,5 @@
 -- `hear` meets its contract: nothing where the symbol is known; else its number and its place.
 use Prim.Native.Nat.{◌*◌}
-use borrow.Author.Rules.{rules}
 use borrow.Author.Tests.{eq-eqb, ne_eqb}
 use native.Mathlib.Omega.{arith}
 use mathlib.Core.Path.{refl}

@@ -1,10 +1,8 @@
 -- `hear_builtins` meets its contract: the symbols so far are known.
-use Prim.Native.Nat.{◌+◌, ◌-◌, ◌≤◌}
-use borrow.Author.Rules.{rules}
+use Prim.Native.Nat.{◌+◌}
 use native.Mathlib.Omega.{arith}
 use mathlib.Core.Path.{◌≡◌, refl, ◌∙◌}
-use lib.ListN.{length, length-set}
-use Rattle.packing.specs.Known.{Built}
+use lib.ListN.{length-set}
 use Rattle.packing.proofs.Knowing.{built_none, built_one}
 use Rattle.packing.proofs.hear.hear_builtins.Goals as goal
 

@@ -1,11 +1,8 @@
 -- `hear_builtins` meets its contract: the symbols so far are known.
-use Prim.Native.Nat.{◌+◌, ◌-◌, ◌≤◌}
-use borrow.Author.Rules.{rules}
-use native.Mathlib.Omega.{arith}
-use mathlib.Core.Path.{◌≡◌, refl, ◌∙◌}
-use lib.ListN.{length, length-set}
+use Prim.Native.Nat.{◌-◌, ◌≤◌}
+use mathlib.Core.Path.{◌≡◌}
+use lib.ListN.{length}
 use Rattle.packing.specs.Known.{Built}
-use Rattle.packing.proofs.Knowing.{built_none, built_one}
 use Rattle.packing.proofs.hear.hear_builtins.Given as goal
 
 abbrev pub invariant-loop-x : goal.invariant-loop-x

@@ -14,163 +14,135 @@ use Rattle.packing.specs.Stack.{stacked, Pushed}
 use Rattle.packing.proofs.Knowing.{room_left}
 use Rattle.packing.proofs.Slots.{parts_all, stood}
 use Rattle.packing.proofs.Stacking.{pushed_one, row_waits}
-use Rattle.packing.proofs.Touring.{Tour, left_steps, began, inside, ended, hears_both, hears_low, row_there, row_room, row_taken, row_steps, word_low, word_taken, word_steps, popped_row, popped_word}
+use Rattle.packing.proofs.Touring.{Tour, began, inside, ended, hears_both, hears_low, row_there, row_room, row_taken, row_steps, word_low, word_taken, word_steps, popped_row, popped_word}
 use Rattle.packing.proofs.hear.hear_row.Goals as goal
-use Rattle.packing.proofs.hear.hear_row.Lts as lts
-use Rattle.packing.proofs.hear.hear_row.Tie as tie
-use Rattle.packing.proofs.hear.hear_row.Reads as reads
+use Rattle.packing.proofs.hear.hear_row.Goals.{Start, After-push-top, In-loop-top}
 
-abbrev AfterPush : Type 0
-AfterPush = lts.After-push tie.the-claims reads.Pre reads.Post goal.the-invariant-loop-top goal.the-decreases-loop-top
-
-abbrev InLoop : Type 0
-InLoop = lts.In-loop tie.the-claims reads.Pre reads.Post goal.the-invariant-loop-top goal.the-decreases-loop-top
-
-abbrev Start : Type 0
-Start = lts.Start tie.the-claims reads.Pre reads.Post goal.the-invariant-loop-top goal.the-decreases-loop-top
-
--- the start, a turn of the loop, and what is known there: the walk, with one that waits, and that it is within the room
-abbrev Start : Type 0
-Start = Start
-
-abbrev Turn : Type 0
-Turn = InLoop
-
-abbrev to_start : Turn → Start
-to_start c = c.before.before.before.before.before.before.before.before.before.before
-
-abbrev rows_at : Start → Rows
+-- the start; a turn of the loop, and what is known there: the walk, with one that waits, and that it is within the room
+abbrev rows_at : In-loop-top → Rows
 rows_at c = rows c.args.nodes.now c.args.links.now
 
-abbrev goal_at : Start → List Word
+abbrev goal_at : In-loop-top → List Word
 goal_at c = spoken (rows_at c) (height (rows_at c)) c.args.row
 
-abbrev first_scratch : Turn → List ℕ
+abbrev first_scratch : In-loop-top → List ℕ
 first_scratch c = c.push-top.new.stack
 
-tour : (c : Turn) → Tour (to_start c).args.s (rows_at (to_start c)) (goal_at (to_start c)) (to_start c).args.symbols.now (first_scratch c) (to_start c).args.count c.loop-top.symbols c.loop-top.scratch c.loop-top.known (suc (c.loop-top.top - 1))
+tour : (c : In-loop-top) → Tour c.args.s (rows_at c) (goal_at c) c.args.symbols.now (first_scratch c) c.args.count c.loop-top.symbols c.loop-top.scratch c.loop-top.known (suc (c.loop-top.top - 1))
 tour c = let z : c.loop-top.top ≡ suc (c.loop-top.top - 1) = omega arith in rw z at c.loop-top.invariant.0
 
-lent : (c : Turn) → (to_start c).args.s + 2 * (height (rows_at (to_start c)) + link_count (rows_at (to_start c))) ≤ length (first_scratch c)
-lent c = omega (arith, (to_start c).requires.0.room, c.push-top.auto.0)
+lent : (c : In-loop-top) → c.args.s + 2 * (height (rows_at c) + link_count (rows_at c)) ≤ length (first_scratch c)
+lent c = omega (arith, c.requires.0.room, c.push-top.auto.stack)
 
-fits : (c : Turn) → (to_start c).args.s + 2 * c.loop-top.top ≤ length c.loop-top.scratch
-fits c = inside (to_start c).requires.0.good (lent c) c.loop-top.invariant.0
+fits : (c : In-loop-top) → c.args.s + 2 * c.loop-top.top ≤ length c.loop-top.scratch
+fits c = inside c.requires.0.good (lent c) c.loop-top.invariant.0
 
 -- a row that is taken, and a word
-abbrev tag_at : Turn → ℕ
-tag_at c = get_or c.loop-top.scratch ((to_start c).args.s + 2 * (c.loop-top.top - 1)) 0
+abbrev tag_at : In-loop-top → ℕ
+tag_at c = get_or c.loop-top.scratch (c.args.s + 2 * (c.loop-top.top - 1)) 0
 
-abbrev number_at : Turn → ℕ
-number_at c = get_or c.loop-top.scratch ((to_start c).args.s + 2 * (c.loop-top.top - 1) + 1) 0
+abbrev number_at : In-loop-top → ℕ
+number_at c = get_or c.loop-top.scratch (c.args.s + 2 * (c.loop-top.top - 1) + 1) 0
 
-abbrev Popped : (c : Turn) → Part → Type 0
-Popped c p = stacked (rows_at (to_start c)) c.loop-top.scratch (to_start c).args.s (suc (c.loop-top.top - 1)) ≡ p ∷ stacked (rows_at (to_start c)) c.loop-top.scratch (to_start c).args.s (c.loop-top.top - 1)
+abbrev Popped : (c : In-loop-top) → Part → Type 0
+Popped c p = stacked (rows_at c) c.loop-top.scratch c.args.s (suc (c.loop-top.top - 1)) ≡ p ∷ stacked (rows_at c) c.loop-top.scratch c.args.s (c.loop-top.top - 1)
 
-row_popped : (c : Turn) → tag_at c ≡ 0 → Popped c (row (number_at c))
+row_popped : (c : In-loop-top) → tag_at c ≡ 0 → Popped c (row (number_at c))
 row_popped c e = popped_row _ _ _ _ e
 
 -- what a row holds, number by number
-held : (c : Turn) (e : tag_at c ≡ 0) → numbers_parts (to_start c).args.nodes.now (to_start c).args.links.now (number_at c) 0 9 ≡ parts_of (rows_at (to_start c)) (number_at c)
-held c e = parts_all (rows_at (to_start c)) (number_at c) (stood (to_start c).requires.0.good (row_there (to_start c).requires.0.good (tour c) (row_popped c e)))
+held : (c : In-loop-top) (e : tag_at c ≡ 0) → numbers_parts c.args.nodes.now c.args.links.now (number_at c) 0 9 ≡ parts_of (rows_at c) (number_at c)
+held c e = parts_all (rows_at c) (number_at c) (stood c.requires.0.good (row_there c.requires.0.good (tour c) (row_popped c e)))
 
 -- the row that the walk begins at waits
-abbrev Entered : Type 0
-Entered = AfterPush
-
-entered : (c : Entered) → (let s = c.before.before.before.before.before.before in Pushed (rows_at s) s.args.s 0 (row s.args.row ∷ []) s.args.scratch.now c.push-top.new.stack c.push-top.result)
+entered : (c : After-push-top) → Pushed (rows c.args.nodes.now c.args.links.now) c.args.s 0 (row c.args.row ∷ []) c.args.scratch.now c.push-top.new.stack c.push-top.result
 entered c =
-    let s = c in
-    let g = s.requires.0.good in
-    pushed_one _ _ _ _ _ (omega (arith, s.requires.0.room, g.checked.rooted.some)) (row_waits _ (λ e. omega (arith, g.short, s.requires.1))) c.push-top.ensures
+    let g = c.requires.0.good in
+    pushed_one _ _ _ _ _ (omega (arith, c.requires.0.room, g.checked.rooted.some)) (row_waits _ (λ e. omega (arith, g.short, c.requires.1))) c.push-top.ensures
 
 -- so an index is below the length that was lent
-below : (c : Turn) (i : ℕ) → i < (to_start c).args.s + 2 * c.loop-top.top → i < length (to_start c).args.scratch.now
-below c i h = omega (arith, fits c, (tour c).same, c.push-top.auto.0)
+below : (c : In-loop-top) (i : ℕ) → i < c.args.s + 2 * c.loop-top.top → i < length c.args.scratch.now
+below c i h = omega (arith, fits c, (tour c).same, c.push-top.auto.stack)
 
 -- the room has a number for each symbol
-numbers : (c : Turn) → (to_start c).args.s ≤ length c.loop-top.scratch
+numbers : (c : In-loop-top) → c.args.s ≤ length c.loop-top.scratch
 numbers c = omega (arith, fits c)
 
 pub push-top-requires : goal.push-top-requires
-push-top-requires c = let s = c in omega (arith, s.requires.0.room, s.requires.0.good.checked.rooted.some)
+push-top-requires c = omega (arith, c.requires.0.room, c.requires.0.good.checked.rooted.some)
 
 pub loop-top-init : goal.loop-top-init
-loop-top-init c = let s = c in (began s.requires.0.good {sc₀ = s.args.scratch.now} s.requires.1 (entered c.before.before.before), refl)
+loop-top-init c = (began c.requires.0.good {sc₀ = c.args.scratch.now} c.requires.1 (entered (goal.at.loop-top-init c).After-push-top), refl)
 
 pub overflow_mul-tag : goal.overflow_mul-tag
-overflow_mul-tag c = omega (arith, fits c.before)
+overflow_mul-tag c = omega (arith, fits (goal.at.overflow_mul-tag c).In-loop-top)
 
 pub overflow_add-tag : goal.overflow_add-tag
-overflow_add-tag c = omega (arith, fits c.before)
+overflow_add-tag c = omega (arith, fits (goal.at.overflow_add-tag c).In-loop-top)
 
 pub offset_bounds-scratch-s : goal.offset_bounds-scratch-s
-offset_bounds-scratch-s c = let l = below c.before ((to_start c.before).args.s + 2 * (c.loop-top.top - 1)) (omega arith) in search rules
+offset_bounds-scratch-s c = let l = below (goal.at.offset_bounds-scratch-s c).In-loop-top (c.args.s + 2 * (c.loop-top.top - 1)) (omega arith) in search rules
 
 pub bounds-scratch-s : goal.bounds-scratch-s
-bounds-scratch-s c = omega (arith, fits c.before.before)
+bounds-scratch-s c = omega (arith, fits (goal.at.bounds-scratch-s c).In-loop-top)
 
 pub overflow_mul-x : goal.overflow_mul-x
-overflow_mul-x c = omega (arith, fits c.before.before)
+overflow_mul-x c = omega (arith, fits (goal.at.overflow_mul-x c).In-loop-top)
 
 pub overflow_add-x : goal.overflow_add-x
-overflow_add-x c = omega (arith, fits c.before.before)
+overflow_add-x c = omega (arith, fits (goal.at.overflow_add-x c).In-loop-top)
 
 pub overflow_add-x-in-loop-top : goal.overflow_add-x-in-loop-top
-overflow_add-x-in-loop-top c = omega (arith, fits c.before.before)
+overflow_add-x-in-loop-top c = omega (arith, fits (goal.at.overflow_add-x-in-loop-top c).In-loop-top)
 
 pub offset_bounds-scratch-s-in-loop-top : goal.offset_bounds-scratch-s-in-loop-top
-offset_bounds-scratch-s-in-loop-top c = let l = below c.before.before ((to_start c.before.before).args.s + 2 * (c.loop-top.top - 1) + 1) (omega arith) in search rules
+offset_bounds-scratch-s-in-loop-top c = let l = below (goal.at.offset_bounds-scratch-s-in-loop-top c).In-loop-top (c.args.s + 2 * (c.loop-top.top - 1) + 1) (omega arith) in search rules
 
 pub bounds-scratch-s-in-loop-top : goal.bounds-scratch-s-in-loop-top
-bounds-scratch-s-in-loop-top c = omega (arith, fits c.before.before.before)
+bounds-scratch-s-in-loop-top c = omega (arith, fits (goal.at.bounds-scratch-s-in-loop-top c).In-loop-top)
 
 pub push_parts-top-requires : goal.push_parts-top-requires
 push_parts-top-requires c =
-    let t = c.before.before.before.before.before in
-    let g = (to_start t).requires.0.good in
+    let t = (goal.at.push_parts-top-requires c).In-loop-top in
+    let g = t.requires.0.good in
     let e = c.if-tag-eq-ROW.true in
     (record { symbols = _; good = g }, row_there g (tour t) (row_popped t e), rw (held t e) (row_room g (tour t) (row_popped t e) (lent t)))
 
 pub loop-top-smaller-then-tag-eq-ROW : goal.loop-top-smaller-then-tag-eq-ROW
 loop-top-smaller-then-tag-eq-ROW c =
-    let t = c.before.before.before.before.before.before.before.before in
+    let t = (goal.at.loop-top-smaller-then-tag-eq-ROW c).In-loop-top in
     let e = c.if-tag-eq-ROW.true in
     let z : suc (t.loop-top.top - 1) ≡ t.loop-top.top = omega arith in
-    rw z at (row_steps (to_start t).requires.0.good (tour t) (row_popped t e) (rw (held t e) at c.push_parts-top.ensures))
+    rw z at (row_steps t.requires.0.good (tour t) (row_popped t e) (rw (held t e) at c.push_parts-top.ensures))
 
 pub loop-top-preserved-then-tag-eq-ROW : goal.loop-top-preserved-then-tag-eq-ROW
 loop-top-preserved-then-tag-eq-ROW c =
-    let t = c.before.before.before.before.before.before.before.before in
-    let g = (to_start t).requires.0.good in
+    let t = (goal.at.loop-top-preserved-then-tag-eq-ROW c).In-loop-top in
+    let g = t.requires.0.good in
     let e = c.if-tag-eq-ROW.true in
-    (row_taken g (tour t) (row_popped t e) (rw (held t e) at c.push_parts-top.ensures) c.push_parts-top.auto.0, t.loop-top.invariant.1)
+    (row_taken g (tour t) (row_popped t e) (rw (held t e) at c.push_parts-top.ensures) c.push_parts-top.auto.stack, t.loop-top.invariant.1)
 
 pub spell-requires : goal.spell-requires
 spell-requires c = c.if-tag-eq-ROW.false
 
 pub hear-known-requires : goal.hear-known-requires
 hear-known-requires c =
-    let t = c.before.before.before.before.before.before.before in
-    let a = to_start t in
-    let g = a.requires.0.good in
-    let l = word_low g (tour t) (popped_word (rows_at a) t.loop-top.scratch a.args.s (t.loop-top.top - 1) c.spell.ensures) in
-    let h = (tour t).hears.says ((hears_low (entered t.before.before.before.before).low).says a.requires.2.hearing) in
-    (omega (arith, fits t), λ z. (let k = room_left h c.spell.result.symbol l z in (omega (arith, h.room), omega (arith, a.requires.0.few))))
+    let t = (goal.at.hear-known-requires c).In-loop-top in
+    let g = t.requires.0.good in
+    let l = word_low g (tour t) (popped_word (rows_at t) t.loop-top.scratch t.args.s (t.loop-top.top - 1) c.spell.ensures) in
+    let h = (tour t).hears.says ((hears_low (entered (goal.at.hear-known-requires c).After-push-top).low).says t.requires.2.hearing) in
+    (omega (arith, fits t), λ z. (let k = room_left h c.spell.result.symbol l z in (omega (arith, h.room), omega (arith, t.requires.0.few))))
 
 pub loop-top-smaller : goal.loop-top-smaller
 loop-top-smaller c =
-    let t = c.before.before.before.before.before.before.before.before.before.before.before.before in
-    let a = to_start t in
+    let t = (goal.at.loop-top-smaller c).In-loop-top in
     let z : suc (t.loop-top.top - 1) ≡ t.loop-top.top = omega arith in
-    rw z at (word_steps a.requires.0.good (tour t) (popped_word (rows_at a) t.loop-top.scratch a.args.s (t.loop-top.top - 1) c.spell.ensures) (numbers t) c.hear-known.ensures)
+    rw z at (word_steps t.requires.0.good (tour t) (popped_word (rows_at t) t.loop-top.scratch t.args.s (t.loop-top.top - 1) c.spell.ensures) (numbers t) c.hear-known.ensures)
 
 pub loop-top-preserved : goal.loop-top-preserved
 loop-top-preserved c =
-    let t = c.before.before.before.before.before.before.before.before.before.before.before.before in
-    let a = to_start t in
-    let k = c.hear-known.auto in
-    (word_taken a.requires.0.good (tour t) (popped_word (rows_at a) t.loop-top.scratch a.args.s (t.loop-top.top - 1) c.spell.ensures) (numbers t) c.hear-known.ensures k.1.0, k.0 ∙ t.loop-top.invariant.1)
+    let t = (goal.at.loop-top-preserved c).In-loop-top in
+    (word_taken t.requires.0.good (tour t) (popped_word (rows_at t) t.loop-top.scratch t.args.s (t.loop-top.top - 1) c.spell.ensures) (numbers t) c.hear-known.ensures c.hear-known.auto.scratch, c.hear-known.auto.symbols ∙ t.loop-top.invariant.1)
 
 pub returns : goal.returns
-returns c = let a = c.before.before.before.before.before.before.before.before.before.before.before in hears_both [] (goal_at a) (hears_low (entered c.before.before.before.before.before).low) (ended a.requires.0.good (omega arith) c.loop-top.invariant.0)
+returns c = hears_both [] (spoken (rows c.args.nodes.now c.args.links.now) (height (rows c.args.nodes.now c.args.links.now)) c.args.row) (hears_low (entered (goal.at.returns c).After-push-top).low) (ended c.requires.0.good (omega arith) c.loop-top.invariant.0)

@@ -1,5 +1,4 @@
 -- `spell` meets its contract: a link's name, a name in a row, a string.
-use borrow.Author.Rules.{rules}
 use native.Mathlib.Omega.{arith}
 use Rattle.packing.proofs.Spelling.{link_spelled, name_spelled, string_spelled}
 use Rattle.packing.proofs.hear.spell.Goals as goal

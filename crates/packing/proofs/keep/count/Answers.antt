@@ -1,38 +1,24 @@
 -- `count` meets its contract: rows so far have their place, those from there on are still marked.
-use Prim.Native.Nat.{◌+◌, ◌-◌, ◌<◌}
+use Prim.Native.Nat.{◌+◌, ◌<◌}
 use native.Mathlib.Omega.{arith}
 use mathlib.Core.Path.{◌≡◌}
-use lib.ListN.{length, length-set}
+use lib.ListN.{length}
 use Rattle.parts.specs.Packed.{root_row}
 use Rattle.packing.specs.Roles.{rows}
-use Rattle.packing.proofs.Keeping.{Counting, none_counted, mark_small, row_counted, root_counted, root_low}
+use Rattle.packing.proofs.Keeping.{none_counted, mark_small, row_counted, root_counted, root_low}
 use Rattle.packing.proofs.keep.count.Goals as goal
-use Rattle.packing.proofs.keep.count.Lts as lts
-use Rattle.packing.proofs.keep.count.Tie as tie
-use Rattle.packing.proofs.keep.count.Reads as reads
+use Rattle.packing.proofs.keep.count.Goals.{In-loop-i, After-loop-i}
 
-abbrev AfterLoop : Type 0
-AfterLoop = lts.After-loop reads.Pre reads.Post goal.the-invariant-loop-i goal.the-decreases-loop-i
-
-abbrev InLoop : Type 0
-InLoop = lts.In-loop reads.Pre reads.Post goal.the-invariant-loop-i goal.the-decreases-loop-i
-
-abbrev InLoop : Type 0
-InLoop = InLoop
-
-under : (c : InLoop) → c.loop-i.i < root_row (rows c.args.nodes.now c.args.links.now)
+under : (c : In-loop-i) → c.loop-i.i < root_row (rows c.args.nodes.now c.args.links.now)
 under c = omega (arith, c.requires.2, c.loop-i-test.true)
 
-inside : (c : InLoop) → c.args.base + c.loop-i.i < length c.loop-i.scratch
+inside : (c : In-loop-i) → c.args.base + c.loop-i.i < length c.loop-i.scratch
 inside c = omega (arith, under c, c.requires.1, c.loop-i.invariant.size)
 
-abbrev Counted : Type 0
-Counted = AfterLoop
-
-at_root : (c : Counted) → c.loop-i.i ≡ root_row (rows c.args.nodes.now c.args.links.now)
+at_root : (c : After-loop-i) → c.loop-i.i ≡ root_row (rows c.args.nodes.now c.args.links.now)
 at_root c = omega (arith, c.requires.2, c.loop-i-test.false, c.loop-i.invariant.most)
 
-root_inside : (c : Counted) → c.args.base + c.args.root < length c.loop-i.scratch
+root_inside : (c : After-loop-i) → c.args.base + c.args.root < length c.loop-i.scratch
 root_inside c = let s = c.requires in omega (arith, s.1, s.2, s.0.good.checked.rooted.some, c.loop-i.invariant.size)
 
 pub loop-i-init : goal.loop-i-init
@@ -45,28 +31,22 @@ pub offset_bounds-scratch-base : goal.offset_bounds-scratch-base
 offset_bounds-scratch-base c = omega (arith, inside c)
 
 pub bounds-scratch-base : goal.bounds-scratch-base
-bounds-scratch-base c = inside c.before.before
+bounds-scratch-base c = inside (goal.at.bounds-scratch-base c).In-loop-i
 
 pub overflow_add-scratch : goal.overflow_add-scratch
-overflow_add-scratch c = omega (arith, inside c.before)
+overflow_add-scratch c = omega (arith, inside (goal.at.overflow_add-scratch c).In-loop-i)
 
 pub offset_bounds-scratch-base-in-loop-i : goal.offset_bounds-scratch-base-in-loop-i
-offset_bounds-scratch-base-in-loop-i c = omega (arith, inside c.before)
+offset_bounds-scratch-base-in-loop-i c = omega (arith, inside (goal.at.offset_bounds-scratch-base-in-loop-i c).In-loop-i)
 
 pub bounds-scratch-base-in-loop-i : goal.bounds-scratch-base-in-loop-i
-bounds-scratch-base-in-loop-i c = inside c.before
+bounds-scratch-base-in-loop-i c = inside (goal.at.bounds-scratch-base-in-loop-i c).In-loop-i
 
 pub overflow_add-before : goal.overflow_add-before
-overflow_add-before c = let b = c.before in let s = b.requires in omega (arith, under b, mark_small s.1 b.loop-i.invariant (under b), s.0.good.short)
-
-pub overflow_add-i : goal.overflow_add-i
-overflow_add-i c = omega arith
-
-pub loop-i-smaller : goal.loop-i-smaller
-loop-i-smaller c = omega arith
+overflow_add-before c = let b = (goal.at.overflow_add-before c).In-loop-i in let s = b.requires in omega (arith, under b, mark_small s.1 b.loop-i.invariant (under b), s.0.good.short)
 
 pub loop-i-preserved : goal.loop-i-preserved
-loop-i-preserved c = let b = c.before in row_counted b.requires.1 b.loop-i.invariant (under b)
+loop-i-preserved c = let b = (goal.at.loop-i-preserved c).In-loop-i in row_counted b.requires.1 b.loop-i.invariant (under b)
 
 pub overflow_add-scratch-2 : goal.overflow_add-scratch-2
 overflow_add-scratch-2 c = omega (arith, root_inside c)
@@ -76,9 +56,6 @@ offset_bounds-scratch-base-2 c = omega (arith, root_inside c)
 
 pub bounds-scratch-base-2 : goal.bounds-scratch-base-2
 bounds-scratch-base-2 c = root_inside c
-
-pub shape_of-scratch : goal.shape_of-scratch
-shape_of-scratch c = simp length-set c.loop-i.invariant.size
 
 pub returns : goal.returns
 returns c =

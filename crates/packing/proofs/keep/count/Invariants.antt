@@ -1,11 +1,7 @@
 -- `count` meets its contract: rows so far have their place, those from there on are still marked.
-use Prim.Native.Nat.{◌+◌, ◌-◌, ◌<◌}
-use native.Mathlib.Omega.{arith}
-use mathlib.Core.Path.{◌≡◌}
-use lib.ListN.{length, length-set}
-use Rattle.parts.specs.Packed.{root_row}
+use Prim.Native.Nat.{◌-◌}
 use Rattle.packing.specs.Roles.{rows}
-use Rattle.packing.proofs.Keeping.{Counting, none_counted, mark_small, row_counted, root_counted, root_low}
+use Rattle.packing.proofs.Keeping.{Counting}
 use Rattle.packing.proofs.keep.count.Given as goal
 
 abbrev pub invariant-loop-i : goal.invariant-loop-i

@@ -4,40 +4,28 @@ use native.Mathlib.Omega.{arith}
 use mathlib.Core.Path.{◌≡◌, refl}
 use lib.ListN.{length, get_or}
 use Rattle.grammar.specs.Room.{node_width, own_width}
-use Rattle.packing.specs.Roles.{rows}
-use Rattle.packing.proofs.Keeping.{Spreading, none_spread, parent_there, parent_below, row_spread, row_kept}
+use Rattle.packing.proofs.Keeping.{none_spread, parent_there, parent_below, row_spread, row_kept}
 use Rattle.packing.proofs.keep.spread.Goals as goal
-use Rattle.packing.proofs.keep.spread.Lts as lts
-use Rattle.packing.proofs.keep.spread.Tie as tie
-use Rattle.packing.proofs.keep.spread.Reads as reads
-
-abbrev InLoop : Type 0
-InLoop = lts.In-loop reads.Pre reads.Post goal.the-invariant-loop-i goal.the-decreases-loop-i
-
-abbrev InLoop : Type 0
-InLoop = InLoop
+use Rattle.packing.proofs.keep.spread.Goals.{In-loop-i}
 
 -- where the parent's number stands, and that it does
-abbrev place : InLoop → ℕ
+abbrev place : In-loop-i → ℕ
 place c = node_width * (c.loop-i.i - 1) + own_width
 
-there : (c : InLoop) → place c < length c.args.nodes.now
+there : (c : In-loop-i) → place c < length c.args.nodes.now
 there c = parent_there c.requires.0 c.loop-i.invariant c.loop-i-test.true
 
 -- the row and its parent have a number in the room
-inside : (c : InLoop) → c.args.base + get_or c.args.nodes.now (place c) 0 < length c.loop-i.scratch
+inside : (c : In-loop-i) → c.args.base + get_or c.args.nodes.now (place c) 0 < length c.loop-i.scratch
 inside c =
     let p = c.requires.0 in
     omega (arith, parent_below p c.loop-i.invariant c.loop-i-test.true, p.room, c.loop-i.invariant.size, p.sound.good.checked.rooted.some)
 
-own_inside : (c : InLoop) → c.args.base + (c.loop-i.i - 1) < length c.loop-i.scratch
+own_inside : (c : In-loop-i) → c.args.base + (c.loop-i.i - 1) < length c.loop-i.scratch
 own_inside c = let p = c.requires.0 in omega (arith, p.room, c.loop-i.invariant.size, c.loop-i.invariant.most, c.loop-i-test.true)
 
 pub loop-i-init : goal.loop-i-init
 loop-i-init c = none_spread c.requires.0 c.requires.1 c.requires.2
-
-pub overflow_sub-i : goal.overflow_sub-i
-overflow_sub-i c = omega arith
 
 pub overflow_mul-parent : goal.overflow_mul-parent
 overflow_mul-parent c = omega (arith, there c)
@@ -49,43 +37,31 @@ pub offset_bounds-nodes-i : goal.offset_bounds-nodes-i
 offset_bounds-nodes-i c = omega (arith, there c)
 
 pub bounds-nodes-i : goal.bounds-nodes-i
-bounds-nodes-i c = there c.before.before
-
-pub overflow_cast-parent : goal.overflow_cast-parent
-overflow_cast-parent c = omega (arith, c.shared_slice_known-1.given (place c.before.before))
+bounds-nodes-i c = there (goal.at.bounds-nodes-i c).In-loop-i
 
 pub overflow_add-scratch : goal.overflow_add-scratch
-overflow_add-scratch c = omega (arith, inside c.before.before.before)
+overflow_add-scratch c = omega (arith, inside (goal.at.overflow_add-scratch c).In-loop-i)
 
 pub offset_bounds-scratch-base : goal.offset_bounds-scratch-base
-offset_bounds-scratch-base c = omega (arith, inside c.before.before.before)
+offset_bounds-scratch-base c = omega (arith, inside (goal.at.offset_bounds-scratch-base c).In-loop-i)
 
 pub bounds-scratch-base : goal.bounds-scratch-base
-bounds-scratch-base c = inside c.before.before.before.before
+bounds-scratch-base c = inside (goal.at.bounds-scratch-base c).In-loop-i
 
 pub overflow_add-scratch-then-parent-root : goal.overflow_add-scratch-then-parent-root
-overflow_add-scratch-then-parent-root c = omega (arith, own_inside c.before.before.before.before)
+overflow_add-scratch-then-parent-root c = omega (arith, own_inside (goal.at.overflow_add-scratch-then-parent-root c).In-loop-i)
 
 pub offset_bounds-scratch-base-then-parent-root : goal.offset_bounds-scratch-base-then-parent-root
-offset_bounds-scratch-base-then-parent-root c = omega (arith, own_inside c.before.before.before.before)
+offset_bounds-scratch-base-then-parent-root c = omega (arith, own_inside (goal.at.offset_bounds-scratch-base-then-parent-root c).In-loop-i)
 
 pub bounds-scratch-base-then-parent-root : goal.bounds-scratch-base-then-parent-root
-bounds-scratch-base-then-parent-root c = own_inside c.before.before.before.before
-
-pub loop-i-smaller-then-parent-root : goal.loop-i-smaller-then-parent-root
-loop-i-smaller-then-parent-root c = omega arith
+bounds-scratch-base-then-parent-root c = own_inside (goal.at.bounds-scratch-base-then-parent-root c).In-loop-i
 
 pub loop-i-preserved-then-parent-root : goal.loop-i-preserved-then-parent-root
-loop-i-preserved-then-parent-root c = let b = c.before.before.before.before in let s = b in row_spread s.requires.0 b.loop-i.invariant b.loop-i-test.true s.requires.1 refl c.if-parent-root.true
-
-pub loop-i-smaller : goal.loop-i-smaller
-loop-i-smaller c = omega arith
+loop-i-preserved-then-parent-root c = let b = (goal.at.loop-i-preserved-then-parent-root c).In-loop-i in row_spread b.requires.0 b.loop-i.invariant b.loop-i-test.true b.requires.1 refl c.if-parent-root.true
 
 pub loop-i-preserved : goal.loop-i-preserved
-loop-i-preserved c = let b = c.before.before.before in let s = b in row_kept s.requires.0 b.loop-i.invariant b.loop-i-test.true s.requires.1 c.if-parent-root.false
-
-pub shape_of-scratch : goal.shape_of-scratch
-shape_of-scratch c = c.loop-i.invariant.size
+loop-i-preserved c = let b = (goal.at.loop-i-preserved c).In-loop-i in row_kept b.requires.0 b.loop-i.invariant b.loop-i-test.true b.requires.1 c.if-parent-root.false
 
 pub returns : goal.returns
 returns c = let l = c.loop-i in let e : l.i ≡ 0 = omega arith in (rw e at l.invariant.staying, l.invariant.low)

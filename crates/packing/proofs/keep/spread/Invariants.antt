@@ -1,11 +1,6 @@
 -- `spread` meets its contract: from the last row to the first, each is marked as it stays.
-use Prim.Native.Nat.{ℕ, ◌+◌, ◌-◌, ◌*◌, ◌<◌}
-use native.Mathlib.Omega.{arith}
-use mathlib.Core.Path.{◌≡◌, refl}
-use lib.ListN.{length, get_or}
-use Rattle.grammar.specs.Room.{node_width, own_width}
 use Rattle.packing.specs.Roles.{rows}
-use Rattle.packing.proofs.Keeping.{Spreading, none_spread, parent_there, parent_below, row_spread, row_kept}
+use Rattle.packing.proofs.Keeping.{Spreading}
 use Rattle.packing.proofs.keep.spread.Given as goal
 
 abbrev pub invariant-loop-i : goal.invariant-loop-i

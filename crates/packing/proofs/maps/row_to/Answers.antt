@@ -5,18 +5,10 @@ use Prim.Native.Nat.{◌+◌, ◌<◌}
 use lib.ListN.{length}
 use Rattle.grammar.specs.Handle.{absent}
 use Rattle.packing.proofs.maps.row_to.Goals as goal
-use Rattle.packing.proofs.maps.row_to.Lts as lts
-use Rattle.packing.proofs.maps.row_to.Tie as tie
-use Rattle.packing.proofs.maps.row_to.Reads as reads
-
-abbrev Else1 : Type 0
-Else1 = lts.Else1 reads.Pre reads.Post
-
-abbrev Present : Type 0
-Present = Else1
+use Rattle.packing.proofs.maps.row_to.Goals.{Else-x-eq-ABSENT}
 
 -- a row that is not absent has a number in the room
-inside : (c : Present) → c.args.base + c.args.x < length c.args.scratch.now
+inside : (c : Else-x-eq-ABSENT) → c.args.base + c.args.x < length c.args.scratch.now
 inside c = c.requires (ne_eqb c.args.x absent c.if-x-eq-ABSENT.false)
 
 pub returns-then-x-eq-ABSENT : goal.returns-then-x-eq-ABSENT
@@ -29,7 +21,7 @@ pub offset_bounds-scratch-base : goal.offset_bounds-scratch-base
 offset_bounds-scratch-base c = omega (arith, inside c)
 
 pub bounds-scratch-base : goal.bounds-scratch-base
-bounds-scratch-base c = inside c.before.before
+bounds-scratch-base c = inside (goal.at.bounds-scratch-base c).Else-x-eq-ABSENT
 
 pub returns : goal.returns
 returns c = rw (ne_eqb c.args.x absent c.if-x-eq-ABSENT.false)

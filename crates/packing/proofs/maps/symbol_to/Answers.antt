@@ -1,5 +1,4 @@
 -- `symbol_to` meets its contract.
-use borrow.Author.Rules.{rules}
 use borrow.Author.Tests.{eq-eqb, ne_eqb}
 use Rattle.packing.proofs.maps.symbol_to.Goals as goal
 

@@ -1,10 +1,7 @@
 -- `move_list` meets its contract: the links so far are moved, and those from the place that is read on are as they were.
-use Prim.Native.Nat.{◌+◌, ◌-◌, ◌≤◌}
-use native.Mathlib.Omega.{arith}
-use mathlib.Core.Path.{◌≡◌}
-use lib.ListN.{length-set}
+use Prim.Native.Nat.{◌-◌, ◌≤◌}
 use Rattle.packing.specs.Rows.{moving}
-use Rattle.packing.proofs.Moving.{Listed, none_listed, still_first, still_second, link_turn}
+use Rattle.packing.proofs.Moving.{Listed}
 use Rattle.packing.proofs.pack.move_list.Given as goal
 
 abbrev pub invariant-loop-k : goal.invariant-loop-k

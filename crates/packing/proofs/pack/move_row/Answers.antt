@@ -1,19 +1,9 @@
 -- `move_row` meets its contract: the numbers so far are moved, and those from the one that is read on are as they were.
-use Prim.Native.Nat.{◌-◌}
 use native.Mathlib.Omega.{arith}
 use mathlib.Core.Path.{◌≡◌, ◌∙◌}
 use Rattle.packing.specs.Rows.{moving}
-use Rattle.packing.proofs.Moving.{role_read, kind_of_row, Rowed, none_rowed, still_number, number_turn}
+use Rattle.packing.proofs.Moving.{role_read, kind_of_row, none_rowed, still_number, number_turn}
 use Rattle.packing.proofs.pack.move_row.Goals as goal
-
-pub overflow_mul-from : goal.overflow_mul-from
-overflow_mul-from c = omega arith
-
-pub offset_bounds-nodes-from : goal.offset_bounds-nodes-from
-offset_bounds-nodes-from c = omega arith
-
-pub bounds-nodes-from : goal.bounds-nodes-from
-bounds-nodes-from c = omega arith
 
 pub loop-j-init : goal.loop-j-init
 loop-j-init c = let a = c.args in none_rowed (moving a.scratch.now a.m) a.nodes.now a.row a.to
@@ -21,47 +11,17 @@ loop-j-init c = let a = c.args in none_rowed (moving a.scratch.now a.m) a.nodes.
 pub role-requires : goal.role-requires
 role-requires c = let k = kind_of_row c.requires.stands in (k.least, k.most, omega arith)
 
-pub overflow_add-from : goal.overflow_add-from
-overflow_add-from c = omega arith
-
-pub offset_bounds-nodes-from-in-loop-j : goal.offset_bounds-nodes-from-in-loop-j
-offset_bounds-nodes-from-in-loop-j c = omega arith
-
-pub bounds-nodes-from-in-loop-j : goal.bounds-nodes-from-in-loop-j
-bounds-nodes-from-in-loop-j c = omega arith
-
 pub number-requires : goal.number-requires
 number-requires c =
     let s = c in
     let l = c.loop-j in
     rw (c.role.ensures ∙ role_read s.args.nodes.now s.args.row l.j, still_number s.requires.back l.invariant) (s.requires.each l.j (omega arith))
 
-pub overflow_mul-nodes : goal.overflow_mul-nodes
-overflow_mul-nodes c = omega arith
-
-pub overflow_add-nodes : goal.overflow_add-nodes
-overflow_add-nodes c = omega arith
-
-pub offset_bounds-nodes-to : goal.offset_bounds-nodes-to
-offset_bounds-nodes-to c = omega arith
-
-pub bounds-nodes-to : goal.bounds-nodes-to
-bounds-nodes-to c = omega arith
-
-pub overflow_add-j : goal.overflow_add-j
-overflow_add-j c = omega arith
-
-pub loop-j-smaller : goal.loop-j-smaller
-loop-j-smaller c = omega arith
-
 pub loop-j-preserved : goal.loop-j-preserved
 loop-j-preserved c =
     let s = c in
     let l = c.loop-j in
     number_turn s.requires.back l.invariant c.role.ensures c.number.ensures (omega (arith, l.invariant.done.size, s.requires.back, s.requires.stands.room)) (omega arith)
-
-pub shape_of-nodes : goal.shape_of-nodes
-shape_of-nodes c = c.loop-j.invariant.done.size
 
 pub returns : goal.returns
 returns c = let l = c.loop-j in let e : l.j ≡ 10 = omega (arith, l.invariant.most) in rw e at l.invariant.done

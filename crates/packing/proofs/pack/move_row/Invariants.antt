@@ -1,9 +1,7 @@
 -- `move_row` meets its contract: the numbers so far are moved, and those from the one that is read on are as they were.
 use Prim.Native.Nat.{◌-◌}
-use native.Mathlib.Omega.{arith}
-use mathlib.Core.Path.{◌≡◌, ◌∙◌}
 use Rattle.packing.specs.Rows.{moving}
-use Rattle.packing.proofs.Moving.{role_read, kind_of_row, Rowed, none_rowed, still_number, number_turn}
+use Rattle.packing.proofs.Moving.{Rowed}
 use Rattle.packing.proofs.pack.move_row.Given as goal
 
 abbrev pub invariant-loop-j : goal.invariant-loop-j

@@ -1,11 +1,7 @@
 -- `pack_list` meets its contract: the statements so far that are kept stand in the list, and those after them are as they were.
-use Prim.Native.Nat.{◌+◌, ◌-◌, ◌*◌, ◌≤◌, ◌<◌}
-use native.Mathlib.Omega.{arith}
-use mathlib.Core.Logic.{inl, inr}
-use mathlib.Core.Path.{◌≡◌}
-use lib.ListN.{length, get_or, length-set}
-use Rattle.grammar.specs.Room.{link_width}
-use Rattle.packing.proofs.Moving.{Chosen, none_chosen, still_statement, statement_left, statement_kept}
+use Prim.Native.Nat.{◌-◌}
+use lib.ListN.{length}
+use Rattle.packing.proofs.Moving.{Chosen}
 use Rattle.packing.proofs.pack.pack_list.Given as goal
 
 abbrev pub invariant-loop-j : goal.invariant-loop-j

@@ -1,11 +1,7 @@
 -- `pack_rows` meets its contract: the rows so far are packed, whatever the choice was, and those from there on are as they were.
 use Prim.Native.Nat.{◌-◌}
-use native.Mathlib.Omega.{arith}
-use mathlib.Core.Logic.{inl, inr}
-use mathlib.Core.Path.{◌≡◌}
-use Rattle.parts.specs.Packed.{root_row}
 use Rattle.packing.specs.Roles.{rows}
-use Rattle.packing.proofs.Packing.{Packing, none_packed, stands, low, fits, lists_ready, row_ready, turn_kept, turn_left}
+use Rattle.packing.proofs.Packing.{Packing}
 use Rattle.packing.proofs.pack.pack_rows.Given as goal
 
 abbrev pub invariant-loop-i : goal.invariant-loop-i

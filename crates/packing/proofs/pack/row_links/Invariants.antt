@@ -1,10 +1,6 @@
 -- `row_links` meets its contract: what is counted is the links of the lists among the numbers so far.
-use Prim.Native.Nat.{◌+◌, ◌-◌, ◌*◌}
-use native.Mathlib.Omega.{arith}
-use mathlib.Core.Logic.{inl, inr}
-use mathlib.Core.Path.{◌≡◌}
-use Rattle.grammar.specs.Room.{node_width}
-use Rattle.packing.proofs.Moving.{kind_of_row, Sized, none_counted, plain_counted, list_counted}
+use Prim.Native.Nat.{◌-◌}
+use Rattle.packing.proofs.Moving.{Sized}
 use Rattle.packing.proofs.pack.row_links.Given as goal
 
 abbrev pub invariant-loop-j : goal.invariant-loop-j

@@ -1,6 +1,5 @@
 -- `roles::role` meets its contract: an octal digit of the kind's number, by a test over the 26 kinds and the ten places.
 use Prim.Native.Nat.{ℕ, ◌*◌, ◌/◌, ◌^◌, ◌≤◌, ◌<◌}
-use borrow.Author.Rules.{rules}
 use native.Mathlib.Omega.{arith}
 use mathlib.Core.Bool.{Bool}
 use mathlib.Core.Path.{◌≡◌}

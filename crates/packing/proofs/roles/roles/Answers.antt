@@ -130,4 +130,4 @@ returns-in-25 c = ranged all_roles (λ x. 134217728) 25 1 c.args.kind tt (omega 
 
 pub returns-in_default : goal.returns-in_default
 unfolding all_roles digits role table
-returns-in_default c = last c.args.kind (omega arith) (omega arith) (apart c.args.kind others c.in_default.rest)
+returns-in_default c = last c.args.kind (omega arith) (omega arith) (apart c.args.kind others c.in_default.in_default-own.rest)

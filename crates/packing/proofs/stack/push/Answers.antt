@@ -1,6 +1,5 @@
 -- `push` meets its contract: two stores.
 use Prim.Native.Nat.{◌+◌, ◌*◌}
-use borrow.Author.Rules.{rules}
 use native.Mathlib.Omega.{arith}
 use lib.ListN.{length-set}
 use Rattle.packing.proofs.stack.push.Goals as goal

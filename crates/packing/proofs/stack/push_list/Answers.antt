@@ -1,12 +1,11 @@
 -- `push_list` meets its contract: from the last link to the first, those that came are the list from here on.
 use Prim.Native.Nat.{ℕ, ◌+◌, ◌-◌, ◌≤◌}
-use borrow.Author.Rules.{rules}
 use native.Mathlib.Omega.{arith}
 use mathlib.Core.Path.{◌≡◌, refl, ap, ◌∙◌}
 use mathlib.Core.List.{List}
 use lib.ListN.{length}
-use Rattle.packing.specs.Roles.{rows, link_parts, list_parts}
-use Rattle.packing.specs.Stack.{present, Pushed}
+use Rattle.packing.specs.Roles.{link_parts, list_parts}
+use Rattle.packing.specs.Stack.{present}
 use Rattle.packing.proofs.Stacking.{pushed_none, pushed_both, present_both, none_present, none_left, list_more, list_all, list_rest}
 use Rattle.packing.proofs.stack.push_list.Goals as goal
 
@@ -30,7 +29,7 @@ loop-left-preserved c =
     let l = c.loop-left in
     let a = c.args in
     let (p, q, r) = l.invariant in
-    (rw (list_more a.sort a.links.now a.from a.count (l.left - 1) l.left (omega arith) q) (pushed_both _ _ p c.push_link-above.ensures), omega arith, c.push_link-above.auto.0 ∙ r)
+    (rw (list_more a.sort a.links.now a.from a.count (l.left - 1) l.left (omega arith) q) (pushed_both _ _ p c.push_link-above.ensures), omega arith, c.push_link-above.auto.stack ∙ r)
 
 pub returns : goal.returns
 returns c =

@@ -1,13 +1,9 @@
 -- `push_list` meets its contract: from the last link to the first, those that came are the list from here on.
-use Prim.Native.Nat.{ℕ, ◌+◌, ◌-◌, ◌≤◌}
-use borrow.Author.Rules.{rules}
-use native.Mathlib.Omega.{arith}
-use mathlib.Core.Path.{◌≡◌, refl, ap, ◌∙◌}
-use mathlib.Core.List.{List}
+use Prim.Native.Nat.{◌+◌, ◌-◌, ◌≤◌}
+use mathlib.Core.Path.{◌≡◌}
 use lib.ListN.{length}
-use Rattle.packing.specs.Roles.{rows, link_parts, list_parts}
-use Rattle.packing.specs.Stack.{present, Pushed}
-use Rattle.packing.proofs.Stacking.{pushed_none, pushed_both, present_both, none_present, none_left, list_more, list_all, list_rest}
+use Rattle.packing.specs.Roles.{rows, list_parts}
+use Rattle.packing.specs.Stack.{Pushed}
 use Rattle.packing.proofs.stack.push_list.Given as goal
 
 abbrev pub invariant-loop-left : goal.invariant-loop-left

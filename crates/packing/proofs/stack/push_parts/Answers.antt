@@ -1,13 +1,12 @@
 -- `push_parts` meets its contract: from the last number to the first, what came is what the numbers from here on hold.
 use Prim.Native.Nat.{ℕ, ◌+◌, ◌-◌, ◌*◌, ◌≤◌}
-use borrow.Author.Rules.{rules}
 use native.Mathlib.Omega.{arith}
 use mathlib.Core.List.{List}
 use mathlib.Core.Path.{◌≡◌, refl, ap, ◌∙◌}
 use lib.ListN.{length, get_or}
 use Rattle.grammar.specs.Room.{node_width}
-use Rattle.packing.specs.Roles.{rows, role, role_at, number_parts, numbers_parts}
-use Rattle.packing.specs.Stack.{present, Pushed}
+use Rattle.packing.specs.Roles.{role, role_at, number_parts, numbers_parts}
+use Rattle.packing.specs.Stack.{present}
 use Rattle.packing.proofs.Ranges.{holds}
 use Rattle.packing.proofs.Slots.{stood}
 use Rattle.packing.proofs.Stacking.{pushed_none, none_present, pushed_both, present_both, add_zero, none_after, number_more, numbers_ask}
@@ -49,7 +48,7 @@ loop-j-preserved c =
     let a = c.args in
     let (p, q, r) = l.invariant in
     let e = c.role.ensures ∙ kind_is a.nodes.now a.row (l.j - 1) in
-    (rw (number_more a.nodes.now a.links.now a.row (l.j - 1) l.j (omega arith) q) (pushed_both _ _ p (rw e at c.push_number-above.ensures)), omega arith, c.push_number-above.auto.0 ∙ r)
+    (rw (number_more a.nodes.now a.links.now a.row (l.j - 1) l.j (omega arith) q) (pushed_both _ _ p (rw e at c.push_number-above.ensures)), omega arith, c.push_number-above.auto.stack ∙ r)
 
 pub returns : goal.returns
 returns c = let z : c.loop-j.j ≡ 0 = omega arith in rw z at c.loop-j.invariant.0

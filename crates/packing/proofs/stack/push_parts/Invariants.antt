@@ -1,16 +1,9 @@
 -- `push_parts` meets its contract: from the last number to the first, what came is what the numbers from here on hold.
-use Prim.Native.Nat.{ℕ, ◌+◌, ◌-◌, ◌*◌, ◌≤◌}
-use borrow.Author.Rules.{rules}
-use native.Mathlib.Omega.{arith}
-use mathlib.Core.List.{List}
-use mathlib.Core.Path.{◌≡◌, refl, ap, ◌∙◌}
-use lib.ListN.{length, get_or}
-use Rattle.grammar.specs.Room.{node_width}
-use Rattle.packing.specs.Roles.{rows, role, role_at, number_parts, numbers_parts}
-use Rattle.packing.specs.Stack.{present, Pushed}
-use Rattle.packing.proofs.Ranges.{holds}
-use Rattle.packing.proofs.Slots.{stood}
-use Rattle.packing.proofs.Stacking.{pushed_none, none_present, pushed_both, present_both, add_zero, none_after, number_more, numbers_ask}
+use Prim.Native.Nat.{◌-◌, ◌≤◌}
+use mathlib.Core.Path.{◌≡◌}
+use lib.ListN.{length}
+use Rattle.packing.specs.Roles.{rows, numbers_parts}
+use Rattle.packing.specs.Stack.{Pushed}
 use Rattle.packing.proofs.stack.push_parts.Given as goal
 
 abbrev pub invariant-loop-j : goal.invariant-loop-j

@@ -1,5 +1,4 @@
 -- `push_row` meets its contract: an absent row is passed over.
-use borrow.Author.Rules.{rules}
 use native.Mathlib.Omega.{arith}
 use Rattle.packing.proofs.Stacking.{pushed_none, pushed_one, absent_none, row_waits, row_one}
 use Rattle.packing.proofs.stack.push_row.Goals as goal
