@@ -1,7 +1,6 @@
 -- `keep` meets its contract: the row is written, or nothing is.
 use mathlib.Core.Path.{refl}
 use native.Mathlib.Omega.{arith}
-use borrow.Author.Rules.{rules}
 use Rattle.lexer.proofs.keep.Goals as goal
 
 pub returns-then-count-rows : goal.returns-then-count-rows

@@ -1,5 +1,4 @@
 -- `lex` meets its contract: the text's length, its first high byte, and then what `tokens` answers.
-use borrow.Author.Rules.{rules}
 use Rattle.door.proofs.Searching.{first_of}
 use Rattle.door.proofs.Codes.{found_high, none_high}
 use Rattle.lexer.specs.Lexes.{Lexes}

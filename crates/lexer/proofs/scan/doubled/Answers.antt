@@ -2,6 +2,7 @@
 use Prim.Native.Nat.{ℕ}
 use mathlib.Core.List.{[], ◌∷◌}
 use mathlib.Core.Path.{ap}
+use borrow.Author.Rules.{rules}
 use Rattle.grammar.specs.Symbol.{same}
 use Rattle.grammar.specs.Lexeme.{spelling}
 use Rattle.lexer.proofs.Signs.{arm, last_arm}
@@ -25,4 +26,4 @@ returns-in-62 c = arm _ (61 ∷ []) 9 tt (ap (λ (b : ℕ). b ∷ 61 ∷ []) c.i
 
 pub returns-in_default : goal.returns-in_default
 unfolding spelling same
-returns-in_default c = last_arm _ (61 ∷ []) (62 ∷ 61 ∷ 60 ∷ 33 ∷ []) tt c.in_default.rest
+returns-in_default c = last_arm _ (61 ∷ []) (62 ∷ 61 ∷ 60 ∷ 33 ∷ []) tt (search rules)

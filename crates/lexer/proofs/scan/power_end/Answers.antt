@@ -1,7 +1,6 @@
 -- `scan::power_end` meets its contract: an `e` of either case with what `signed_end` finds after it; where that is nothing, the `e` is given back.
-use mathlib.Core.Logic.{inl, inr}
 use native.Mathlib.Omega.{arith}
-use borrow.Author.Rules.{rules}
+use lib.ListN.{get_or}
 use Rattle.grammar.specs.Pattern.{bytes, among}
 use Rattle.lexeme.proofs.Numbers.{signed_none}
 use Rattle.grammar.proofs.Ranges.{of_two, not_among}
@@ -19,4 +18,4 @@ pub returns-else-end-from : goal.returns-else-end-from
 returns-else-end-from c = taken_on (byte_on (omega arith) (of_two (among (bytes "eE")) tt c.in-69.is)) c.signed_end-end.ensures c.if-end-from.false
 
 pub returns-in_default : goal.returns-in_default
-returns-in_default c = no_power (omega arith) (not_among _ (bytes "eE") (λ e. c.in_default.rest.1 (inr e), (λ e. c.in_default.rest.1 (inl e), tt)))
+returns-in_default c = no_power (omega arith) (not_among (get_or c.args.text.now c.args.start 0) (bytes "eE") (grind arith, (grind arith, tt)))

@@ -1,20 +1,19 @@
 -- `scan::sign_at` meets its contract: two bytes where they spell a sign, else one, else nothing.
-use mathlib.Core.Logic.{⊎_elim}
 use native.Mathlib.Omega.{arith}
-use borrow.Author.Rules.{rules}
 use Rattle.lexer.specs.Parts.{StartCase}
 use Rattle.lexer.proofs.Standing.{Alone, not_spelt, two_bytes, one_byte, no_byte}
 use Rattle.lexer.proofs.scan.sign_at.Goals as goal
-use Rattle.lexer.proofs.scan.sign_at.Lts as lts
-use Rattle.lexer.proofs.scan.sign_at.Tie as tie
-use Rattle.lexer.proofs.scan.sign_at.Reads as reads
-
-abbrev Joined1 : Type 0
-Joined1 = lts.Joined1 tie.the-claims reads.Pre reads.Post
+use Rattle.lexer.proofs.scan.sign_at.Goals.{After-single-kind, then-next-text+then-second-eq61+else-kind-lt-EOF, then-next-text+else-second-eq61, else-next-text}
 
 -- past the first test no two bytes are a sign
-alone : (c : Joined1) → let a = c.args in Alone a.text.now a.start
-alone c = record { no_two = λ k h l q x. ⊎_elim (λ w. not_spelt w.3.ensures w.4.left k h x) (λ w. ⊎_elim (λ v. v.2.left q) (λ v. absurd (omega arith)) w) c.if-next-text.branch }
+alone : (c : After-single-kind) → let a = c.args in Alone a.text.now a.start
+alone c = record {
+  no_two = λ k h l q x. elim c.if-next-text.branch [
+    | then-next-text+then-second-eq61+else-kind-lt-EOF w ↦ not_spelt w.doubled-kind.ensures w.if-kind-lt-EOF.false k h x
+    | then-next-text+else-second-eq61 w ↦ w.if-second-eq61.false q
+    | else-next-text w ↦ omega arith
+  ];
+}
 
 pub returns-then-kind-lt-EOF : goal.returns-then-kind-lt-EOF
 unfolding StartCase
@@ -22,8 +21,8 @@ returns-then-kind-lt-EOF c = record { says = two_bytes c.requires.1 c.doubled-ki
 
 pub returns-then-kind-lt-EOF-2 : goal.returns-then-kind-lt-EOF-2
 unfolding StartCase
-returns-then-kind-lt-EOF-2 c = let s = c in record { says = one_byte s.requires.1 (alone c.before.before.before) c.single-kind.ensures c.if-kind-lt-EOF-2.true s.requires.0 }
+returns-then-kind-lt-EOF-2 c = record { says = one_byte c.requires.1 (alone (goal.at.returns-then-kind-lt-EOF-2 c).After-single-kind) c.single-kind.ensures c.if-kind-lt-EOF-2.true c.requires.0 }
 
 pub returns : goal.returns
 unfolding StartCase
-returns c = record { says = no_byte c.requires.1 (alone c.before.before.before) c.single-kind.ensures (λ h. omega arith) }
+returns c = record { says = no_byte c.requires.1 (alone (goal.at.returns c).After-single-kind) c.single-kind.ensures (λ h. omega arith) }

@@ -1,8 +1,7 @@
 -- `scan::signed_end` meets its contract: a sign, where there is one, and then a run of digits; without digits the sign is given back.
 use mathlib.Core.Bool.{not}
-use mathlib.Core.Logic.{inl, inr}
 use native.Mathlib.Omega.{arith}
-use borrow.Author.Rules.{rules}
+use lib.ListN.{get_or}
 use borrow.Author.Tests.{not-true}
 use Rattle.grammar.specs.Pattern.{bytes, among, digit}
 use Rattle.grammar.proofs.Ranges.{of_two, not_among}
@@ -24,4 +23,4 @@ returns-else-end-from c =
     taken_on (a_sign (of_two (among (bytes "+-")) tt k) (not-true _ (of_two (λ x. not (digit x)) tt k)) (omega arith)) (run_ends c.digits-end.ensures) c.if-end-from.false
 
 pub returns-in_default : goal.returns-in_default
-returns-in_default c = ended (maybe_alike (no_sign (not_among _ (bytes "+-") (λ e. c.in_default.rest.1 (inl e), (λ e. c.in_default.rest.1 (inr e), tt))))) (run_ends c.digits.ensures)
+returns-in_default c = ended (maybe_alike (no_sign (not_among (get_or c.args.text.now c.args.start 0) (bytes "+-") (grind arith, (grind arith, tt))))) (run_ends c.digits.ensures)

@@ -2,6 +2,7 @@
 use Prim.Native.Nat.{ℕ}
 use mathlib.Core.List.{[], ◌∷◌}
 use mathlib.Core.Path.{ap}
+use borrow.Author.Rules.{rules}
 use Rattle.grammar.specs.Symbol.{same}
 use Rattle.grammar.specs.Lexeme.{spelling}
 use Rattle.lexer.proofs.Signs.{arm, last_arm}
@@ -85,4 +86,4 @@ returns-in-125 c = arm _ ([]) 21 tt (ap (λ (b : ℕ). b ∷ []) c.in-125.is)
 
 pub returns-in_default : goal.returns-in_default
 unfolding spelling same
-returns-in_default c = last_arm _ ([]) (125 ∷ 124 ∷ 123 ∷ 94 ∷ 62 ∷ 61 ∷ 60 ∷ 59 ∷ 58 ∷ 47 ∷ 46 ∷ 45 ∷ 44 ∷ 43 ∷ 42 ∷ 41 ∷ 40 ∷ 37 ∷ 35 ∷ []) tt c.in_default.rest
+returns-in_default c = last_arm _ ([]) (125 ∷ 124 ∷ 123 ∷ 94 ∷ 62 ∷ 61 ∷ 60 ∷ 59 ∷ 58 ∷ 47 ∷ 46 ∷ 45 ∷ 44 ∷ 43 ∷ 42 ∷ 41 ∷ 40 ∷ 37 ∷ 35 ∷ []) tt (search rules)

@@ -1,9 +1,7 @@
 -- `scan::string_end` meets its contract: the string is open up to where the loop stands, and each return is a way in which it ends.
 use Prim.Native.Nat.{◌-◌}
-use native.Mathlib.Omega.{arith}
 use lib.ListN.{length}
-use borrow.Author.Rules.{rules}
-use Rattle.lexer.proofs.Strings.{Open, opened, plain_on, escape_on, closed, ends_open, ends_cut, ends_broken}
+use Rattle.lexer.proofs.Strings.{Open}
 use Rattle.lexer.proofs.scan.string_end.Given as goal
 
 abbrev pub invariant-loop-at : goal.invariant-loop-at

@@ -1,14 +1,10 @@
 -- `scan::word_end` meets its contract: past the first letter, what is left is a run of letters and digits, and it ends at the first other byte.
 use Prim.Native.Nat.{◌-◌, ◌≤◌}
-use mathlib.Core.Path.{sym, ◌∙◌}
-use native.Mathlib.Omega.{arith}
 use lib.ListN.{length}
-use borrow.Author.Rules.{rules}
-use borrow.Author.Tests.{not-true, not-false}
 use Rattle.grammar.specs.Lexeme.{identifier}
 use Rattle.grammar.specs.Pattern.{byte, many}
 use Rattle.lexeme.specs.Parts.{letter_or_digit}
-use Rattle.lexer.proofs.Stretches.{Becomes, becomes_then, ended, byte_on, many_more, many_stop}
+use Rattle.lexer.proofs.Stretches.{Becomes}
 use Rattle.lexer.proofs.scan.word_end.Given as goal
 
 abbrev pub invariant-loop-at : goal.invariant-loop-at
