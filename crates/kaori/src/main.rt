@@ -171,8 +171,8 @@ fn show(
     script(names, rows, wish, path, text, out)
 }
 
-// The status, once something is shown. The system's last error is none before a file or an argument is read, and a read that succeeds leaves it so: if there is one in the end,
-// it is that of a write.
+// The status, once something is shown. An argument that is read leaves no last error of the system, and a file that is read leaves that so: if there is one in the end, it is that
+// of a write.
 fn written(status: u32) -> u32
     requires { status ≤ 3 }
     ensures { result ≤ 3 }
