@@ -1,5 +1,4 @@
 -- `drops::mark` is safe and ends: the room keeps its length, which i does not pass.
-use borrow.Author.Rules.{rules}
 use Prim.Native.Nat.{◌-◌, ◌≤◌}
 use mathlib.Core.Path.{◌≡◌}
 use lib.ListN.{length}
