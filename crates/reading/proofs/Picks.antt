@@ -22,7 +22,7 @@ use Rattle.grammar.specs.Refusal.{Refused}
 use Rattle.grammar.specs.Rows.{make, put, fill, numbers, write}
 use Rattle.grammar.specs.Rule.{rule}
 use Rattle.grammar.specs.Space.{has_word}
-use Rattle.grammar.specs.Token.{kind, start, end}
+use Rattle.grammar.specs.Token.{kind}
 use Rattle.grammar.proofs.Room.{paid, spare}
 use Rattle.grammar.proofs.Tables.{unlisted}
 use Rattle.token.specs.Level.{level}

@@ -5,7 +5,7 @@ use mathlib.Core.List.{List, [], ◌∷◌}
 use mathlib.Core.Path.{◌≡◌}
 use Rattle.ast.specs.declared.Node.{Node}
 use Rattle.grammar.specs.Handle.{Handle}
-use Rattle.grammar.specs.Kaori.{Form, Table, kaori, block_items}
+use Rattle.grammar.specs.Kaori.{Form, Table, block_items}
 use Rattle.grammar.specs.Label.{Label}
 use Rattle.grammar.specs.Phrase.{empty, part, nested, node, chain, once, Aim, whole, begun}
 use Rattle.grammar.specs.Refusal.{Refused, refused, Refuses}

@@ -5,7 +5,6 @@ use Rattle.grammar.specs.Handle.{Handle, row, is_tail, block_tail, block_list}
 use Rattle.grammar.specs.Kaori.{Table, statement, block_items}
 use Rattle.grammar.specs.Label.{Label}
 use Rattle.grammar.specs.Phrase.{empty, choice, chain, Aim, whole}
-use Rattle.grammar.specs.Refusal.{Refused}
 use Rattle.grammar.specs.Rows.{links_of}
 use Rattle.grammar.specs.Token.{kind, start, end}
 use Rattle.reading.specs.Reading.{form, refusal, Reading, Success, Refusing}

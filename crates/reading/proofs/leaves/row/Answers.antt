@@ -1,6 +1,4 @@
 -- `leaves::row` meets its contract: each arm's row is that of its kind.
-use borrow.Author.Rules.{rules}
-use borrow.Author.Tests.{ne_eqb}
 use Rattle.reading.proofs.leaves.row.Goals as goal
 
 pub returns-in-31 : goal.returns-in-31

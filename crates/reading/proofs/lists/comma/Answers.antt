@@ -1,5 +1,4 @@
 -- The closer stays, a comma is taken, and anything else is refused.
-use borrow.Author.Rules.{rules}
 use mathlib.Core.Logic.{inl, inr}
 use mathlib.Core.Path.{refl}
 use Rattle.reading.specs.Answers.{Took}

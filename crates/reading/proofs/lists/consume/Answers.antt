@@ -1,5 +1,4 @@
 -- The kind at the cursor is what was asked for, or it is not.
-use borrow.Author.Rules.{rules}
 use mathlib.Core.Path.{refl}
 use Rattle.reading.specs.Answers.{Took}
 use Rattle.reading.proofs.lists.consume.Goals as goal

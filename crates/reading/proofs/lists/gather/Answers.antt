@@ -1,5 +1,4 @@
 -- What is held becomes links where they have room, and is counted in any case.
-use borrow.Author.Rules.{rules}
 use native.Mathlib.Omega.{arith}
 use mathlib.Core.Path.{refl}
 use Rattle.reading.proofs.lists.gather.Goals as goal

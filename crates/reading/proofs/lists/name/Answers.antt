@@ -1,5 +1,4 @@
 -- A name is an identifier's token, and the symbol of its text, if there is room for that.
-use borrow.Author.Rules.{rules}
 use mathlib.Core.Path.{refl}
 use Rattle.grammar.specs.Space.{has_word}
 use Rattle.reading.proofs.Names.{name_read, unnamed}

@@ -7,8 +7,8 @@ use Rattle.grammar.specs.Kind.{Dot}
 use Rattle.grammar.specs.Label.{Label}
 use Rattle.grammar.specs.Phrase.{token, node, choice}
 use Rattle.grammar.specs.Token.{kind}
-use Rattle.reading.proofs.Laws.{rooms_on, opened_next, ready_on}
-use Rattle.reading.proofs.Listings.{listed_rooms, longer_none, longer_on, listed_first, listed_taken, listed_ended, lists, lists_passed_list}
+use Rattle.reading.proofs.Laws.{opened_next, ready_on}
+use Rattle.reading.proofs.Listings.{longer_none, longer_on, listed_first, listed_taken, listed_ended, lists, lists_passed_list}
 use Rattle.reading.proofs.Refusals as Refuses
 use Rattle.reading.proofs.Replies.{listed, further}
 use Rattle.reading.proofs.lists.path.Goals as goal

@@ -1,6 +1,4 @@
 -- `pieces::bound` meets its contract: each arm's row is that of its kind.
-use borrow.Author.Rules.{rules}
-use borrow.Author.Tests.{ne_eqb}
 use Rattle.reading.proofs.pieces.bound.Goals as goal
 
 pub returns-in-25 : goal.returns-in-25

@@ -1,6 +1,4 @@
 -- `pieces::joined` meets its contract: `and`, `or`, and any other operator, whose number is its place.
-use borrow.Author.Rules.{rules}
-use borrow.Author.Tests.{ne_eqb}
 use Rattle.reading.proofs.pieces.joined.Goals as goal
 
 pub returns-in-22 : goal.returns-in-22

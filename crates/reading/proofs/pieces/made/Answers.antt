@@ -1,5 +1,4 @@
 -- A node is there, or its number is the absent one.
-use borrow.Author.Rules.{rules}
 use Rattle.reading.specs.Parts.{Makes}
 use Rattle.reading.proofs.pieces.made.Goals as goal
 
