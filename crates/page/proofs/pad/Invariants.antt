@@ -1,5 +1,4 @@
 -- `pad` meets its contract: the place stays in the room from blank to blank.
-use borrow.Author.Rules.{rules}
 use Prim.Native.Nat.{◌-◌, ◌≤◌}
 use Rattle.page.proofs.pad.Given as goal
 

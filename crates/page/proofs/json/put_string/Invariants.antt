@@ -1,5 +1,4 @@
 -- `json::put_string` meets its contract: the place stays in the room from byte to byte.
-use borrow.Author.Rules.{rules}
 use Prim.Native.Nat.{◌-◌, ◌≤◌}
 use Rattle.page.proofs.json.put_string.Given as goal
 

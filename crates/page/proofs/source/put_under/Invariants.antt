@@ -1,5 +1,4 @@
 -- `source::put_under` meets its contract: the place stays in the room from byte to byte.
-use borrow.Author.Rules.{rules}
 use Prim.Native.Nat.{◌-◌, ◌≤◌}
 use Rattle.page.proofs.source.put_under.Given as goal
 

@@ -1,5 +1,4 @@
 -- `source::show_written` is safe and ends: the bytes of the line are gone through once.
-use borrow.Author.Rules.{rules}
 use Prim.Native.Nat.{◌-◌, ◌≤◌}
 use lib.ListN.{length}
 use Rattle.page.proofs.source.show_written.Given as goal

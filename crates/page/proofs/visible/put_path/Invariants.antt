@@ -1,5 +1,4 @@
 -- `visible::put_path` meets its contract: the place stays in the room from byte to byte.
-use borrow.Author.Rules.{rules}
 use Prim.Native.Nat.{◌-◌, ◌≤◌}
 use lib.ListN.{length}
 use Rattle.page.proofs.visible.put_path.Given as goal

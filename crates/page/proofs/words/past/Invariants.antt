@@ -1,5 +1,4 @@
 -- `words::past` meets its contract: the offset goes from the byte after the first one towards the end.
-use borrow.Author.Rules.{rules}
 use Prim.Native.Nat.{◌-◌, ◌<◌, ◌≤◌}
 use Rattle.page.proofs.words.past.Given as goal
 

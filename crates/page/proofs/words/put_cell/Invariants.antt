@@ -1,5 +1,4 @@
 -- `words::put_cell` meets its contract: the place stays in the room from byte to byte.
-use borrow.Author.Rules.{rules}
 use Prim.Native.Nat.{◌-◌, ◌≤◌}
 use Rattle.page.proofs.words.put_cell.Given as goal
 

@@ -1,5 +1,4 @@
 -- `words::put_excerpt` meets its contract: the place stays in the room, and each turn goes on in the text.
-use borrow.Author.Rules.{rules}
 use Prim.Native.Nat.{◌-◌, ◌≤◌}
 use lib.ListN.{length}
 use Rattle.page.proofs.words.put_excerpt.Given as goal
