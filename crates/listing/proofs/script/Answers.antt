@@ -10,7 +10,6 @@ use Rattle.wire.specs.Input.{InputHolds}
 use Rattle.wire.specs.Scanned.{Sizes, TokensFilled}
 use Rattle.wire.proofs.Outputs.{success_answered, refusal_answered, counted}
 use Rattle.wire.proofs.Scanning.{InputSized, measured, holding}
-use borrow.Author.Rules.{rules}
 use Rattle.listing.proofs.script.Goals as goal
 
 -- the tokens that were written are the list's first, and the input holds them
@@ -20,68 +19,23 @@ used_length list n m h = sym (length-take-le (3 * n) list (omega (arith, m.most_
 read : {input before after : List ℕ} {size n : ℕ} → Sizes input size n → TokensFilled input (6 + size) n before after → length after ≡ 1536 → InputHolds input (lexeme input 6 (6 + size)) (take (3 * n) after)
 read s f h = let m = measured s in holding m f (omega (arith, m.most_tokens))
 
-pub overflow_add-from : goal.overflow_add-from
-overflow_add-from c = search rules
-
-pub overflow_mul-used : goal.overflow_mul-used
-overflow_mul-used c = search rules
-
-pub slice_bounds-fill-end : goal.slice_bounds-fill-end
-slice_bounds-fill-end c = search rules
-
 pub fill-requires : goal.fill-requires
 fill-requires c = let m = measured c.requires in (m.marks, omega (arith, m.ends), omega (arith, m.most_tokens))
 
-pub slice_bounds-parse-count : goal.slice_bounds-parse-count
-slice_bounds-parse-count c = search rules
-
-pub slice_bounds-parse-start : goal.slice_bounds-parse-start
-slice_bounds-parse-start c = search rules
-
-pub slice_bounds-parse-end : goal.slice_bounds-parse-end
-slice_bounds-parse-end c = search rules
-
-pub slice_bounds-tokens-end : goal.slice_bounds-tokens-end
-slice_bounds-tokens-end c = search rules
-
 pub slice_bounds-parse-end-2 : goal.slice_bounds-parse-end-2
-slice_bounds-parse-end-2 c = let start = c in let fill = c.fill in used_length fill.new.1.1.1.0 c.args.n (measured c.requires) fill.auto.1.1.1.0
-
-pub slice_bounds-parse-end-3 : goal.slice_bounds-parse-end-3
-slice_bounds-parse-end-3 c = search rules
-
-pub slice_bounds-parse-end-4 : goal.slice_bounds-parse-end-4
-slice_bounds-parse-end-4 c = search rules
-
-pub slice_bounds-parse-end-5 : goal.slice_bounds-parse-end-5
-slice_bounds-parse-end-5 c = search rules
-
-pub slice_bounds-parse-end-6 : goal.slice_bounds-parse-end-6
-slice_bounds-parse-end-6 c = search rules
-
-pub parse-a-requires : goal.parse-a-requires
-parse-a-requires c = search rules
-
-pub slice_bounds-listed-end : goal.slice_bounds-listed-end
-slice_bounds-listed-end c = search rules
-
-pub slice_bounds-listed-end-then-a-eq0 : goal.slice_bounds-listed-end-then-a-eq0
-slice_bounds-listed-end-then-a-eq0 c = search rules
-
-pub slice_bounds-listed-end-then-a-eq0-2 : goal.slice_bounds-listed-end-then-a-eq0-2
-slice_bounds-listed-end-then-a-eq0-2 c = search rules
+slice_bounds-parse-end-2 c = let fill = c.fill in used_length fill.new.tokens c.args.n (measured c.requires) fill.auto.tokens
 
 pub listed-requires : goal.listed-requires
 listed-requires c =
     let parse = c.parse-a in
     let there = counted parse.ensures.answers in
     record {
-      few_nodes = omega (arith, there.nodes-1, parse.auto.1.1.1.0);
-      few_links = omega (arith, there.links-1, parse.auto.1.1.1.1.0);
-      few_symbols = omega (arith, there.symbols-1, parse.auto.1.1.1.1.1.0);
-      nodes_there = there.nodes-1;
-      links_there = there.links-1;
-      symbols_there = there.symbols-1;
+      few_nodes = omega (arith, there.nodes, parse.auto.nodes);
+      few_links = omega (arith, there.links, parse.auto.links);
+      few_symbols = omega (arith, there.symbols, parse.auto.symbols);
+      nodes_there = there.nodes;
+      links_there = there.links;
+      symbols_there = there.symbols;
       fits = omega arith;
     }
 
@@ -89,19 +43,13 @@ pub returns-then-a-eq0 : goal.returns-then-a-eq0
 returns-then-a-eq0 c =
     let parse = c.parse-a in
     let fill = c.fill in
-    success_answered (read c.requires fill.ensures fill.auto.1.1.1.0) parse.ensures.answers c.if-a-eq0.true c.listed.ensures
-
-pub slice_bounds-tokens-end-2 : goal.slice_bounds-tokens-end-2
-slice_bounds-tokens-end-2 c = search rules
+    success_answered (read c.requires fill.ensures fill.auto.tokens) parse.ensures.answers c.if-a-eq0.true c.listed.ensures
 
 pub slice_bounds-refused-end : goal.slice_bounds-refused-end
-slice_bounds-refused-end c = let start = c in let fill = c.fill in used_length fill.new.1.1.1.0 c.args.n (measured c.requires) fill.auto.1.1.1.0
-
-pub refused-requires : goal.refused-requires
-refused-requires c = search rules
+slice_bounds-refused-end c = let fill = c.fill in used_length fill.new.tokens c.args.n (measured c.requires) fill.auto.tokens
 
 pub returns : goal.returns
 returns c =
     let parse = c.parse-a in
     let fill = c.fill in
-    refusal_answered (read c.requires fill.ensures fill.auto.1.1.1.0) parse.ensures.answers c.if-a-eq0.false c.refused.ensures
+    refusal_answered (read c.requires fill.ensures fill.auto.tokens) parse.ensures.answers c.if-a-eq0.false c.refused.ensures
