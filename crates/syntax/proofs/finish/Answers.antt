@@ -11,4 +11,4 @@ pub adopt-requires : goal.adopt-requires
 adopt-requires c = adoptable c.requires
 
 pub returns : goal.returns
-returns c =     finished c.requires c.adopt.ensures c.clear.ensures c.clear-2.ensures c.clear-3.ensures c.clear-4.ensures refl
+returns c = finished c.requires c.adopt.ensures c.clear.ensures c.clear-2.ensures c.clear-3.ensures c.clear-4.ensures refl

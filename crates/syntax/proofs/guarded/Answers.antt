@@ -16,4 +16,4 @@ pub returns-in_default-eof : goal.returns-in_default-eof
 returns-in_default-eof c = unended (inner c.in-Node.is c.expression-read.ensures) c.in_default-eof.is c.consume-eof.ensures
 
 pub returns : goal.returns
-returns c =     guarded (inner c.in-Node.is c.expression-read.ensures) c.requires.ready.lent c.in-Node-eof.is c.consume-eof.ensures
+returns c = guarded (inner c.in-Node.is c.expression-read.ensures) c.requires.ready.lent c.in-Node-eof.is c.consume-eof.ensures
