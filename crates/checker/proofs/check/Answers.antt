@@ -1,7 +1,6 @@
 -- `check` meets its contract: the counts, the edition, the rules; and then the scratch room is cleared.
-use borrow.Author.Rules.{rules}
 use native.Mathlib.Omega.{arith}
-use mathlib.Core.Logic.{inl, inr, ⊎_elim}
+use mathlib.Core.Logic.{inl, inr}
 use mathlib.Core.Path.{sym}
 use lib.Seq.{length-take-le}
 use Rattle.grammar.specs.Door.{RightEdition}

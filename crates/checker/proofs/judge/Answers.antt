@@ -1,5 +1,4 @@
 -- `judge` meets its contract: rules 1 to 3, each by a pass, and then the others.
-use borrow.Author.Rules.{rules}
 use native.Mathlib.Omega.{arith}
 use Rattle.checker.proofs.Judging.{judgeable_in, passes_all, all_standing, judged_kinds, judged_ranges, judged_earlier}
 use Rattle.checker.proofs.judge.Goals as goal

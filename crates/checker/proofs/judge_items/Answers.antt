@@ -1,5 +1,4 @@
 -- `judge_items` meets its contract: two passes, and what was found of the parents.
-use borrow.Author.Rules.{rules}
 use native.Mathlib.Omega.{arith}
 use Rattle.checker.proofs.Judging.{passes_all, all_standing, judged_present, judged_clean, judged_parents, judged_passed}
 use Rattle.checker.proofs.judge_items.Goals as goal

@@ -1,6 +1,4 @@
 -- `judge_tree` meets its contract: the marks of all rows, the root and the lists, and then what is left.
-use borrow.Author.Rules.{rules}
-use borrow.Author.Tests.{not-true, not-false}
 use native.Mathlib.Omega.{arith}
 use mathlib.Core.Path.{◌≡◌, refl, sym, ◌∙◌}
 use Prim.Native.Nat.{◌-◌}

@@ -1,5 +1,4 @@
 -- `after_row` meets its contract: one slot after another.
-use borrow.Author.Rules.{rules}
 use Rattle.checker.proofs.Following.{goes_nowhere, goes_further}
 use Rattle.checker.proofs.follow.after_row.Goals as goal
 

@@ -1,5 +1,4 @@
 -- `after_slot` meets its contract: a slot that is no list, a list that starts elsewhere, and one that follows.
-use borrow.Author.Rules.{rules}
 use native.Mathlib.Omega.{arith}
 use Rattle.checker.proofs.Following.{goes_low, goes_high, goes_elsewhere, goes_list}
 use Rattle.checker.proofs.follow.after_slot.Goals as goal

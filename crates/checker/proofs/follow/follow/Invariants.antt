@@ -1,8 +1,6 @@
 -- `follow` meets its contract: row by row, the lists of all rows so far follow each other.
 use Prim.Native.Nat.{◌-◌, ◌≤◌}
-use borrow.Author.Rules.{rules}
-use native.Mathlib.Omega.{arith}
-use Rattle.checker.proofs.Following.{Following, none_follow, goes_wrong, follow_more, follow_stopped, follow_ended}
+use Rattle.checker.proofs.Following.{Following}
 use Rattle.checker.proofs.follow.follow.Given as goal
 
 abbrev pub invariant-loop-i : goal.invariant-loop-i

@@ -1,5 +1,4 @@
 -- `child` meets its contract: by the rule, one after another.
-use borrow.Author.Rules.{rules}
 use borrow.Author.Tests.{eq-eqb, ne_eqb}
 use mathlib.Core.Path.{refl, ◌∙◌}
 use Rattle.checker.proofs.keep.child.Goals as goal

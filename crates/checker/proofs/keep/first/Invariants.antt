@@ -1,14 +1,9 @@
 -- `first` meets its contract: all rows so far keep the rule, and the marks are right of the next.
-use borrow.Author.Rules.{rules}
-use borrow.Author.Tests.{not-true, not-false}
 use Prim.Native.Nat.{◌-◌, ◌≤◌}
-use mathlib.Core.Path.{◌≡◌, refl, ◌∙◌}
-use native.Mathlib.Omega.{arith}
+use mathlib.Core.Path.{◌≡◌}
 use lib.ListN.{length}
 use Rattle.checker.specs.Test.{Marked, row_keeps}
-use Rattle.checker.proofs.Laws.{Held, held_none, held_more, found, none_found}
-use Rattle.checker.proofs.Cutting.{rest_inside}
-use Rattle.checker.proofs.Holding.{answers, marked_later, marked_none}
+use Rattle.checker.proofs.Laws.{Held}
 use Rattle.checker.proofs.keep.first.Given as goal
 
 abbrev pub invariant-loop-i : goal.invariant-loop-i

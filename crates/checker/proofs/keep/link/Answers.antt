@@ -1,6 +1,5 @@
 -- `link` meets its contract: the items of a link row, one after another.
-use borrow.Author.Rules.{rules}
-use borrow.Author.Tests.{eq-eqb, ne_eqb, not-true, not-false}
+use borrow.Author.Tests.{eq-eqb, ne_eqb}
 use mathlib.Core.Path.{refl, sym, ◌∙◌}
 use Rattle.checker.proofs.Laws.{and_true}
 use Rattle.checker.proofs.keep.link.Goals as goal

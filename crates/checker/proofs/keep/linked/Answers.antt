@@ -1,11 +1,8 @@
 -- `linked` meets its contract: all links before the one that is looked at keep the rule, and the marks are right (`Walked`).
-use borrow.Author.Rules.{rules}
-use borrow.Author.Tests.{not-true, not-false}
-use Prim.Native.Nat.{◌-◌, ◌≤◌}
 use mathlib.Core.Path.{refl, ◌∙◌}
 use native.Mathlib.Omega.{arith}
 use Rattle.checker.specs.Test.{link_keeps}
-use Rattle.checker.proofs.Keeping.{many, Walked, walk_begun, walk_on, walk_broken, walk_ended}
+use Rattle.checker.proofs.Keeping.{walk_begun, walk_on, walk_broken, walk_ended}
 use Rattle.checker.proofs.keep.linked.Goals as goal
 use Rattle.checker.proofs.keep.linked.Lts as lts
 use Rattle.checker.proofs.keep.linked.Tie as tie

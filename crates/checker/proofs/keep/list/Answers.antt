@@ -1,6 +1,4 @@
 -- `list` meets its contract: a list is not in range, or has nothing to do with the rule, or its links are walked, with the marks of their code.
-use borrow.Author.Rules.{rules}
-use borrow.Author.Tests.{not-true, not-false}
 use mathlib.Core.Path.{sym, ◌∙◌}
 use native.Mathlib.Omega.{arith}
 use Rattle.checker.proofs.Holding.{past_list, unasked_list, second_kept, first_linkable, first_kept}

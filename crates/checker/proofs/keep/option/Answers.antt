@@ -1,5 +1,4 @@
 -- `option` meets its contract: by the rule.
-use borrow.Author.Rules.{rules}
 use borrow.Author.Tests.{eq-eqb, ne_eqb}
 use mathlib.Core.Path.{refl, ◌∙◌}
 use Rattle.checker.proofs.keep.option.Goals as goal

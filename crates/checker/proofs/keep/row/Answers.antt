@@ -1,6 +1,4 @@
 -- `row` meets its contract: three slots and what is left over, one after another, each with the marks that those before it left.
-use borrow.Author.Rules.{rules}
-use borrow.Author.Tests.{not-true, not-false}
 use Rattle.checker.specs.Slots.{held_in}
 use Rattle.checker.proofs.Holding.{broken_off, kept_then, spared_kept}
 use Rattle.checker.proofs.keep.row.Goals as goal

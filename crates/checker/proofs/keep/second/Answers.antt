@@ -1,5 +1,4 @@
 -- `second` meets its contract: by the code of the list.
-use borrow.Author.Rules.{rules}
 use borrow.Author.Tests.{eq-eqb, ne_eqb}
 use mathlib.Core.Path.{refl, ◌∙◌}
 use Rattle.checker.proofs.keep.second.Goals as goal

@@ -1,5 +1,4 @@
 -- `slot` meets its contract: by the code, what the one item of a slot answers, or its list.
-use borrow.Author.Rules.{rules}
 use native.Mathlib.Omega.{arith}
 use Rattle.checker.proofs.Holding.{at_none, at_child, at_option, at_symbol, at_number}
 use Rattle.checker.proofs.keep.slot.Goals as goal

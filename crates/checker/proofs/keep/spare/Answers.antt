@@ -1,10 +1,7 @@
 -- `spare` meets its contract: what is left decides the whole.
-use borrow.Author.Rules.{rules}
-use borrow.Author.Tests.{not-true, not-false}
-use Prim.Native.Nat.{◌-◌, ◌≤◌}
 use mathlib.Core.Path.{refl}
 use native.Mathlib.Omega.{arith}
-use Rattle.checker.proofs.Keeping.{Sparing, spare_any, spare_more, spare_broken, spare_ended}
+use Rattle.checker.proofs.Keeping.{spare_any, spare_more, spare_broken, spare_ended}
 use Rattle.checker.proofs.keep.spare.Goals as goal
 
 pub returns-then-a-ne-CLEAN : goal.returns-then-a-ne-CLEAN

@@ -1,10 +1,6 @@
 -- `spare` meets its contract: what is left decides the whole.
-use borrow.Author.Rules.{rules}
-use borrow.Author.Tests.{not-true, not-false}
 use Prim.Native.Nat.{◌-◌, ◌≤◌}
-use mathlib.Core.Path.{refl}
-use native.Mathlib.Omega.{arith}
-use Rattle.checker.proofs.Keeping.{Sparing, spare_any, spare_more, spare_broken, spare_ended}
+use Rattle.checker.proofs.Keeping.{Sparing}
 use Rattle.checker.proofs.keep.spare.Given as goal
 
 abbrev pub invariant-loop-at : goal.invariant-loop-at

@@ -1,10 +1,7 @@
 -- `known` meets its contract: all kinds so far are known.
 use Prim.Native.Nat.{◌-◌, ◌≤◌}
-use borrow.Author.Rules.{rules}
-use native.Mathlib.Omega.{arith}
 use Rattle.checker.specs.Test.{known_kind}
-use Rattle.checker.proofs.Laws.{Held, held_none, held_more, found, none_found}
-use Rattle.checker.proofs.Roots.{kind_known, kind_low, kind_high}
+use Rattle.checker.proofs.Laws.{Held}
 use Rattle.checker.proofs.kinds.known.Given as goal
 
 abbrev pub invariant-loop-i : goal.invariant-loop-i

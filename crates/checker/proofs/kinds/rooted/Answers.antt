@@ -1,5 +1,4 @@
 -- `rooted` meets its contract: a last row that is there, is a Block, and has no tail.
-use borrow.Author.Rules.{rules}
 use native.Mathlib.Omega.{arith}
 use Rattle.checker.proofs.Roots.{no_root, no_block, a_block}
 use Rattle.checker.proofs.kinds.rooted.Goals as goal

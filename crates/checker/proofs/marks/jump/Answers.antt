@@ -1,13 +1,11 @@
 -- `jump` meets its contract: it stays, goes by one mark, or by two.
 use Prim.Native.Nat.{ℕ, ◌+◌}
-use borrow.Author.Rules.{rules}
 use mathlib.Core.Path.{refl}
 use native.Mathlib.Omega.{arith}
 use lib.ListN.{get_or}
 use Rattle.checker.proofs.Skipping.{stopped, jumped, shortened}
 use Rattle.checker.proofs.marks.jump.Goals as goal
 use Rattle.checker.proofs.marks.jump.Lts as lts
-use Rattle.checker.proofs.marks.jump.Tie as tie
 use Rattle.checker.proofs.marks.jump.Reads as reads
 
 abbrev Else2 : Type 0

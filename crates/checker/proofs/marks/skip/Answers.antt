@@ -1,9 +1,5 @@
 -- `skip` meets its contract: a jump after another, until one stays or the last link is passed.
-use Prim.Native.Nat.{◌-◌}
 use borrow.Author.Rules.{rules}
-use mathlib.Core.Path.{◌≡◌}
-use lib.ListN.{length}
-use Rattle.checker.specs.Marks.{Skips}
 use Rattle.checker.proofs.Skipping.{stopped, skips_on}
 use Rattle.checker.proofs.marks.skip.Goals as goal
 

@@ -1,5 +1,4 @@
 -- `adopted` meets its contract: a branch for a row that none names.
-use borrow.Author.Rules.{rules}
 use borrow.Author.Tests.{eq-eqb, ne_eqb}
 use lib.ListN.{get_or}
 use Rattle.checker.proofs.name.adopted.Goals as goal

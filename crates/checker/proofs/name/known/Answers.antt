@@ -1,5 +1,4 @@
 -- `known` meets its contract: a branch for each part of what is known.
-use borrow.Author.Rules.{rules}
 use borrow.Author.Tests.{lt-ltb, le-ltb, eq-eqb, ne_eqb}
 use Rattle.grammar.specs.Handle.{absent}
 use Rattle.checker.proofs.name.known.Goals as goal

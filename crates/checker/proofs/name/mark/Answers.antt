@@ -1,5 +1,4 @@
 -- `mark` meets its contract: one store, where x is an earlier row.
-use borrow.Author.Rules.{rules}
 use borrow.Author.Tests.{lt-ltb, le-ltb, eq-eqb, ne_eqb}
 use lib.ListN.{get_or}
 use Rattle.checker.proofs.name.mark.Goals as goal

@@ -1,11 +1,9 @@
 -- `name` meets its contract: row by row, the marks are those of the rows gone through.
 use Prim.Native.Nat.{◌-◌, ◌≤◌}
-use borrow.Author.Rules.{rules}
-use native.Mathlib.Omega.{arith}
 use mathlib.Core.Path.{◌≡◌}
 use lib.ListN.{length}
 use Rattle.checker.specs.Slots.{rows}
-use Rattle.checker.proofs.Naming.{Naming, row_lists, naming_none, naming_more, naming_done}
+use Rattle.checker.proofs.Naming.{Naming}
 use Rattle.checker.proofs.name.name.Given as goal
 
 abbrev pub invariant-loop-row : goal.invariant-loop-row

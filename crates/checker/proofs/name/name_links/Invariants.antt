@@ -1,10 +1,7 @@
 -- `name_links` meets its contract: from link to link, whatever is left of the list then decides what all of it does.
 use Prim.Native.Nat.{◌+◌, ◌-◌, ◌≤◌}
-use borrow.Author.Rules.{rules}
-use native.Mathlib.Omega.{arith}
-use mathlib.Core.Path.{refl, ap, ◌∙◌}
 use lib.ListN.{length}
-use Rattle.checker.proofs.Walking.{Walkable, Walks, marks_inside, walks_self, walks_both, walks_over, walks_link, walks_end}
+use Rattle.checker.proofs.Walking.{Walkable, Walks}
 use Rattle.checker.proofs.name.name_links.Given as goal
 
 abbrev pub invariant-loop-at : goal.invariant-loop-at

@@ -1,5 +1,4 @@
 -- `name_row` meets its contract: one slot after another.
-use borrow.Author.Rules.{rules}
 use Rattle.checker.proofs.Walking.{slots_noted}
 use Rattle.checker.proofs.name.name_row.Goals as goal
 

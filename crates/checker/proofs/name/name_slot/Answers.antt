@@ -1,5 +1,4 @@
 -- `name_slot` meets its contract: an arm for each code that names rows.
-use borrow.Author.Rules.{rules}
 use native.Mathlib.Omega.{arith}
 use mathlib.Core.Bool.{true, false}
 use Rattle.checker.proofs.Noting.{noted_none, noted_one}

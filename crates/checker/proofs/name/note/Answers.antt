@@ -1,6 +1,4 @@
 -- `note` meets its contract: the link's mark is set where both rows are known.
-use borrow.Author.Rules.{rules}
-use borrow.Author.Tests.{not-true, not-false}
 use mathlib.Core.Path.{refl, sym, ◌∙◌}
 use Rattle.checker.proofs.name.note.Goals as goal
 

@@ -1,13 +1,11 @@
 -- `once` meets its contract: all rows that were passed are named once.
-use Prim.Native.Nat.{◌-◌, ◌≤◌}
-use borrow.Author.Rules.{rules}
+use Prim.Native.Nat.{◌-◌}
 use borrow.Author.Tests.{eq-eqb, ne_eqb}
 use native.Mathlib.Omega.{arith}
 use mathlib.Core.Path.{◌≡◌, refl}
 use lib.ListN.{get_or}
 use Rattle.grammar.specs.Handle.{absent}
-use Rattle.checker.specs.Named.{is_once}
-use Rattle.checker.proofs.Laws.{Held, held_none, held_more, found, none_found}
+use Rattle.checker.proofs.Laws.{held_none, held_more, found, none_found}
 use Rattle.checker.proofs.name.once.Goals as goal
 
 pub loop-i-init : goal.loop-i-init

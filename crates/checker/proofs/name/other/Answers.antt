@@ -1,5 +1,4 @@
 -- `other` meets its contract.
-use borrow.Author.Rules.{rules}
 use Rattle.checker.proofs.name.other.Goals as goal
 
 pub returns-then-two : goal.returns-then-two

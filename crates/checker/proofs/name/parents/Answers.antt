@@ -1,11 +1,7 @@
 -- `parents` meets its contract: all rows that were passed have their parent.
-use Prim.Native.Nat.{◌-◌, ◌≤◌}
-use borrow.Author.Rules.{rules}
-use borrow.Author.Tests.{not-true, not-false}
 use native.Mathlib.Omega.{arith}
 use mathlib.Core.Path.{sym, ◌∙◌}
-use Rattle.checker.specs.Named.{is_parent}
-use Rattle.checker.proofs.Laws.{Held, held_none, held_more, found, none_found}
+use Rattle.checker.proofs.Laws.{held_none, held_more, found, none_found}
 use Rattle.checker.proofs.name.parents.Goals as goal
 
 pub loop-i-init : goal.loop-i-init

@@ -1,5 +1,4 @@
 -- `slots` meets its contract: the table of each edition is computed.
-use borrow.Author.Rules.{rules}
 use borrow.Author.Tests.{eq-eqb, ne_eqb}
 use mathlib.Core.Path.{refl}
 use Rattle.grammar.specs.Edition.{edition}
