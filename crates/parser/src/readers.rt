@@ -342,7 +342,7 @@ fn while_(
     cur: Cursor,
 ) -> Read
     requires { ready tokens nodes links scratch terms depth cur }
-    ensures { answered node_of (whole form.while-loop) tokens nodes links scratch terms depth cur result }
+    ensures { answered node_of (whole form.while_loop) tokens nodes links scratch terms depth cur result }
 {
     let read = consume(tokens, cur, kinds::WHILE);
     let Read::Node(lead, next) = read else {
@@ -775,7 +775,7 @@ fn map_(
     cur: Cursor,
 ) -> Read
     requires { ready tokens nodes links scratch terms depth cur }
-    ensures { answered node_of (whole form.map-literal) tokens nodes links scratch terms depth cur result }
+    ensures { answered node_of (whole form.map_literal) tokens nodes links scratch terms depth cur result }
 {
     let read = consume(tokens, cur, kinds::HASH);
     let Read::Node(lead, hash) = read else {
