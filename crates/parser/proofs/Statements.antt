@@ -19,7 +19,7 @@ use Rattle.grammar.specs.Label.{Label}
 use Rattle.grammar.specs.Phrase.{empty, node, choice, once, whole, begun}
 use Rattle.grammar.specs.Rows.{links_of, make}
 use Rattle.grammar.specs.Space.{has_word}
-use Rattle.grammar.specs.Token.{kind, start, end}
+use Rattle.grammar.specs.Token.{kind, end}
 use Rattle.grammar.proofs.Halves.{Lists as List-table}
 use Rattle.grammar.proofs.Room.{links_length}
 use Rattle.grammar.proofs.Tables.{Unlisted, keyed, unkeyed}

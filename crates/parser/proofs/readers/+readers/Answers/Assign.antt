@@ -1,6 +1,5 @@
 -- An expression, and if a `=` comes, another: an Assign of the two.
 use Prim.Native.Nat.{ℕ}
-use borrow.Author.Rules.{rules}
 use native.Mathlib.Omega.{arith}
 use mathlib.Core.Path.{◌≡◌, refl, sym, ap, ◌∙◌}
 use Rattle.grammar.specs.Edition.{Edition}

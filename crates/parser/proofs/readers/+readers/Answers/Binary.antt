@@ -1,5 +1,4 @@
 -- The levels of binary operators: an operand, and each operator that binds tighter, with its right operand.
-use Prim.Native.Nat.{◌-◌}
 use native.Mathlib.Omega.{arith}
 use mathlib.Core.Path.{refl, sym}
 use Rattle.reading.specs.Parts.{Makes}

@@ -1,6 +1,6 @@
 -- A lambda's body: `{` picks a block, any other kind an expression.
-use borrow.Author.Rules.{rules}
-use mathlib.Core.Path.{refl, ◌∙◌}
+use native.Mathlib.Omega.{arith}
+use mathlib.Core.Path.{refl}
 use Rattle.grammar.specs.Kaori.{kaori, rules as form_rules, body as bodies}
 use Rattle.grammar.proofs.Tables.{unkeyed}
 use Rattle.reading.proofs.Picks.{picked, picked_as}
@@ -16,6 +16,5 @@ pub body-returns-in_default : goal.body-returns-in_default
 unfolding form_rules
 body-returns-in_default t c =
     picked _ (unkeyed _ bodies _ refl
-    (λ e. c.in_default.in_default-own.rest.1
-    (c.kind_at-kind.ensures ∙ e)))
+    (λ e. omega arith))
     c.expression.ensures

@@ -1,6 +1,5 @@
 -- The arguments of a call become links with its row.
 use Prim.Native.Nat.{ℕ}
-use borrow.Author.Rules.{rules}
 use native.Mathlib.Omega.{arith}
 use mathlib.Core.Path.{◌≡◌, ap}
 use Rattle.grammar.specs.Edition.{Edition}

@@ -1,6 +1,6 @@
 -- After `else`: `if` picks a conditional, any other kind a block.
-use borrow.Author.Rules.{rules}
-use mathlib.Core.Path.{refl, ◌∙◌}
+use native.Mathlib.Omega.{arith}
+use mathlib.Core.Path.{refl}
 use Rattle.grammar.specs.Kaori.{kaori, rules as form_rules, branch}
 use Rattle.grammar.proofs.Tables.{unkeyed}
 use Rattle.reading.proofs.Picks.{picked, picked_as}
@@ -16,6 +16,5 @@ pub else_-returns-in_default : goal.else_-returns-in_default
 unfolding form_rules
 else_-returns-in_default t c =
     picked _ (unkeyed _ branch _ refl
-    (λ e. c.in_default.in_default-own.rest.1
-    (c.kind_at-kind.ensures ∙ e)))
+    (λ e. omega arith))
     c.block.ensures

@@ -21,8 +21,7 @@ form-bind-requires t c = (
 
 pub form-single-requires : goal.form-single-requires
 form-single-requires t c =
-    let r = c.in-31-to-32.in_default-own.rest.0.0.0 in
-    let w = keyword_of c.kind_at-kind.result (omega arith) r.0.0.1 r.0.1 r.1
+    let w = keyword_of c.kind_at-kind.result (omega arith) (λ e. omega arith) (λ e. omega arith) (λ e. omega arith)
     (omega arith) in record { single = keyword_single w; ready = c.requires }
 
 pub form-returns-in-20 : goal.form-returns-in-20
@@ -73,14 +72,12 @@ form-returns-in-25-to-27 t c =
 
 pub form-returns-in-31-to-32 : goal.form-returns-in-31-to-32
 form-returns-in-31-to-32 t c =
-    let r = c.in-31-to-32.in_default-own.rest.0.0.0 in
     rw (ap form_of (sym c.kind_at-kind.ensures) ∙ form_single _
-    (keyword_of c.kind_at-kind.result (omega arith) r.0.0.1 r.0.1 r.1
+    (keyword_of c.kind_at-kind.result (omega arith) (λ e. omega arith) (λ e. omega arith) (λ e. omega arith)
     (omega arith))) c.single.ensures
 
 pub form-returns-in_default : goal.form-returns-in_default
 form-returns-in_default t c =
-    let r = c.in_default-1.rest in
-    let e = form_other c.kind_at-kind.result r.0.0.0.0.0.0.1 r.0.0.1 r.0.1 r.1
+    let e = form_other c.kind_at-kind.result (λ e. omega arith) (λ e. omega arith) (λ e. omega arith) (λ e. omega arith)
     (elim c.in_default.branch [ form-in_default-via-then-kind-lt25 w ↦ inl (omega arith) | form-in_default-via-else-kind-lt25+else-kind-lt28+else-kind-lt33 w ↦ inr (omega arith) ]) in
     rw (ap form_of (sym c.kind_at-kind.ensures) ∙ e) c.assign.ensures

@@ -1,4 +1,5 @@
 -- What a chain starts with: parentheses, or a name.
+use native.Mathlib.Omega.{arith}
 use Prim.Native.Nat.{ℕ}
 use mathlib.Core.Path.{◌≡◌}
 use borrow.Author.Tests.{ne_eqb}
@@ -21,4 +22,4 @@ pub head-returns-in-17 : goal.head-returns-in-17
 head-returns-in-17 t c = as_form (paren c.in-17.is) c.group.ensures
 
 pub head-returns-in_default : goal.head-returns-in_default
-head-returns-in_default t c = as_form (name c.in_default.in_default-own.rest.1) c.identifier.ensures
+head-returns-in_default t c = as_form (name (λ e. omega arith)) c.identifier.ensures

@@ -1,5 +1,4 @@
 -- A condition, a block, and what comes after `else`, if there is one. All are one opening deeper.
-use borrow.Author.Rules.{rules}
 use native.Mathlib.Omega.{arith}
 use mathlib.Core.Path.{refl, sym, ◌∙◌}
 use Rattle.grammar.specs.Kaori.{rules as form_rules, above, otherwise}
@@ -38,7 +37,7 @@ if_-returns-in_default-read t c =
     (λ x h. Refuses.inside c.if-terms-depth.false (Refuses.in_node (led_refused lead (Refuses.in_first h))))
 
 pub if_-overflow_add-depth-2 : goal.if_-overflow_add-depth-2
-if_-overflow_add-depth-2 t c = omega (arith, c.if-terms-depth.false, c.struct_known-1.given)
+if_-overflow_add-depth-2 t c = omega arith
 
 pub if_-block-read-requires : goal.if_-block-read-requires
 if_-block-read-requires t c =
@@ -104,7 +103,7 @@ if_-overflow_add-further t c =
     omega (arith, body.within.at, asked.lent.whole.most)
 
 pub if_-overflow_add-depth-3 : goal.if_-overflow_add-depth-3
-if_-overflow_add-depth-3 t c = omega (arith, c.if-terms-depth.false, c.struct_known-1.given)
+if_-overflow_add-depth-3 t c = omega arith
 
 pub if_-else_-read-requires : goal.if_-else_-read-requires
 if_-else_-read-requires t c =

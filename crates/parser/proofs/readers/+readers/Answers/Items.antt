@@ -1,6 +1,5 @@
 -- The statements of a block, up to what ends them: the loop keeps a list of them, and the row of the last if it may be the tail.
-use Prim.Native.Nat.{ℕ, ◌-◌}
-use borrow.Author.Rules.{rules}
+use Prim.Native.Nat.{ℕ}
 use native.Mathlib.Omega.{arith}
 use mathlib.Core.List.{List}
 use mathlib.Core.Path.{◌≡◌, refl}

@@ -1,5 +1,4 @@
 -- A key, and its value if it has one, and the comma after them unless the map ends there.
-use borrow.Author.Rules.{rules}
 use native.Mathlib.Omega.{arith}
 use mathlib.Core.Path.{refl}
 use Rattle.grammar.specs.Kaori.{value, rules as form_rules}

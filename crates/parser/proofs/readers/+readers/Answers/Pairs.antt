@@ -1,6 +1,4 @@
 -- The entries of a map, up to what ends them: the loop keeps a listing, and each turn holds one entry more.
-use Prim.Native.Nat.{◌-◌}
-use borrow.Author.Rules.{rules}
 use native.Mathlib.Omega.{arith}
 use mathlib.Core.Path.{refl}
 use Rattle.grammar.specs.Kaori.{rules as form_rules, entries as table}

@@ -1,5 +1,4 @@
 -- The calls and dots after a form, whatever it is.
-use Prim.Native.Nat.{◌-◌}
 use native.Mathlib.Omega.{arith}
 use mathlib.Core.Path.{sym, ◌∙◌}
 use Rattle.grammar.specs.Phrase.{empty}
@@ -54,4 +53,4 @@ postfix-loop-nodes-preserved t c =
 pub postfix-returns : goal.postfix-returns
 postfix-returns t c =
     λ p. let i = c.loop-nodes.invariant p in
-    goes i.past (going_end (no_call _ (λ e. c.in_default.in_default-own.rest.0.1 (c.kind_at-kind.ensures ∙ e)) (λ e. c.in_default.in_default-own.rest.1 (c.kind_at-kind.ensures ∙ e))) i)
+    goes i.past (going_end (no_call _ (λ e. omega arith) (λ e. omega arith)) i)

@@ -1,4 +1,5 @@
 -- The kind of its first token picks the form that most operands have; any other kind is left to the rarer ones.
+use native.Mathlib.Omega.{arith}
 use borrow.Author.Rules.{rules}
 use mathlib.Core.Logic.{inl, inr}
 use mathlib.Core.Path.{refl, ap, ◌∙◌}
@@ -21,14 +22,13 @@ prefix-primary-requires t c =
       search rules,
       (
         record {
-          not_plus = λ e. n.0.0.0.0.0.1 (k ∙ e);
+          not_plus = λ e. omega arith;
           not_minus = λ e. n.0.0.0.0.1 (inl (k ∙ e));
           not_caret = λ e. n.0.0.0.0.1 (inr (k ∙ e));
-          not_paren = λ e.
-              n.0.0.0.1 (inl (k ∙ e));
-          not_not = λ e. n.0.0.1 (k ∙ e);
-          not_number = λ e. n.0.1 (k ∙ e);
-          not_string = λ e. n.1 (k ∙ e);
+          not_paren = λ e. n.0.0.0.1 (inl (k ∙ e));
+          not_not = λ e. omega arith;
+          not_number = λ e. omega arith;
+          not_string = λ e. omega arith;
           not_name = λ e. n.0.0.0.1 (inr (k ∙ e));
         },
         c.requires,

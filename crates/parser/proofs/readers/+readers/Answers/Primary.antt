@@ -1,5 +1,4 @@
 -- The kind of its first token picks the form of an operand that is rarer.
-use borrow.Author.Rules.{rules}
 use native.Mathlib.Omega.{arith}
 use mathlib.Core.Path.{refl}
 use Rattle.grammar.specs.Kaori.{kaori, rules as form_rules, operand}
@@ -42,7 +41,7 @@ primary-returns-in-37-to-39 t c =
     (omega arith)) c.single.ensures
 
 pub primary-returns-in_default : goal.primary-returns-in_default
-primary-returns-in_default t c = refuse (Refuses.in_choice (no_operand _ c.kind_at-kind.ensures c.requires.other c.in_default.in_default-own.rest (λ h. omega arith)) Refuses.stopped)
+primary-returns-in_default t c = refuse (Refuses.in_choice (no_operand _ c.kind_at-kind.ensures c.requires.other ((((tt, λ e. omega arith), λ e. omega arith), λ e. omega arith), λ e. omega arith) (λ h. omega arith)) Refuses.stopped)
 
 pub primary-returns-in_default-2 : goal.primary-returns-in_default-2
-primary-returns-in_default-2 t c = refuse (Refuses.in_choice (no_operand _ c.kind_at-kind.ensures c.requires.other c.in_default.in_default-own.rest (λ h. omega arith)) Refuses.stopped)
+primary-returns-in_default-2 t c = refuse (Refuses.in_choice (no_operand _ c.kind_at-kind.ensures c.requires.other ((((tt, λ e. omega arith), λ e. omega arith), λ e. omega arith), λ e. omega arith) (λ h. omega arith)) Refuses.stopped)
