@@ -126,9 +126,6 @@ binary-returns-in_default = Binary.binary-returns-in_default
 pub binary-loop-terms-init : goal.binary-loop-terms-init
 binary-loop-terms-init = Binary.binary-loop-terms-init
 
-pub binary-overflow_add-next : goal.binary-overflow_add-next
-binary-overflow_add-next = Binary.binary-overflow_add-next
-
 pub binary-binary-turn-requires : goal.binary-binary-turn-requires
 binary-binary-turn-requires = Binary.binary-binary-turn-requires
 
@@ -444,9 +441,6 @@ if_-expression-read-requires = If.if_-expression-read-requires
 pub if_-returns-in_default-read : goal.if_-returns-in_default-read
 if_-returns-in_default-read = If.if_-returns-in_default-read
 
-pub if_-overflow_add-depth-2 : goal.if_-overflow_add-depth-2
-if_-overflow_add-depth-2 = If.if_-overflow_add-depth-2
-
 pub if_-block-read-requires : goal.if_-block-read-requires
 if_-block-read-requires = If.if_-block-read-requires
 
@@ -467,9 +461,6 @@ if_-returns-then-kind_at-ne-ELSE = If.if_-returns-then-kind_at-ne-ELSE
 
 pub if_-overflow_add-further : goal.if_-overflow_add-further
 if_-overflow_add-further = If.if_-overflow_add-further
-
-pub if_-overflow_add-depth-3 : goal.if_-overflow_add-depth-3
-if_-overflow_add-depth-3 = If.if_-overflow_add-depth-3
 
 pub if_-else_-read-requires : goal.if_-else_-read-requires
 if_-else_-read-requires = If.if_-else_-read-requires

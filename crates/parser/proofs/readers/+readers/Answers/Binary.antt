@@ -20,9 +20,6 @@ binary-loop-terms-init t c =
     let lead = success c.in-Node.is c.prefix-read.ensures in
     climbing_none lead.within
 
-pub binary-overflow_add-next : goal.binary-overflow_add-next
-binary-overflow_add-next t c = omega (arith, c.loop-terms.invariant.within.at, c.requires.ready.lent.whole.most)
-
 pub binary-binary-turn-requires : goal.binary-binary-turn-requires
 binary-binary-turn-requires t c =
     let lead = success c.in-Node.is c.prefix-read.ensures in

@@ -36,9 +36,6 @@ if_-returns-in_default-read t c =
     passed c.in_default-read.is c.expression-read.ensures
     (λ x h. Refuses.inside c.if-terms-depth.false (Refuses.in_node (led_refused lead (Refuses.in_first h))))
 
-pub if_-overflow_add-depth-2 : goal.if_-overflow_add-depth-2
-if_-overflow_add-depth-2 t c = omega arith
-
 pub if_-block-read-requires : goal.if_-block-read-requires
 if_-block-read-requires t c =
     let lead = token_taken c.in-Node.is c.consume-read.ensures in
@@ -101,9 +98,6 @@ if_-overflow_add-further t c =
     let asked = ready_led c.requires lead (λ e. omega arith) in
     let body = success c.in-Node-read-2.is c.block-read.ensures in
     omega (arith, body.within.at, asked.lent.whole.most)
-
-pub if_-overflow_add-depth-3 : goal.if_-overflow_add-depth-3
-if_-overflow_add-depth-3 t c = omega arith
 
 pub if_-else_-read-requires : goal.if_-else_-read-requires
 if_-else_-read-requires t c =
