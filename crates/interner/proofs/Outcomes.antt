@@ -145,4 +145,4 @@ pub one_sought : {text bytes table : List ℕ} {count r q : ℕ} → Table text 
 one_sought t (Sought.found h) (Sought.found k) = held_once t h k
 one_sought t (Sought.found h) (Sought.missing none) = absurd (none _ h)
 one_sought t (Sought.missing none) (Sought.found k) = absurd (none _ k)
-one_sought t (Sought.missing none) (Sought.missing also) = refl
+one_sought t (Sought.missing f) (Sought.missing g) = refl

@@ -1,5 +1,4 @@
 -- `insert` meets its contract: nine numbers more, three at a time, and the tenth; or none, where the room has no such row.
-use borrow.Author.Rules.{rules}
 use native.Mathlib.Omega.{arith}
 use mathlib.Core.Path.{refl}
 use Rattle.ast.specs.Inserted.{Attempt}
@@ -11,17 +10,10 @@ returns-then-nodes-i c = record { says = Attempt.full (omega (arith, c.if-nodes-
 
 pub returns : goal.returns
 returns c =
-    let third = c.before.before.before.before.before.before.before in
-    let second = third.before.before.before.before in
-    let first = second in
-    let s₁ = first.three.ensures in
-    let s₂ = second.three-2.ensures in
-    let s₃ = third.three-3.ensures in
-    let s₄ = c.one.ensures in
-    let nine = joined (omega arith) (joined (omega arith) s₁ s₂) (said (omega arith) refl refl s₃) in
+    let nine = joined (omega arith) (joined (omega arith) c.three.ensures c.three-2.ensures) (said (omega arith) refl refl c.three-3.ensures) in
     record {
       says =
-          Attempt.there (omega (arith, first.if-nodes-i.false))
-          (said refl (omega arith) refl (joined (omega arith) nine (said (omega arith) refl refl s₄)))
+          Attempt.there (omega (arith, c.if-nodes-i.false))
+          (said refl (omega arith) refl (joined (omega arith) nine (said (omega arith) refl refl c.one.ensures)))
           refl;
     }

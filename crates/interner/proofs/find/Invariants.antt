@@ -1,13 +1,8 @@
 -- `find` meets its contract: it stands at a row of the bucket, and no row newer than that has the bytes. The measure is that row.
-use Prim.Native.Nat.{◌-◌, ◌<◌}
-use borrow.Author.Rules.{rules}
-use native.Mathlib.Omega.{arith}
-use lib.ListN.{length}
 use Rattle.grammar.specs.Token.{lexeme}
 use Rattle.interner.specs.Interns.{used}
-use Rattle.interner.specs.Search.{Wanted, Sought}
-use Rattle.interner.proofs.Buckets.{Seeking, bucket_inside, seeking_first, seeking_next, older}
-use Rattle.interner.proofs.Search.{row_below, part_is, holds_here, not_here}
+use Rattle.interner.specs.Search.{Wanted}
+use Rattle.interner.proofs.Buckets.{Seeking}
 use Rattle.interner.proofs.find.Given as goal
 
 -- what is asked, with the size of the index, and where the search stands

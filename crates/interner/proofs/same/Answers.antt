@@ -1,10 +1,8 @@
 -- `same` meets its contract: all bytes passed, from the last one down, are alike. The measure is how many are left.
-use Prim.Native.Nat.{ℕ, ◌+◌, ◌-◌, ◌≤◌, ◌<◌}
+use Prim.Native.Nat.{◌-◌}
 use borrow.Author.Rules.{rules}
 use native.Mathlib.Decide.{ℕ_discrete}
 use native.Mathlib.Omega.{arith}
-use mathlib.Core.Path.{◌≡◌}
-use lib.ListN.{get_or}
 use Rattle.interner.proofs.Words.{compared_true, compared_false, alike_bytes, alike_length, alike_byte}
 use Rattle.interner.proofs.same.Goals as goal
 

@@ -8,32 +8,6 @@ use Rattle.grammar.proofs.Matching.{no_byte, many_on, many_none}
 use Rattle.lexeme.specs.Parts.{letter_or_digit}
 use Rattle.lexeme.proofs.Texts.{identifier_first}
 use Rattle.lexeme.proofs.is_identifier.Goals as goal
-use Rattle.lexeme.proofs.is_identifier.Lts as lts
-use Rattle.lexeme.proofs.is_identifier.Tie as tie
-use Rattle.lexeme.proofs.is_identifier.Reads as reads
-
-abbrev AfterIsLetter : Type 0
-AfterIsLetter = lts.After-is_letter tie.the-claims reads.Pre reads.Post goal.the-invariant-loop-at goal.the-decreases-loop-at
-
-abbrev AfterIsLetterOrDigit : Type 0
-AfterIsLetterOrDigit = lts.After-is_letter_or_digit tie.the-claims reads.Pre reads.Post goal.the-invariant-loop-at goal.the-decreases-loop-at
-
-abbrev AtLoop : Type 0
-AtLoop = lts.At-loop tie.the-claims reads.Pre reads.Post goal.the-invariant-loop-at goal.the-decreases-loop-at
-
-abbrev Start : Type 0
-Start = lts.Start tie.the-claims reads.Pre reads.Post goal.the-invariant-loop-at goal.the-decreases-loop-at
-
--- the entry, from where the first byte was looked at
-abbrev entry : AfterIsLetter → Start
-entry c = c.before.before.before.before.before
-
--- the first byte's test, from where a turn begins; and where a turn began, from where its byte was looked at
-abbrev first : AtLoop → AfterIsLetter
-first l = l.before.before
-
-abbrev turn : AfterIsLetterOrDigit → AtLoop
-turn c = c.before.before.before
 
 pub returns-then-start-end : goal.returns-then-start-end
 returns-then-start-end c =
@@ -42,28 +16,25 @@ returns-then-start-end c =
 
 pub returns-then-not-is_letter : goal.returns-then-not-is_letter
 returns-then-not-is_letter c =
-    let a = (entry c.before.before).args in
+    let a = c.args in
     sym (at_first identifier a.text.now a.start a.end (omega arith) (omega arith) ∙ identifier_first _ _ ∙ rw (sym c.is_letter.ensures ∙ c.if-not-is_letter.true))
 
 pub loop-at-init : goal.loop-at-init
 loop-at-init c =
-    let a = (entry c.before.before).args in
+    let a = c.args in
     (omega arith, at_first identifier a.text.now a.start a.end (omega arith) (omega arith) ∙ identifier_first _ _ ∙ rw (sym c.is_letter.ensures ∙ c.if-not-is_letter.false))
 
 pub returns-then-not-is_letter_or_digit : goal.returns-then-not-is_letter_or_digit
 returns-then-not-is_letter_or_digit c =
-    let l = turn c.before.before in
-    let a = (entry (first l)).args in
-    sym (l.loop-at.invariant.1 ∙ at_first (many (byte letter_or_digit)) a.text.now l.loop-at.at a.end (omega arith) (omega arith) ∙ many_on letter_or_digit _ _ ∙ rw (sym c.is_letter_or_digit.ensures ∙ c.if-not-is_letter_or_digit.true))
+    let a = c.args in
+    sym (c.loop-at.invariant.1 ∙ at_first (many (byte letter_or_digit)) a.text.now c.loop-at.at a.end (omega arith) (omega arith) ∙ many_on letter_or_digit _ _ ∙ rw (sym c.is_letter_or_digit.ensures ∙ c.if-not-is_letter_or_digit.true))
 
 pub loop-at-preserved : goal.loop-at-preserved
 loop-at-preserved c =
-    let l = turn c.before.before in
-    let a = (entry (first l)).args in
-    (omega arith, l.loop-at.invariant.1 ∙ at_first (many (byte letter_or_digit)) a.text.now l.loop-at.at a.end (omega arith) (omega arith) ∙ many_on letter_or_digit _ _ ∙ rw (sym c.is_letter_or_digit.ensures ∙ c.if-not-is_letter_or_digit.false))
+    let a = c.args in
+    (omega arith, c.loop-at.invariant.1 ∙ at_first (many (byte letter_or_digit)) a.text.now c.loop-at.at a.end (omega arith) (omega arith) ∙ many_on letter_or_digit _ _ ∙ rw (sym c.is_letter_or_digit.ensures ∙ c.if-not-is_letter_or_digit.false))
 
 pub returns : goal.returns
 returns c =
-    let l = c.before.before in
-    let a = (entry (first l)).args in
-    sym (l.loop-at.invariant.1 ∙ at_end (many (byte letter_or_digit)) a.text.now l.loop-at.at a.end (omega arith) ∙ many_none (byte letter_or_digit))
+    let a = c.args in
+    sym (c.loop-at.invariant.1 ∙ at_end (many (byte letter_or_digit)) a.text.now c.loop-at.at a.end (omega arith) ∙ many_none (byte letter_or_digit))

@@ -17,7 +17,7 @@ returns-then-start-end c =
 pub returns-in-69 : goal.returns-in-69
 returns-in-69 c =
     let a = c.args in
-    c.before.is_signed.ensures ∙ sym (at_first (maybe power) a.text.now a.start a.end (omega arith) (omega arith) ∙ power_first _ _ ∙ rw (of_two (among (bytes "eE")) tt c.in-69.is))
+    c.is_signed.ensures ∙ sym (at_first (maybe power) a.text.now a.start a.end (omega arith) (omega arith) ∙ power_first _ _ ∙ rw (of_two (among (bytes "eE")) tt c.in-69.is))
 
 pub returns-in_default : goal.returns-in_default
 returns-in_default c =

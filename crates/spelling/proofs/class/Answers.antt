@@ -1,6 +1,5 @@
 -- `class` meets its contract: what the table has for the byte.
 use native.Mathlib.Omega.{arith}
-use borrow.Author.Rules.{rules}
 use Rattle.spelling.proofs.Spellings.{whole}
 use Rattle.spelling.proofs.Slots.{class_at}
 use Rattle.spelling.proofs.class.Goals as goal

@@ -1,7 +1,6 @@
 -- `key` meets its contract: what the table has at the slot, a byte.
 use Prim.Native.Nat.{◌+◌}
 use native.Mathlib.Omega.{arith}
-use borrow.Author.Rules.{rules}
 use Rattle.spelling.specs.Words.{slot}
 use Rattle.spelling.proofs.Spellings.{whole}
 use Rattle.spelling.proofs.Slots.{key_at}

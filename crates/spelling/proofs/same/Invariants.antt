@@ -1,12 +1,7 @@
 -- `same` meets its contract: the bytes passed agree, one that does not tells the texts apart, and all of them make the texts equal.
 use Prim.Native.Nat.{ℕ, ◌+◌, ◌-◌, ◌≤◌, ◌<◌}
 use mathlib.Core.Path.{◌≡◌}
-use native.Mathlib.Omega.{arith}
 use lib.ListN.{get_or}
-use borrow.Author.Count.{below_more}
-use borrow.Author.Rules.{rules}
-use Rattle.grammar.proofs.Lexemes.{same_parts, same_bytes}
-use Rattle.spelling.proofs.Deciding.{holds, fails}
 use Rattle.spelling.proofs.same.Given as goal
 
 abbrev pub invariant-loop-i : goal.invariant-loop-i

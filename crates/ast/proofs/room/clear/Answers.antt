@@ -1,5 +1,4 @@
 -- `room::clear` meets its contract, by what `zero` ensures.
-use borrow.Author.Rules.{rules}
 use native.Mathlib.Omega.{arith}
 use Rattle.ast.proofs.Rooms.{cleared_up, nothing_cleared}
 use Rattle.ast.proofs.room.clear.Goals as goal

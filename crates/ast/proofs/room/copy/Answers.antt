@@ -1,10 +1,7 @@
 -- `room::copy` meets its contract: after i turns the first i numbers are there. The measure is what is left of them.
-use Prim.Native.Nat.{◌+◌, ◌-◌, ◌≤◌}
 use borrow.Author.Rules.{rules}
 use native.Mathlib.Omega.{arith}
 use mathlib.Core.Path.{◌≡◌, refl}
-use lib.ListN.{take, drop}
-use Rattle.ast.specs.Written.{Written}
 use Rattle.ast.proofs.Rooms.{unwritten, said, copied}
 use Rattle.ast.proofs.room.copy.Goals as goal
 

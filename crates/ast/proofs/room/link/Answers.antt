@@ -1,5 +1,4 @@
 -- `room::link` meets its contract, by what `copy` ensures.
-use borrow.Author.Rules.{rules}
 use native.Mathlib.Omega.{arith}
 use mathlib.Core.Path.{refl}
 use Rattle.ast.proofs.Rooms.{said}

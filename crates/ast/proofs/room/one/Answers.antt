@@ -1,5 +1,4 @@
 -- `room::one` meets its contract: one store.
-use borrow.Author.Rules.{rules}
 use native.Mathlib.Omega.{arith}
 use Rattle.ast.proofs.Rooms.{stored}
 use Rattle.ast.proofs.room.one.Goals as goal

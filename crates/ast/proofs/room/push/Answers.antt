@@ -1,5 +1,4 @@
 -- `room::push` meets its contract: three numbers more are one row more.
-use borrow.Author.Rules.{rules}
 use native.Mathlib.Omega.{arith}
 use mathlib.Core.Path.{refl}
 use Rattle.ast.proofs.Rooms.{said}

@@ -1,6 +1,5 @@
 -- `room::three` meets its contract: three stores, each a number more.
 use Prim.Native.Nat.{◌+◌}
-use borrow.Author.Rules.{rules}
 use native.Mathlib.Omega.{arith}
 use mathlib.Core.Path.{refl}
 use lib.ListN.{set, length-set}

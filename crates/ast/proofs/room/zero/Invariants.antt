@@ -1,12 +1,7 @@
 -- `room::zero` meets its contract: all from `from` up to i are zeros. The measure is what is left.
 use Prim.Native.Nat.{◌-◌, ◌≤◌}
-use borrow.Author.Rules.{rules}
-use native.Mathlib.Nat.{sub_self}
-use native.Mathlib.Omega.{arith}
-use mathlib.Core.Path.{◌≡◌, refl}
 use lib.ListN.{replicate}
 use Rattle.ast.specs.Written.{Written}
-use Rattle.ast.proofs.Rooms.{unwritten, said, zeroed}
 use Rattle.ast.proofs.room.zero.Given as goal
 
 abbrev pub invariant-loop-i : goal.invariant-loop-i

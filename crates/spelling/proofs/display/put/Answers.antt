@@ -1,12 +1,12 @@
 -- `display::put` meets its contract. Its loop keeps the contract itself, of the bytes copied so far.
-use Prim.Native.Nat.{ℕ, ◌+◌, ◌-◌, ◌≤◌, ◌<◌}
+use Prim.Native.Nat.{ℕ, ◌+◌, ◌≤◌, ◌<◌}
 use native.Mathlib.Nat.{add-zero}
 use native.Mathlib.Numerals.{add-one}
 use native.Mathlib.Omega.{arith}
 use mathlib.Core.Path.{◌≡◌, refl, ◌∙◌}
 use mathlib.Core.List.{List}
 use borrow.Author.Rules.{rules}
-use lib.ListN.{length, take, set, get_or, length-set}
+use lib.ListN.{length, set, get_or, length-set}
 use lib.Seq.{take-suc, take_all}
 use Rattle.spelling.specs.Display.{Put}
 use Rattle.spelling.proofs.display.Writing.{nothing, one_more}

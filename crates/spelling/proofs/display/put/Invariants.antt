@@ -1,15 +1,9 @@
 -- `display::put` meets its contract. Its loop keeps the contract itself, of the bytes copied so far.
-use Prim.Native.Nat.{ℕ, ◌+◌, ◌-◌, ◌≤◌, ◌<◌}
-use native.Mathlib.Nat.{add-zero}
-use native.Mathlib.Numerals.{add-one}
-use native.Mathlib.Omega.{arith}
-use mathlib.Core.Path.{◌≡◌, refl, ◌∙◌}
+use Prim.Native.Nat.{ℕ, ◌+◌, ◌-◌, ◌≤◌}
+use mathlib.Core.Path.{◌≡◌}
 use mathlib.Core.List.{List}
-use borrow.Author.Rules.{rules}
-use lib.ListN.{length, take, set, get_or, length-set}
-use lib.Seq.{take-suc, take_all}
+use lib.ListN.{length, take}
 use Rattle.spelling.specs.Display.{Put}
-use Rattle.spelling.proofs.display.Writing.{nothing, one_more}
 use Rattle.spelling.proofs.display.put.Given as goal
 
 pub record Copied (part before after : List ℕ) (at i : ℕ) : Type 0 where

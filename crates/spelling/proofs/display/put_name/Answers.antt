@@ -1,7 +1,6 @@
 -- `display::put_name` meets its contract: each arm copies the name that the definition has for its kind.
 use mathlib.Core.Path.{ap}
 use native.Mathlib.Omega.{arith}
-use borrow.Author.Rules.{rules}
 use lib.ListN.{length}
 use Rattle.spelling.specs.Display.{display}
 use Rattle.spelling.proofs.display.put_name.Goals as goal

@@ -1,31 +1,25 @@
 -- `display::put_spelling` meets its contract: the part that it copies is the kind's spelling, by the table's rule.
 use mathlib.Core.Path.{ap}
 use native.Mathlib.Omega.{arith}
-use borrow.Author.Rules.{rules}
 use lib.ListN.{length}
 use Rattle.spelling.proofs.Spellings.{Entry, entry, cut}
 use Rattle.spelling.proofs.display.put_spelling.Goals as goal
-use Rattle.spelling.proofs.display.put_spelling.Lts as lts
-use Rattle.spelling.proofs.display.put_spelling.Tie as tie
-use Rattle.spelling.proofs.display.put_spelling.Reads as reads
+use Rattle.spelling.proofs.display.put_spelling.Goals.{After-words-table}
 
-abbrev AfterWords : Type 0
-AfterWords = lts.After-words tie.the-claims reads.Pre reads.Post
-
-row : (c : AfterWords) → Entry c.words-table.result c.args.kind
+row : (c : After-words-table) → Entry c.words-table.result c.args.kind
 row c = entry c.words-table.ensures c.args.kind c.requires.0
 
 pub overflow_add-start : goal.overflow_add-start
-overflow_add-start c = omega (arith, row c.before)
+overflow_add-start c = omega (arith, row (goal.at.overflow_add-start c).After-words-table)
 
 pub overflow_add-end-2 : goal.overflow_add-end-2
-overflow_add-end-2 c = omega (arith, row c.before)
+overflow_add-end-2 c = omega (arith, row (goal.at.overflow_add-end-2 c).After-words-table)
 
 pub slice_bounds-put-end : goal.slice_bounds-put-end
-slice_bounds-put-end c = omega (arith, row c.before)
+slice_bounds-put-end c = omega (arith, row (goal.at.slice_bounds-put-end c).After-words-table)
 
 pub put-requires : goal.put-requires
-put-requires c = omega (arith, c.requires.1, ap length (cut (row c.before.before)))
+put-requires c = omega (arith, c.requires.1, ap length (cut (row (goal.at.put-requires c).After-words-table)))
 
 pub returns : goal.returns
-returns c = rw (cut (row c.before.before.before.before.before.before)) at c.put.ensures
+returns c = rw (cut (row (goal.at.returns c).After-words-table)) at c.put.ensures
