@@ -1,7 +1,6 @@
--- What is true of every message: its contract leaves one answer and one room, and a text has at most 52 bytes. And the two ways in which `message` answers.
-use Prim.Native.Nat.{ℕ, ◌≤◌, ◌<◌}
+-- What is true of every message: its contract leaves one answer and one room, and a text has at most 52 bytes.
+use Prim.Native.Nat.{ℕ, ◌≤◌}
 use native.Mathlib.Decide.{dec_lt}
-use native.Mathlib.Nat.{zero-add}
 use native.Mathlib.Omega.{arith}
 use mathlib.Core.Bool.{Bool, true, false, cond}
 use mathlib.Core.List.{List, [], ◌++◌}
@@ -10,26 +9,10 @@ use lib.Dec.{eqb, leb}
 use lib.ListN.{length, length-append}
 use Rattle.grammar.specs.Kind.{NumberLiteral, StringLiteral, Eof}
 use Rattle.grammar.specs.Pattern.{bytes}
-use Rattle.spelling.specs.Display.{display, Put}
+use Rattle.spelling.specs.Display.{display}
 use Rattle.spelling.proofs.display.Names.{short}
-use Rattle.spelling.proofs.display.Writing.{room_after}
 use Rattle.diagnostics.specs.Message.{text_of, MessageGiven}
 use Rattle.diagnostics.specs.declared.Message.{Message}
-
--- a room that is too small
-pub too_small : {code expected found : ℕ} {room : List ℕ} → length room < 52 → MessageGiven code expected found room room (record { code = 13; length = 0 })
-too_small h = record { refused = λ _. refl; untouched = λ _. refl; answer = λ i. absurd (omega arith); room = λ i. absurd (omega arith) }
-
--- a text written from the start of one that is not
-pub written : {code expected found n : ℕ} {before after : List ℕ} → 52 ≤ length before → Put (text_of code expected found) 0 before after n → MessageGiven code expected found before after (record { code = 0; length = n })
-written {code} {expected} {found} {n} {before} {after} h p =
-    let e : n ≡ length (text_of code expected found) = p.ends ∙ zero-add _ in
-    record {
-      refused = λ i. absurd (omega arith);
-      untouched = λ i. absurd (omega arith);
-      answer = λ _. rw e;
-      room = λ _. rw e at (room_after p);
-    }
 
 -- the contract settles the answer and every byte of the room
 pub one_message : {code expected found : ℕ} {before after other : List ℕ} {r s : Message} → MessageGiven code expected found before after r → MessageGiven code expected found before other s → (r ≡ s) × (after ≡ other)

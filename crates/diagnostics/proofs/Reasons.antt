@@ -6,7 +6,7 @@ use native.Mathlib.Nat.{zero-add}
 use native.Mathlib.Omega.{arith}
 use mathlib.Core.Bool.{true, false}
 use mathlib.Core.List.{List}
-use mathlib.Core.Path.{◌≡◌, refl, sym, ◌∙◌}
+use mathlib.Core.Path.{◌≡◌, sym, ◌∙◌}
 use lib.Dec.{eqb, leb, leb→le}
 use lib.ListN.{length, get_or, take, drop, get_or-eq_default}
 use borrow.Author.Tests.{ne_eqb}
@@ -25,11 +25,7 @@ pub passed : {text before after : List ℕ} {code start expected found : ℕ} {r
 unfolding reason_of
 passed e m = record { refused = m.refused; untouched = m.untouched; answer = λ h. rw e (m.answer h); room = λ h. rw e (m.room h) }
 
--- a room that is too small
-pub too_small : {text room : List ℕ} {code start expected found : ℕ} → length room < 52 → ReasonGiven text code start expected found room room (record { code = 13; length = 0 })
-too_small h = record { refused = λ _. refl; untouched = λ _. refl; answer = λ i. absurd (omega arith); room = λ i. absurd (omega arith) }
-
--- a text of the table, written from the start of a room that is not
+-- a text of the table, written from the start of a room that is no less than 52 bytes
 own_text : (text : List ℕ) (code start expected found : ℕ) → from_to 8 11 code ≡ false → reason_of text code start expected found ≡ own text code start
 unfolding reason_of
 own_text text code start expected found e = rw e

@@ -4,7 +4,7 @@ use mathlib.Core.List.{List, [], ◌∷◌, ◌++◌, map, append_assoc, append-
 use mathlib.Core.Path.{◌≡◌, refl, sym, ap, subst, ◌∙◌}
 use native.Mathlib.Omega.{arith}
 use lib.ListN.{length, get_or, take, drop, replicate, length-set, length-map}
-use lib.Seq.{drop-length, drop-cons, drop-drop, take_all, take_at, take-suc-set, get_or-set_other, length-take-le}
+use lib.Seq.{drop-length, drop-cons, drop-drop, take_at, take-suc-set, get_or-set_other, length-take-le}
 use borrow.Author.Tests.{lt-ltb, le-ltb}
 use Rattle.grammar.specs.Expected.{Opening as Open, opening}
 use Rattle.grammar.proofs.Overflow.{opened_append, opened_length}
@@ -83,18 +83,12 @@ module _ {top most : ℕ} {room : List ℕ} {c : Chain} {i : ℕ} (w : Walking t
     pub walk_mark : {r : Chain} → 64 ≤ get_or room (i - 1) 0 → c.count < most → most ≤ 64 → Extends c (get_or room (i - 1) 0 % 4) (get_or room (i - 1) 0 / 4 - 16) r → Walking top most room r (i - 1)
     walk_mark l f m e = record { chain = rw (above, at_mark (get_or room (i - 1) 0) (drop i room) l) (extended w.chain e (omega arith)); few = omega (arith, e.count_is); low = omega arith; high = omega (arith, w.high) }
 
-  -- as many as may be, or all
+  -- as many as may be
   pub walked_most : most ≤ c.count → Chained (take most (opened (decoded (drop top room)))) c
   walked_most h =
       let (os, e) = front top i room w.low in
       let n : length (opened (decoded (drop i room))) ≡ most = omega (arith, count_length w.chain, w.few) in
       subst (λ ps. Chained ps c) (sym (ap (take most) e ∙ take_at (opened (decoded (drop i room))) os most n)) w.chain
-
-  pub walked : i ≤ top → Chained (take most (opened (decoded (drop top room)))) c
-  walked h =
-      let e : i ≡ top = omega (arith, w.low) in
-      let k : Chained (opened (decoded (drop top room))) c = subst (λ n. Chained (opened (decoded (drop n room))) c) e w.chain in
-      subst (λ ps. Chained ps c) (sym (take_all most (opened (decoded (drop top room))) (omega (arith, count_length k, w.few)))) k
 
 zeros : (n i : ℕ) → get_or (replicate n nothing) i nothing ≡ nothing
 zeros zero i = refl

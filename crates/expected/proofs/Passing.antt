@@ -144,9 +144,6 @@ pub record Passing (e : Edition) (x c top : ℕ) (before room : List ℕ) (t : �
   pub on : (r : Result Table Label) → Goes (kaori e) x c (decoded (drop t room)) r → Goes (kaori e) x c (decoded (drop top before)) r
   pub deepens : Deepens e x c (decoded (drop top before)) (decoded (drop t room))
 
-pub starting : {e : Edition} {x c top : ℕ} {room : List ℕ} → top ≤ length room → Sound (drop top room) → Passing e x c top room room top
-starting h s = record { same = refl; past = omega arith; upto = h; sounds = s; on = λ r g. g; deepens = record { deeper = λ t. t } }
-
 heads : {v : ℕ} {vs : List ℕ} → Sound (v ∷ vs) → T (sound v) × Sound vs
 heads (more h s) = (h, s)
 

@@ -3,13 +3,13 @@
 use Prim.Native.Nat.{ℕ, zero, suc, ◌+◌, ◌-◌, ◌≤◌, ◌<◌}
 use native.Mathlib.Decide.{ℕ_discrete, dec_lt}
 use native.Mathlib.Omega.{arith}
-use mathlib.Core.Bool.{Bool, true, false, not, cond, ◌||◌, false≢true}
+use mathlib.Core.Bool.{Bool, true, false, not, cond, false≢true}
 use mathlib.Core.List.{List}
 use mathlib.Core.Logic.{◌⊎◌, inl, inr, ⊎_elim}
 use mathlib.Core.Path.{◌≡◌, refl, sym, ap, ◌∙◌, subst}
 use lib.Dec.{eqb, ltb}
 use lib.ListN.{length, get_or, get_or-eq_default}
-use borrow.Author.Tests.{ne_eqb, lt-ltb, le-ltb}
+use borrow.Author.Tests.{ne_eqb}
 use Rattle.grammar.specs.Edition.{Edition}
 use Rattle.grammar.specs.Handle.{absent}
 use Rattle.grammar.specs.Kind.{RightParen, Hash, LeftBrace, RightBrace}
@@ -19,16 +19,13 @@ use Rattle.grammar.specs.Token.{count, kind, start, end}
 use Rattle.spelling.specs.Decides.{Decides}
 use Rattle.spelling.proofs.Deciding.{holds, fails, carried}
 use Rattle.diagnostics.specs.Line.{ends}
-use Rattle.lint.specs.Reach.{number, kind_of, start_of, end_of, parent_of, last_numbers, last, Takes, Ends, here, Past, FirstPast, left_number, Sign, opens, closes, counted, after, brackets, encloses, enclosing, in_block}
+use Rattle.lint.specs.Reach.{number, kind_of, start_of, end_of, parent_of, last_numbers, last, Takes, Ends, here, Past, FirstPast, Sign, opens, closes, counted, after, brackets, encloses, enclosing, in_block}
 use Rattle.lint.specs.Rules.{LineEnds, OnNewLine, joining, closed, going_on, Reached, ReachingNot, CutAt, CutOff, GoingOn, LongString, Any, Next}
 
 -- a search from a number on: it has come to i, and none of those before is what is looked for
 pub record Passed (P : ℕ → Type 0) (from i : ℕ) : Type 0 where
   pub reached : from ≤ i
   pub none : (j : ℕ) → from ≤ j → j < i → P j → ⊥
-
-pub begun : {P : ℕ → Type 0} (i : ℕ) → Passed P i i
-begun i = record { reached = omega arith; none = λ j l h p. absurd (omega arith) }
 
 pub one_more : {P : ℕ → Type 0} {from i : ℕ} → Passed P from i → (P i → ⊥) → Passed P from (i + 1)
 one_more {P} {i = i} s n = record { reached = omega (arith, s.reached); none = λ j l h p. elim (ℕ_discrete j i) [ yes e ↦ n (subst P e p) | no e ↦ s.none j l (omega arith) p ] }
@@ -72,9 +69,6 @@ pub between : {text ts : List ℕ} {k s e : ℕ} {r : Bool} → 0 < k → k < co
 between l h i e s d = carried (λ b. record { second = l; inside = h; level = i; breaks = rw (sym e) (rw (sym s) b) }) (λ n. rw e (rw s n.breaks)) d
 
 -- what a row takes last
-pub past_kinds : (k : ℕ) → number_of Node.Lambda < k → 0 ≡ get_or last_numbers k 0
-past_kinds k l = let m : length last_numbers ≤ k = omega arith in sym (get_or-eq_default last_numbers 0 m)
-
 pub takes_number : (nodes : List ℕ) (row : ℕ) {k i r : ℕ} → k ≡ kind_of nodes row → i ≡ get_or last_numbers k 0 → (i ≡ 0 → ⊥) → r ≡ number nodes row i → r ≡ last nodes row
 unfolding last
 takes_number nodes row {k} {i} e n z x = rw (sym e) (rw (sym n) (rw (ne_eqb i 0 z) x))
@@ -113,15 +107,9 @@ one_first {k = k} {l} f g = elim (dec_lt k l) [ yes h ↦ absurd (no_earlier f g
 pub first_found : {ts : List ℕ} {offset k : ℕ} → Passed (Past ts offset) 0 k → k < count ts → Past ts offset k → FirstPast ts offset k
 first_found s l p = record { within = omega arith; past = λ _. p; least = λ j h q. s.none j (omega arith) h q }
 
-pub first_none : {ts : List ℕ} {offset k n : ℕ} → n ≡ count ts → Passed (Past ts offset) 0 k → n ≤ k → FirstPast ts offset n
-first_none e s l = record { within = omega (arith, e); past = λ h. absurd (omega (arith, e)); least = λ j h q. s.none j (omega arith) (omega arith) q }
-
 -- the sign
 pub one_sign : {ts nodes : List ℕ} {row k l : ℕ} → Sign ts nodes row k → Sign ts nodes row l → k ≡ l
 one_sign {ts} {nodes} s t = one_first s.first (subst (λ y. FirstPast ts (end_of nodes y) _) (one_end t.ends s.ends) t.first)
-
-pub sign_at : {ts nodes : List ℕ} {row k x end offset place left : ℕ} → x ≡ kind_of nodes row → place ≡ left_number x → left ≡ number nodes row place → Ends nodes left end → offset ≡ end_of nodes end → FirstPast ts offset k → Sign ts nodes row k
-sign_at {end = end} x p l e o f = record { end = end; ends = rw (sym x) (rw (sym p) (rw (sym l) e)); first = rw (sym o) f }
 
 -- brackets: no more are open than there are tokens
 pub grown : (more fewer : Bool) (n : ℕ) → counted more fewer n ≤ suc n
@@ -138,18 +126,9 @@ few ts offset (suc i) = go (ltb offset (start ts i)) (few ts offset i)
     go true l = omega (arith, grown (opens (kind ts i)) (closes (kind ts i)) (brackets ts offset i), l)
     go false l = omega (arith, l)
 
-pub neither_of : {x : ℕ} (y z : ℕ) → ((x ≡ y) ⊎ (x ≡ z) → ⊥) → false ≡ (eqb x y || eqb x z)
-neither_of {x} y z n = rw (ne_eqb x y (λ e. n (inl e))) (rw (ne_eqb x z (λ e. n (inr e))) refl)
-
 pub none_yet : (ts : List ℕ) (offset : ℕ) → 0 ≡ brackets ts offset 0
 unfolding brackets
 none_yet ts offset = refl
-
-pub uncounted : (ts : List ℕ) (offset i n : ℕ) {s : ℕ} → s ≡ start ts i → s ≤ offset → n ≡ after ts offset i n
-uncounted ts offset i n e l = rw (le-ltb offset (start ts i) (omega (arith, e))) refl
-
-pub counts : (ts : List ℕ) (offset i n : ℕ) {s x r : ℕ} {more fewer : Bool} → s ≡ start ts i → offset < s → x ≡ kind ts i → more ≡ opens x → fewer ≡ closes x → r ≡ counted more fewer n → r ≡ after ts offset i n
-counts ts offset i n e l x o c r = rw (lt-ltb offset (start ts i) (omega (arith, e))) (rw (sym x) (rw (sym o) (rw (sym c) r)))
 
 pub one_bracket_more : (ts : List ℕ) (offset i : ℕ) {n r : ℕ} → n ≡ brackets ts offset i → r ≡ after ts offset i n → r ≡ brackets ts offset (i + 1)
 unfolding brackets
@@ -207,9 +186,6 @@ brace_open ts k {e} {x} {y} q a u b v = rw (sym q) (rw (ne_eqb e absent a) (rw (
 pub record Walked (nodes : List ℕ) (P : ℕ → Type 0) (row x : ℕ) : Type 0 where
   pub on : (y : ℕ) → Takes nodes x y → Takes nodes row y
   pub none : (y : ℕ) → Takes nodes row y → P y → Takes nodes x y
-
-pub setting_out : {nodes : List ℕ} {P : ℕ → Type 0} (row : ℕ) → Walked nodes P row row
-setting_out row = record { on = λ y t. t; none = λ y t p. t }
 
 pub a_step : {nodes : List ℕ} {P : ℕ → Type 0} {row x y : ℕ} → Walked nodes P row x → y ≡ last nodes x → y < x → (P y → ⊥) → Walked nodes P row y
 a_step {nodes} {P} {row} {x} {y} w e l n = record { on = λ z t. w.on z (Takes.on (rw (sym e) l) (rw (sym e) t)); none = λ z t p. go z (w.none z t p) p }
@@ -320,6 +296,3 @@ next_found {M} {from} {count} {i} s l m = record { first = go; meets = λ _. (s.
   where
     go : (j : ℕ) → from ≤ j → j < count → M j → i ≤ j
     go j h k n = elim (dec_lt j i) [ yes e ↦ absurd (s.none j h e n) | no e ↦ omega arith ]
-
-pub next_none : {M : ℕ → Type 0} {from count i : ℕ} → Passed M from i → count ≤ i → Next M from count absent
-next_none s l = record { first = λ j h k n. absurd (s.none j h (omega arith) n); meets = λ n. absurd (n refl) }

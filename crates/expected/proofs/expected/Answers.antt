@@ -1,5 +1,5 @@
 -- `expected` meets its contract.
-use mathlib.Core.Path.{refl, sym, subst}
+use mathlib.Core.Path.{sym, subst}
 use lib.ListN.{length}
 use Rattle.expected.specs.Left.{AskedOf}
 use Rattle.expected.proofs.Telling.{nothing_told, unasked, as_reached, as_gone}
@@ -10,9 +10,6 @@ returns-then-not-asks c =
     let a = c.args in
     let asks = c.asks in
     nothing_told (unasked (λ z. asks.ensures.no c.if-not-asks.true (subst (AskedOf (length a.tokens.now) a.edition a.limit a.code) (sym c.size-place.ensures) z))) c.nothing.ensures
-
-pub left-left-requires : goal.left-left-requires
-left-left-requires c = let asked = c.asks.ensures.yes c.if-not-asks.false in record { table_value = c.made-table.ensures; asked = record { shallow = asked.least_depth; whole = asked.whole; inside = asked.inside }; room_len = refl }
 
 pub returns-in_default : goal.returns-in_default
 returns-in_default c =

@@ -15,15 +15,9 @@ none d (suc (suc (suc zero))) at h i j = absurd (i refl)
 none d (suc (suc (suc (suc zero)))) at h i j = absurd (j refl)
 none d (suc (suc (suc (suc (suc n))))) at h i j = absurd (omega arith)
 
-pub with-requires : goal.with-requires
-with-requires c = c.requires.count_bound (omega arith)
-
 pub returns-then-number-eq-NO_OPERAND_OPENED : goal.returns-then-number-eq-NO_OPERAND_OPENED
 unfolding Inner
 returns-then-number-eq-NO_OPERAND_OPENED c = let a = c.args in subst (λ n. Inside a.c n a.at c.with.result) (sym c.if-number-eq-NO_OPERAND_OPENED.true) (record { says = c.with.ensures })
-
-pub with-requires-then-number-eq-NO_BLOCK : goal.with-requires-then-number-eq-NO_BLOCK
-with-requires-then-number-eq-NO_BLOCK c = c.requires.count_bound (omega arith)
 
 pub returns-then-number-eq-NO_BLOCK : goal.returns-then-number-eq-NO_BLOCK
 unfolding Inner

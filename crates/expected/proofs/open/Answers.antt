@@ -1,18 +1,11 @@
 -- `open` meets its contract: the marks below, outermost first, up to as many as may be.
 use mathlib.Core.Path.{refl}
-use native.Mathlib.Omega.{arith}
 use borrow.Author.Rules.{rules}
-use Rattle.expected.proofs.Chaining.{walk_start, walk_state, walk_mark, walked_most, walked}
+use Rattle.expected.proofs.Chaining.{walk_start, walk_state, walk_mark, walked_most}
 use Rattle.expected.proofs.open.Goals as goal
 
 pub loop-i-init : goal.loop-i-init
 loop-i-init c = walk_start c.empty_chain-c.ensures (search rules)
-
-pub offset_bounds-room-i : goal.offset_bounds-room-i
-offset_bounds-room-i c = let w = c.loop-i.invariant in omega (arith, w.high)
-
-pub bounds-room-i : goal.bounds-room-i
-bounds-room-i c = let w = c.loop-i.invariant in omega (arith, w.high)
 
 pub returns-then-most-n : goal.returns-then-most-n
 returns-then-most-n c = walked_most c.loop-i.invariant (search rules)
@@ -22,6 +15,3 @@ loop-i-preserved-then-v-ge-MARK c = walk_mark c.loop-i.invariant (search rules) 
 
 pub loop-i-preserved : goal.loop-i-preserved
 loop-i-preserved c = walk_state c.loop-i.invariant (search rules) (search rules)
-
-pub returns : goal.returns
-returns c = walked c.loop-i.invariant (search rules)

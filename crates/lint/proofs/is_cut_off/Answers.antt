@@ -2,7 +2,7 @@
 use native.Mathlib.Omega.{arith}
 use Rattle.spelling.proofs.Deciding.{held, failed, said}
 use Rattle.children.proofs.Laws.{number_is}
-use Rattle.lint.proofs.Laws.{begun, one_more, not_closed, no_statement, cut_found, cut_nowhere}
+use Rattle.lint.proofs.Laws.{one_more, not_closed, no_statement, cut_found, cut_nowhere}
 use Rattle.lint.proofs.is_cut_off.Goals as goal
 
 pub returns-then-not-is_closed : goal.returns-then-not-is_closed
@@ -10,9 +10,6 @@ returns-then-not-is_closed c = not_closed (number_is c.node.ensures) c.is_closed
 
 pub returns-then-node-ne-BLOCK : goal.returns-then-node-ne-BLOCK
 returns-then-node-ne-BLOCK c = no_statement (number_is c.node-parent.ensures) (number_is c.node-2.ensures) c.if-node-ne-BLOCK.true
-
-pub loop-k-init : goal.loop-k-init
-loop-k-init c = (begun 0, omega arith)
 
 pub returns-then-is_cut : goal.returns-then-is_cut
 returns-then-is_cut c =

@@ -1,14 +1,11 @@
 -- `is_reaching` meets its contract: one row after another of what the `not` took.
 use Rattle.spelling.proofs.Deciding.{held, failed, said}
 use Rattle.children.proofs.Laws.{number_is}
-use Rattle.lint.proofs.Laws.{setting_out, a_step, reaching_from, reaching_nothing, no_not}
+use Rattle.lint.proofs.Laws.{a_step, reaching_from, reaching_nothing, no_not}
 use Rattle.lint.proofs.is_reaching.Goals as goal
 
 pub returns-then-node-ne-LOGICAL_NOT : goal.returns-then-node-ne-LOGICAL_NOT
 returns-then-node-ne-LOGICAL_NOT c = no_not (number_is c.node.ensures) c.if-node-ne-LOGICAL_NOT.true
-
-pub loop-x-init : goal.loop-x-init
-loop-x-init c = (setting_out _, c.last-x.ensures)
 
 pub returns-then-reached : goal.returns-then-reached
 returns-then-reached c = let l = c.loop-x in reaching_from (number_is c.node.ensures) c.if-node-ne-LOGICAL_NOT.false l.invariant.0 l.invariant.1 c.loop-x-test.true (held (said c.reached.ensures c.if-reached.true))

@@ -10,20 +10,8 @@ returns-then-k-eq0 c = first_token c.if-k-eq0.true
 pub returns-then-k-tokens : goal.returns-then-k-tokens
 returns-then-k-tokens c = no_token c.if-k-tokens.true
 
-pub in_block-requires : goal.in_block-requires
-in_block-requires c = c.if-k-tokens.false
-
 pub returns-then-not-in_block : goal.returns-then-not-in_block
 returns-then-not-in_block c = in_brackets (sym c.in_block.ensures ∙ c.if-not-in_block.true)
-
-pub overflow_sub-k : goal.overflow_sub-k
-overflow_sub-k c = omega (arith, c.if-k-eq0.false)
-
-pub end_at-requires : goal.end_at-requires
-end_at-requires c = omega (arith, c.if-k-tokens.false)
-
-pub start_at-requires : goal.start_at-requires
-start_at-requires c = c.if-k-tokens.false
 
 pub returns : goal.returns
 returns c =

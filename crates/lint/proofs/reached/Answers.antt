@@ -6,8 +6,5 @@ use Rattle.lint.proofs.reached.Goals as goal
 pub returns-then-not-joins : goal.returns-then-not-joins
 returns-then-not-joins c = not_joined (number_is c.node.ensures) c.joins.ensures c.if-not-joins.true
 
-pub brackets-requires : goal.brackets-requires
-brackets-requires c = c.sign-k.ensures.first.within
-
 pub returns : goal.returns
 returns c = reached_by (number_is c.node.ensures) c.joins.ensures c.if-not-joins.false c.sign-k.ensures (number_is c.node-2.ensures) c.brackets.ensures

@@ -1,11 +1,7 @@
 -- `diagnostics::line::offset` meets its contract. Its loop keeps the place of `i`, and that no offset before it has the place that is looked for.
 use native.Mathlib.Omega.{arith}
-use mathlib.Core.Path.{refl}
 use Rattle.diagnostics.proofs.Offsets.{started, passed, is_found, is_nowhere}
 use Rattle.diagnostics.proofs.line.offset.Goals as goal
-
-pub returns-then-n-gt65536 : goal.returns-then-n-gt65536
-returns-then-n-gt65536 c = record { long = λ _. refl; found = λ h _ _. absurd (omega arith); none = λ h _. refl }
 
 pub loop-here-init : goal.loop-here-init
 loop-here-init c = started

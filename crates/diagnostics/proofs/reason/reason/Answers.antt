@@ -1,16 +1,13 @@
 -- `diagnostics::reason::reason` meets its contract: it answers as `message`, or with the text at the place that `which` answers.
 use native.Mathlib.Omega.{arith}
 use mathlib.Core.Path.{sym, ◌∙◌}
-use Rattle.diagnostics.proofs.Reasons.{passed, too_small, written}
+use Rattle.diagnostics.proofs.Reasons.{passed, written}
 use Rattle.diagnostics.proofs.reason.reason.Goals as goal
 
 pub returns-then-has_message : goal.returns-then-has_message
 returns-then-has_message c =
     let asked = c in
     passed (sym asked.has_message.ensures ∙ asked.if-has_message.true) c.message.ensures
-
-pub returns-then-room-lt52 : goal.returns-then-room-lt52
-returns-then-room-lt52 c = too_small (omega arith)
 
 pub returns : goal.returns
 returns c =

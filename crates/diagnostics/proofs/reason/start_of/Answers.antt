@@ -1,9 +1,9 @@
 -- `diagnostics::reason::start_of` meets its contract: each number of the constant is where the definition of the table has that text's start.
-use Prim.Native.Nat.{ℕ, ◌≤◌, ◌<◌}
+use Prim.Native.Nat.{ℕ, ◌<◌}
 use native.Mathlib.Omega.{arith}
 use mathlib.Core.List.{List, [], ◌∷◌}
 use mathlib.Core.Path.{◌≡◌}
-use lib.Dec.{eqb, leb, eqb→eq, leb→le}
+use lib.Dec.{eqb, eqb→eq}
 use lib.ListN.{get_or}
 use Rattle.grammar.proofs.Tests.{within}
 use Rattle.diagnostics.specs.Reason.{tabled, begins}
@@ -15,14 +15,6 @@ starts = 0 ∷ 0 ∷ 43 ∷ 92 ∷ 127 ∷ 155 ∷ 179 ∷ 221 ∷ 268 ∷ 268 �
 right : (i : ℕ) → i < 25 → get_or starts i 0 ≡ begins i
 unfolding starts begins tabled
 right i h = eqb→eq _ _ (within (λ k. eqb (get_or starts k 0) (begins k)) 0 25 i tt (omega arith) h)
-
-small : (i : ℕ) → i < 25 → get_or starts i 0 ≤ 603
-unfolding starts
-small i h = leb→le _ _ (within (λ k. leb (get_or starts k 0) 603) 0 25 i tt (omega arith) h)
-
-pub overflow_cast-result : goal.overflow_cast-result
-unfolding starts
-overflow_cast-result c = omega (arith, small c.args.i (omega arith))
 
 pub returns : goal.returns
 unfolding starts

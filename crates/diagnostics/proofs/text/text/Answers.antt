@@ -5,9 +5,6 @@ use Rattle.spelling.proofs.display.Writing.{nothing}
 use Rattle.diagnostics.specs.Message.{text_of}
 use Rattle.diagnostics.proofs.text.text.Goals as goal
 
-pub returns-in-8 : goal.returns-in-8
-returns-in-8 c = rw c.in-8.is c.required.ensures
-
 pub returns-in-9 : goal.returns-in-9
 unfolding text_of
 returns-in-9 c = rw c.in-9.is c.operand.ensures

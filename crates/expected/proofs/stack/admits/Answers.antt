@@ -1,11 +1,8 @@
 -- `admits` meets its contract: what its loop leaves behind passes the kind on, wherever the token is.
 use native.Mathlib.Omega.{arith}
 use borrow.Author.Rules.{rules}
-use Rattle.expected.proofs.Passing.{starting, state_number, pass_mark, pass_state, admits_over, admits_not, admits_so}
+use Rattle.expected.proofs.Passing.{state_number, pass_mark, pass_state, admits_over, admits_not, admits_so}
 use Rattle.expected.proofs.stack.admits.Goals as goal
-
-pub loop-t-init : goal.loop-t-init
-loop-t-init c = λ n. starting (search rules) (search rules)
 
 pub action-a-requires : goal.action-a-requires
 action-a-requires c = let n = state_number (c.loop-t.invariant 0) (search rules) (search rules) in record { table_value = search rules; state_bound = omega (arith, n, c.size.ensures); kind_bound = search rules }

@@ -9,19 +9,13 @@ use Rattle.grammar.specs.Edition.{Edition}
 use Rattle.grammar.proofs.Stopping.{marks}
 use Rattle.expected.specs.Cells.{decoded}
 use Rattle.expected.specs.Steps.{Case}
-use Rattle.expected.proofs.Passing.{fewer, Passing, starting, state_number, pass_mark, mark_less, pass_state, state_next, bar, take, finished}
+use Rattle.expected.proofs.Passing.{fewer, Passing, state_number, pass_mark, mark_less, pass_state, state_next, bar, take, finished}
 use Rattle.expected.proofs.Laws.{opens_few}
 use Rattle.expected.proofs.stack.advance.Goals as goal
 
 -- no more is open than was at the start
 open_few : {e : Edition} {x c top t d depth : ℕ} {before room : List ℕ} → Passing e x c top before room t → d ≡ marks (decoded (drop t room)) → depth ≡ marks (decoded (drop top before)) → d ≤ depth
 open_few {top = top} {t = t} {room = room} p e f = let same = ap (λ r. marks (decoded (drop top r))) p.same in omega (arith, fewer top t room p.past, same, e, f)
-
-pub loop-t-init : goal.loop-t-init
-loop-t-init c = (starting (search rules) (search rules), search rules)
-
-pub offset_bounds-room-t : goal.offset_bounds-room-t
-offset_bounds-room-t c = omega (arith, ap length c.loop-t.invariant.0.same)
 
 pub action-a-requires : goal.action-a-requires
 action-a-requires c = let n = state_number c.loop-t.invariant.0 (search rules) (search rules) in record { table_value = search rules; state_bound = omega (arith, n, c.size.ensures); kind_bound = search rules }
@@ -34,15 +28,6 @@ returns-then-a-lt-PASSES c =
     record { says = bar i.0 (search rules) (search rules) (rw c.size.ensures at c.action-a.ensures) (search rules) i.1; same_length = ap length i.0.same }
 
 -- it takes it
-pub overflow_add-t : goal.overflow_add-t
-overflow_add-t c = omega (arith, ap length c.loop-t.invariant.0.same)
-
-pub push-r-requires : goal.push-r-requires
-push-r-requires c = record { table_value = search rules; list_bound = omega (arith, c.action-a.ensures.bound); le_top = omega (arith, c.loop-t.invariant.0.past); top_in_bounds = search rules; at_bound = search rules }
-
-pub opens-requires : goal.opens-requires
-opens-requires c = omega (arith, c.action-a.ensures.bound)
-
 pub overflow_add-result : goal.overflow_add-result
 overflow_add-result c = let i = c.loop-t.invariant in omega (arith, open_few i.0 i.1 c.requires.depth_value, c.requires.depth_bound, opens_few (c.action-a.result - 6), c.opens.ensures)
 
@@ -57,9 +42,6 @@ returns-then-a-gt-PASSES c =
     }
 
 -- it passes it on
-pub overflow_add-t-then-v-lt-MARK : goal.overflow_add-t-then-v-lt-MARK
-overflow_add-t-then-v-lt-MARK c = omega (arith, ap length c.loop-t.invariant.0.same)
-
 pub loop-t-preserved-then-v-lt-MARK : goal.loop-t-preserved-then-v-lt-MARK
 loop-t-preserved-then-v-lt-MARK c =
     let i = c.loop-t.invariant in
@@ -68,9 +50,6 @@ loop-t-preserved-then-v-lt-MARK c =
 -- a mark
 pub overflow_sub-d : goal.overflow_sub-d
 overflow_sub-d c = let i = c.loop-t.invariant in omega (arith, i.1, mark_less i.0 (search rules) (search rules))
-
-pub overflow_add-t-else-v-lt-MARK : goal.overflow_add-t-else-v-lt-MARK
-overflow_add-t-else-v-lt-MARK c = omega (arith, ap length c.loop-t.invariant.0.same)
 
 pub loop-t-preserved : goal.loop-t-preserved
 loop-t-preserved c = let i = c.loop-t.invariant in (pass_mark i.0 (search rules) (search rules), omega (arith, i.1, mark_less i.0 (search rules) (search rules)))

@@ -7,7 +7,7 @@ use borrow.Author.Rules.{rules}
 use lib.ListN.{length, get_or}
 use Rattle.expected.specs.Tables.{lengths, lists, tables}
 use Rattle.expected.proofs.Lent.{tables_length, in_lengths, in_lists}
-use Rattle.expected.proofs.Laws.{short, Piling, piling, piled_down, pushed, number}
+use Rattle.expected.proofs.Laws.{Piling, piling, piled_down, pushed, number}
 use Rattle.expected.proofs.tables.push.Goals as goal
 
 -- what is read from the tables
@@ -20,17 +20,8 @@ taken i e h = h ∙ ap (λ b. get_or b (2817 + i) 0) e ∙ in_lists i
 pub bounds-table-list : goal.bounds-table-list
 bounds-table-list c = let e = ap length c.requires.table_value in omega (arith, e, tables_length)
 
-pub overflow_add-i : goal.overflow_add-i
-overflow_add-i c = let a = c.args in let h = short a.list (search rules) in omega (arith, h, sized a.list c.requires.table_value (search rules) c.wider.ensures)
-
 pub loop-i-init : goal.loop-i-init
 loop-i-init c = let a = c.args in (refl, subst (λ n. Piling a.list a.at a.top a.room.now a.room.now (8 * a.list + n) a.top) (sym (sized a.list c.requires.table_value (search rules) c.wider.ensures)) (piling a.list a.at a.top a.room.now (search rules)))
-
-pub overflow_sub-t : goal.overflow_sub-t
-overflow_sub-t c = let p = c.loop-i.invariant.1 in omega (arith, p.height, p.few, c.loop-i.invariant.0)
-
-pub overflow_add-i-in-loop-i : goal.overflow_add-i-in-loop-i
-overflow_add-i-in-loop-i c = let p = c.loop-i.invariant.1 in omega (arith, p.high, p.few, p.listed)
 
 pub bounds-table-i : goal.bounds-table-i
 bounds-table-i c = let p = c.loop-i.invariant.1 in let e = ap length c.requires.table_value in omega (arith, e, tables_length, p.high, p.few, p.listed)
@@ -41,19 +32,10 @@ cell-requires c =
     let p = l.invariant.1 in
     let n = (number (l.i - 1) (omega (arith, p.high, p.few, p.listed))).1 in record { v_bound = omega (arith, n, taken (l.i - 1) c.requires.table_value c.wide-v.ensures); at_bound = search rules }
 
-pub offset_bounds-room-t : goal.offset_bounds-room-t
-offset_bounds-room-t c = let p = c.loop-i.invariant.1 in omega (arith, p.height)
-
-pub bounds-room-t : goal.bounds-room-t
-bounds-room-t c = let p = c.loop-i.invariant.1 in omega (arith, p.height, p.same_length, p.few, c.loop-i.invariant.0)
-
 pub loop-i-preserved : goal.loop-i-preserved
 loop-i-preserved c =
     let l = c.loop-i in
     (l.invariant.0, piled_down l.i l.t l.invariant.1 (omega (arith, l.invariant.0)) (search rules) (search rules) (rw (taken (l.i - 1) c.requires.table_value c.wide-v.ensures) at c.cell.ensures))
-
-pub shape_of-room : goal.shape_of-room
-shape_of-room c = c.loop-i.invariant.1.same_length
 
 pub returns : goal.returns
 returns c = let l = c.loop-i in pushed (omega (arith, l.invariant.0)) l.invariant.1

@@ -1,12 +1,9 @@
 -- `reach::enclosing` meets its contract. Its loop goes back token by token, and keeps that from there on the same bracket is found.
 use Prim.Native.Nat.{suc, ◌-◌}
 use native.Mathlib.Omega.{arith}
-use mathlib.Core.Path.{◌≡◌, refl, sym, ◌∙◌}
+use mathlib.Core.Path.{◌≡◌, sym, ◌∙◌}
 use Rattle.lint.proofs.Laws.{back_one, found_open, none_open, grown}
 use Rattle.lint.proofs.reach.enclosing.Goals as goal
-
-pub loop-i-init : goal.loop-i-init
-loop-i-init c = (refl, omega arith)
 
 pub returns-then-is_enclosing : goal.returns-then-is_enclosing
 returns-then-is_enclosing c =

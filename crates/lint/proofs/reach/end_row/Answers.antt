@@ -3,9 +3,6 @@ use mathlib.Core.Path.{sym}
 use Rattle.lint.specs.Reach.{Ends, here}
 use Rattle.lint.proofs.reach.end_row.Goals as goal
 
-pub loop-next-init : goal.loop-next-init
-loop-next-init c = (c.last-next.ensures, λ y e. e)
-
 pub loop-next-preserved : goal.loop-next-preserved
 loop-next-preserved c = let l = c.loop-next in (c.last-next-in-loop-next.ensures, λ y e. l.invariant.1 y (Ends.on (rw (sym l.invariant.0) c.loop-next-test.true) (rw (sym l.invariant.0) e)))
 

@@ -15,8 +15,5 @@ returns-then-kind_at-ne-LEFT_BRACE c = other_open c.args.tokens.now c.args.k c.e
 pub returns-then-e-eq0 : goal.returns-then-e-eq0
 returns-then-e-eq0 c = first_open c.args.tokens.now c.args.k c.enclosing-e.ensures c.if-e.false c.kind_at.ensures c.if-kind_at-ne-LEFT_BRACE.false c.if-e-eq0.true
 
-pub kind_at-requires-2 : goal.kind_at-requires-2
-kind_at-requires-2 c = omega (arith, within_list c.args.tokens.now c.args.k c.enclosing-e.ensures c.if-e.false)
-
 pub returns : goal.returns
 returns c = brace_open c.args.tokens.now c.args.k c.enclosing-e.ensures c.if-e.false c.kind_at.ensures c.if-kind_at-ne-LEFT_BRACE.false c.kind_at-2.ensures
