@@ -2,28 +2,21 @@
 use Prim.Native.Nat.{ℕ, ◌+◌, ◌*◌}
 use native.Mathlib.Omega.{arith}
 use mathlib.Core.List.{List}
-use mathlib.Core.Path.{◌≡◌, sym}
+use mathlib.Core.Path.{◌≡◌}
 use lib.ListN.{length, take}
-use lib.Seq.{length-take-le}
 use Rattle.grammar.specs.Token.{lexeme}
 use Rattle.wire.specs.Input.{InputHolds}
 use Rattle.wire.specs.Scanned.{Sizes, TokensFilled}
 use Rattle.wire.proofs.Outputs.{success_answered, refusal_answered, counted}
-use Rattle.wire.proofs.Scanning.{InputSized, measured, holding}
+use Rattle.wire.proofs.Scanning.{measured, holding}
 use Rattle.listing.proofs.script.Goals as goal
 
 -- the tokens that were written are the list's first, and the input holds them
-used_length : {input : List ℕ} {size : ℕ} (list : List ℕ) (n : ℕ) → InputSized input size n → length list ≡ 1536 → 3 * n ≡ length (take (3 * n) list)
-used_length list n m h = sym (length-take-le (3 * n) list (omega (arith, m.most_tokens)))
-
 read : {input before after : List ℕ} {size n : ℕ} → Sizes input size n → TokensFilled input (6 + size) n before after → length after ≡ 1536 → InputHolds input (lexeme input 6 (6 + size)) (take (3 * n) after)
 read s f h = let m = measured s in holding m f (omega (arith, m.most_tokens))
 
 pub fill-requires : goal.fill-requires
 fill-requires c = let m = measured c.requires in (m.marks, omega (arith, m.ends), omega (arith, m.most_tokens))
-
-pub slice_bounds-parse-end-2 : goal.slice_bounds-parse-end-2
-slice_bounds-parse-end-2 c = let fill = c.fill in used_length fill.new.tokens c.args.n (measured c.requires) fill.auto.tokens
 
 pub listed-requires : goal.listed-requires
 listed-requires c =
@@ -44,9 +37,6 @@ returns-then-a-eq0 c =
     let parse = c.parse-a in
     let fill = c.fill in
     success_answered (read c.requires fill.ensures fill.auto.tokens) parse.ensures.answers c.if-a-eq0.true c.listed.ensures
-
-pub slice_bounds-refused-end : goal.slice_bounds-refused-end
-slice_bounds-refused-end c = let fill = c.fill in used_length fill.new.tokens c.args.n (measured c.requires) fill.auto.tokens
 
 pub returns : goal.returns
 returns c =
