@@ -4,22 +4,11 @@ use native.Mathlib.Decide.{ℕ_discrete}
 use native.Mathlib.Nat.{mul-le-mul_left}
 use native.Mathlib.Numerals.{add-one}
 use native.Mathlib.Omega.{arith}
-use borrow.Author.Tests.{not-true, not-false}
-use mathlib.Core.Bool.{Bool, true, false, not}
 use mathlib.Core.List.{List}
 use mathlib.Core.Path.{◌≡◌, refl, sym, subst}
 use lib.ListN.{length}
 use Rattle.grammar.specs.Room.{node_width, link_width, symbol_width, scratch_width}
-use Rattle.spelling.specs.Decides.{Decides}
-use Rattle.spelling.proofs.Deciding.{held, failed, said}
 use Rattle.scripts.specs.Joined.{Joined, cut_start, cut_end, of_text, of_list, scripts, answer_width, Forward, Fits}
-
--- an answer that decides, once the branch of a negated test is known
-pub refused : {P : Type 0} {r : Bool} → Decides P r → not r ≡ true → P → ⊥
-refused {r = r} d e = failed (said d (not-true r e))
-
-pub passed : {P : Type 0} {r : Bool} → Decides P r → not r ≡ false → P
-passed {r = r} d e = held (said d (not-false r e))
 
 -- of the cuts of the first i scripts none goes back or past the end
 pub record SoFar (cuts : List ℕ) (side long i : ℕ) : Type 0 where

@@ -1,21 +1,17 @@
 -- `forward` meets its contract: it looks at one cut after another, and stops at the first that goes back or past the end.
-use Prim.Native.Nat.{◌-◌}
 use native.Mathlib.Omega.{arith}
 use Rattle.spelling.proofs.Deciding.{holds, fails}
-use Rattle.scripts.proofs.Cuts.{SoFar, none_yet, one_more, all_seen}
+use Rattle.scripts.proofs.Cuts.{none_yet, one_more, all_seen}
 use Rattle.scripts.proofs.forward.Goals as goal
-
-cut-start-requires : goal.the-fitted-cut_start-from-requires
-cut-start-requires c κs = (omega (arith, c.loop-i-test.true, c.requires), omega (arith, c.loop-i-test.true, c.requires), c.requires.2)
 
 pub loop-i-init : goal.loop-i-init
 loop-i-init c = none_yet
 
 pub cut_start-from-requires : goal.cut_start-from-requires
-cut_start-from-requires c = cut-start-requires c.before
+cut_start-from-requires c = (omega (arith, c.loop-i-test.true, c.requires), omega (arith, c.loop-i-test.true, c.requires), c.requires.2)
 
 pub cut_end-upto-requires : goal.cut_end-upto-requires
-cut_end-upto-requires c = cut-start-requires c.before.before κs
+cut_end-upto-requires c = (omega (arith, c.loop-i-test.true, c.requires), omega (arith, c.loop-i-test.true, c.requires), c.requires.2)
 
 pub returns-then-upto-from : goal.returns-then-upto-from
 returns-then-upto-from c = fails (λ f. omega (arith, c.if-upto-from.true, c.cut_end-upto.ensures, c.cut_start-from.ensures, f.forth c.loop-i-test.true))

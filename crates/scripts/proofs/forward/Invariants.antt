@@ -1,8 +1,6 @@
 -- `forward` meets its contract: it looks at one cut after another, and stops at the first that goes back or past the end.
 use Prim.Native.Nat.{◌-◌}
-use native.Mathlib.Omega.{arith}
-use Rattle.spelling.proofs.Deciding.{holds, fails}
-use Rattle.scripts.proofs.Cuts.{SoFar, none_yet, one_more, all_seen}
+use Rattle.scripts.proofs.Cuts.{SoFar}
 use Rattle.scripts.proofs.forward.Given as goal
 
 abbrev pub invariant-loop-i : goal.invariant-loop-i

@@ -1,11 +1,8 @@
 -- `parse_scripts` meets its contract: 19 where the cuts or the rooms are not right; and else one script after another is answered.
 use Prim.Native.Nat.{◌-◌}
-use borrow.Author.Rules.{rules}
-use native.Mathlib.Omega.{arith}
 use Rattle.grammar.specs.Builtin.{builtins}
-use Rattle.scripts.specs.Joined.{Source, AnswersAll, lent, joined}
-use Rattle.scripts.proofs.Cuts.{refused, passed}
-use Rattle.scripts.proofs.Turns.{Turned, start, fits_now, next, all_answered}
+use Rattle.scripts.specs.Joined.{Source, lent, joined}
+use Rattle.scripts.proofs.Turns.{Turned}
 use Rattle.scripts.proofs.parse_scripts.Given as goal
 
 abbrev pub invariant-loop-i : goal.invariant-loop-i
