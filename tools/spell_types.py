@@ -12,7 +12,7 @@ import re
 import sys
 
 NAMES = """
-Admits-code All-known All-named All-standing All-there Answers-all Answers-text As-items As-read As-script As-was Asked-of At-door Both-laid
+Goes_on Is_at Admits-code All-known All-named All-standing All-there Answers-all Answers-text As-items As-read As-script As-was Asked-of At-door Both-laid
 Byte-placed Call-goes-on Checks-rows Could-stand Cut-at Cut-off Earlier-kept First-past First-without Follows-all Has-child Has-place Has-places
 Hearing-all Holds-number In-reading In-room Input-holds Input-sized Known-kind Left-at Left-out Lengths-checked Let-in Line-ends List-checked
 List-fits Lists-done Long-string Looked-up Makes-list Message-given Moves-link Moves-list Moves-lists Moves-number Moves-row Name-told Named-in
@@ -23,7 +23,7 @@ Same-tree So-far Span-moved Stands-row Stretch-ends Sum-goes-on Tells-expected T
 Turned-away Up-to Well-formed With-ends With-semicolon Within-limits Writes-reason
 """.split()
 
-WORD = re.compile(r"(?<![\w'-])[A-Z][\w']*(?:-[\w']+)+(?![\w'-])")
+WORD = re.compile(r"(?<![\w'-])[A-Z][\w']*(?:-[\w']+)*(?![\w'-])")
 
 
 def read(path):
@@ -39,7 +39,7 @@ def main(argv):
         paths += [os.path.join(folder, n) for n in sorted(names) if n.endswith((".antt", ".rt", ".edit"))]
     turn = {}
     for name in NAMES:
-        first, *rest = name.split("-")
+        first, *rest = re.split("[-_]", name)
         turn[name] = first + "".join(p[:1].upper() + p[1:] for p in rest)
     changed = 0
     for path in paths:

@@ -10,7 +10,7 @@ use lib.ListN.{get_or, drop}
 use Rattle.grammar.specs.Room.{node_width, own_width, link_width}
 use Rattle.grammar.specs.Edition.{Edition}
 use Rattle.foreign.specs.Check.{Item, lists, counted, Consecutive, covered, Follows}
-use Rattle.checker.specs.Follow.{consecutive, Goes_on, in_slots, covered_by, row_follows, FollowsAll}
+use Rattle.checker.specs.Follow.{consecutive, GoesOn, in_slots, covered_by, row_follows, FollowsAll}
 use Rattle.checker.specs.Slots.{rows, table, cut_of, link_items, linked_items, held, spared, held_in}
 use Rattle.checker.specs.Test.{AllStanding}
 use Rattle.checker.specs.declared.slots.Cut.{Cut}
@@ -51,7 +51,7 @@ module _ (ls : List ℕ) (s : Slot) where
 -- after a slot
 module _ (s : Slot) (from : ℕ) (few : from ≤ 8589934590) where
   abbrev After : ℕ → Type 0
-  After r = Goes_on from (λ ls. held ls s) r
+  After r = GoesOn from (λ ls. held ls s) r
 
   on : ((ls : List ℕ) → lists (held ls s) ≡ []) → After (from + 1)
   on h = record { most = omega arith; says = λ ls. rw (h ls) (omega arith) }
@@ -78,15 +78,15 @@ consecutive_append : (m : ℕ) (xs ys : List (ℕ × ℕ)) → consecutive m (xs
 consecutive_append m [] ys = let e : m + 0 ≡ m = omega arith in rw e refl
 consecutive_append m (x ∷ xs) ys = let e : m + x.1 + counted xs ≡ m + (x.1 + counted xs) = omega arith in rw (consecutive_append (m + x.1) xs ys, e) (and_assoc (eqb x.0 m) _ _)
 
-module _ {from r : ℕ} {f : List ℕ → List Item} (g : List ℕ → List Item) (x : Goes_on from f r) where
-  pub goes_nowhere : r ≡ 0 → Goes_on from (λ ls. f ls ++ g ls) 0
+module _ {from r : ℕ} {f : List ℕ → List Item} (g : List ℕ → List Item) (x : GoesOn from f r) where
+  pub goes_nowhere : r ≡ 0 → GoesOn from (λ ls. f ls ++ g ls) 0
   goes_nowhere e = record { most = omega arith; says = λ ls. sym (rw (lists_append (f ls) (g ls), consecutive_append from (lists (f ls)) (lists (g ls))) (pick ls (consecutive from (lists (f ls))) refl)) }
     where
       pick : (ls : List ℕ) (b : Bool) → consecutive from (lists (f ls)) ≡ b → cond (b && consecutive (from + counted (lists (f ls))) (lists (g ls))) (suc (from + counted (lists (f ls) ++ lists (g ls)))) 0 ≡ 0
       pick ls true q = absurd (let z = rw q at (x.says ls) in omega arith)
       pick ls false q = refl
 
-  pub goes_further : {s : ℕ} → (r ≡ 0 → ⊥) → Goes_on (r - 1) g s → Goes_on from (λ ls. f ls ++ g ls) s
+  pub goes_further : {s : ℕ} → (r ≡ 0 → ⊥) → GoesOn (r - 1) g s → GoesOn from (λ ls. f ls ++ g ls) s
   goes_further {s} n y = record { most = y.most; says = λ ls. sym (rw (lists_append (f ls) (g ls), consecutive_append from (lists (f ls)) (lists (g ls)), counted_append (lists (f ls)) (lists (g ls))) (pick ls (consecutive from (lists (f ls))) refl)) }
     where
       pick : (ls : List ℕ) (b : Bool) → consecutive from (lists (f ls)) ≡ b → cond (b && consecutive (from + counted (lists (f ls))) (lists (g ls))) (suc (from + (counted (lists (f ls)) + counted (lists (g ls))))) 0 ≡ s
@@ -120,7 +120,7 @@ module _ {t ns : List ℕ} where
   unfolding covered_by
   none_follow = record { few = omega arith; kept = λ ls. held_none _; covered = λ ls. refl }
 
-  module _ {i links next : ℕ} {c : Cut} (x : Following t ns i links) (e : c ≡ cut_of t ns i) (y : Goes_on links (in_slots c) next) where
+  module _ {i links next : ℕ} {c : Cut} (x : Following t ns i links) (e : c ≡ cut_of t ns i) (y : GoesOn links (in_slots c) next) where
     -- what row i's lists say of it
     at : (ls : List ℕ) → next ≡ cond (row_follows t ns ls i) (suc (covered_by t ns ls (suc i))) 0
     unfolding row_follows covered_by

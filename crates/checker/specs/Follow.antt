@@ -16,7 +16,7 @@ abbrev pub followed : (from : ℕ) → List (ℕ × ℕ) → ℕ
 followed m ls = cond (consecutive m ls) (suc (m + counted ls)) 0
 
 -- so of the lists of items, whatever their links hold
-pub record Goes_on (from : ℕ) (items : (links : List ℕ) → List Item) (r : ℕ) : Type 0 where
+pub record GoesOn (from : ℕ) (items : (links : List ℕ) → List Item) (r : ℕ) : Type 0 where
   pub most : r ≤ 8589934591
   pub says : (links : List ℕ) → r ≡ followed from (lists (items links))
 

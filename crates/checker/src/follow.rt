@@ -1,6 +1,6 @@
 // Rule 6: whether lists follow each other, in the order of the rows.
 ghost use Rattle.std.specs.Prelude.{◌≤◌};
-ghost use Rattle.checker.specs.Follow.{Goes_on, in_slots, FollowsAll};
+ghost use Rattle.checker.specs.Follow.{GoesOn, in_slots, FollowsAll};
 ghost use Rattle.checker.specs.Slots.{held};
 ghost use Rattle.checker.specs.Test.{AllStanding};
 
@@ -17,7 +17,7 @@ pub struct Followed {
 // Ruled out: a list that starts one further on; a list's count left out.
 fn after_slot(s: Slot, from: usize) -> usize
     requires { from ≤ 8589934590 }
-    ensures { Goes_on from (λ ls. held ls s) result }
+    ensures { GoesOn from (λ ls. held ls s) result }
 {
     if s.code < NODES {
         return from + 1;
@@ -35,7 +35,7 @@ fn after_slot(s: Slot, from: usize) -> usize
 // Ruled out: the second list of an import left out.
 fn after_row(c: Cut, from: usize) -> usize
     requires { from ≤ 8589934590 }
-    ensures { Goes_on from (in_slots c) result }
+    ensures { GoesOn from (in_slots c) result }
 {
     let first = c.first;
     let one = after_slot(first, from);

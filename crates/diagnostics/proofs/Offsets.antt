@@ -12,7 +12,7 @@ use borrow.Author.Count.{below_more}
 use borrow.Author.Tests.{eq-eqb, ne_eqb}
 use Rattle.spelling.specs.Decides.{Decides}
 use Rattle.spelling.proofs.Deciding.{holds, fails, held, failed}
-use Rattle.diagnostics.specs.Line.{at, ends, next, line_of, Is_at, HasPlace, OffsetGiven}
+use Rattle.diagnostics.specs.Line.{at, ends, next, line_of, IsAt, HasPlace, OffsetGiven}
 use Rattle.diagnostics.specs.declared.Place.{Place}
 
 -- a place before another: on an earlier line, or in an earlier column of the same
@@ -44,7 +44,7 @@ same_offset {i = i} {j = j} p q =
       | no h ↦ elim (dec_lt j i) [ yes k ↦ absurd (apart q p k) | no k ↦ omega arith ]
     ]
 
-is_at : (line column : ℕ) (here : Place) → Dec (Is_at line column here)
+is_at : (line column : ℕ) (here : Place) → Dec (IsAt line column here)
 is_at line column here =
     elim (ℕ_discrete here.line line) [
       | no h ↦ no (λ p. h p.on_line)
@@ -80,10 +80,10 @@ pub back_again : (text : List ℕ) (i : ℕ) {r : ℕ} → length text ≤ 65536
 back_again text i h k o = let here : HasPlace text (line_of text i).line (line_of text i).column i = record { inside = k; there = record { on_line = refl; in_column = refl } } in same_offset (o.found h i here) here
 
 -- the test of a line and a column
-pub another_line : {line column : ℕ} {here : Place} → (here.line ≡ line → ⊥) → Decides (Is_at line column here) false
+pub another_line : {line column : ℕ} {here : Place} → (here.line ≡ line → ⊥) → Decides (IsAt line column here) false
 another_line n = fails (λ p. n p.on_line)
 
-pub same_line : {line column : ℕ} {here : Place} → here.line ≡ line → Decides (Is_at line column here) (eqb here.column column)
+pub same_line : {line column : ℕ} {here : Place} → here.line ≡ line → Decides (IsAt line column here) (eqb here.column column)
 same_line {column = column} {here} e =
     elim (ℕ_discrete here.column column) [
       | yes h ↦ rw (eq-eqb here.column column h) (holds (record { on_line = e; in_column = h }))
@@ -100,7 +100,7 @@ pub started : {text : List ℕ} {line column : ℕ} → Looking text line column
 unfolding line_of
 started = record { inside = omega arith; there = refl; before = λ k h. absurd (omega arith) }
 
-module _ {text : List ℕ} {line column i : ℕ} {here : Place} {r : Bool} (s : Looking text line column i here) (d : Decides (Is_at line column here) r) where
+module _ {text : List ℕ} {line column i : ℕ} {here : Place} {r : Bool} (s : Looking text line column i here) (d : Decides (IsAt line column here) r) where
   -- i has the place, or has it not
   reached : r ≡ true → HasPlace text line column i
   reached e = record { inside = s.inside; there = rw s.there at (held (rw e at d)) }

@@ -42,13 +42,13 @@ pub record BytePlaced (text : List ℕ) (i : ℕ) (here : Place) : Type 0 where
   pub there : here ≡ line_of text i
 
 -- a place with this line and this column, and an offset up to the text's length that has such a place
-pub record Is_at (line column : ℕ) (here : Place) : Type 0 where
+pub record IsAt (line column : ℕ) (here : Place) : Type 0 where
   pub on_line : here.line ≡ line
   pub in_column : here.column ≡ column
 
 pub record HasPlace (text : List ℕ) (line column i : ℕ) : Type 0 where
   pub inside : i ≤ length text
-  pub there : Is_at line column (line_of text i)
+  pub there : IsAt line column (line_of text i)
 
 -- the converse of a place: such an offset where there is one, and where there is none, or the text is too long, its length and one
 pub record OffsetGiven (text : List ℕ) (line column r : ℕ) : Type 0 where

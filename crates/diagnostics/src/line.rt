@@ -2,7 +2,7 @@
 ghost use Rattle.std.specs.Prelude.{◌+◌, ◌≤◌, ◌<◌, ◌≡◌, length};
 ghost use Rattle.grammar.specs.Run.{Ran};
 ghost use Rattle.spelling.specs.Decides.{Decides};
-ghost use Rattle.diagnostics.specs.Line.{BytePlaced, Is_at, Placed, OffsetGiven, ends, line_of, inner};
+ghost use Rattle.diagnostics.specs.Line.{BytePlaced, IsAt, Placed, OffsetGiven, ends, line_of, inner};
 
 use crate::Place;
 
@@ -83,7 +83,7 @@ pub fn place(text: &[u8], offset: usize) -> Place
 
 // Whether a place has this line and this column.
 fn is_at(here: Place, line: u32, column: u32) -> bool
-    ensures { Decides (Is_at line column here) result }
+    ensures { Decides (IsAt line column here) result }
 {
     if here.line != line {
         return false;
