@@ -24,6 +24,5 @@ bounds-answer-1 c = simp length-set (omega arith)
 
 pub returns : goal.returns
 returns c =
-    let call = c in
-    let v = call.check-v.result in
-    told (omega arith) call.check-v.ensures (three call.args.answer.now v.code v.rule v.row (omega arith))
+    let v = c.check-v.result in
+    told (omega arith) c.check-v.ensures (three c.args.answer.now v.code v.rule v.row (omega arith))

@@ -12,7 +12,7 @@ use Rattle.station.specs.Exports.{placed, put, Places}
 use Rattle.station.proofs.kaori_place.Goals as goal
 
 told : {text room out : List ℕ} {offset : ℕ} {p : Place} → 3 ≤ length room → Placed text offset p → out ≡ put (placed p) room → Places text offset room out p.code
-told h q e = rw e (Places.place-p h q)
+told h q e = rw e (Places.place h q)
 
 pub returns-then-answer-lt3 : goal.returns-then-answer-lt3
 returns-then-answer-lt3 c = Places.short (omega arith)

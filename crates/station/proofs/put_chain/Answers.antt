@@ -17,10 +17,7 @@ pub bounds-room-i-in-loop-i : goal.bounds-room-i-in-loop-i
 bounds-room-i-in-loop-i c = simp length-set (omega (arith, c.loop-i.invariant.1.size))
 
 pub loop-i-preserved : goal.loop-i-preserved
-loop-i-preserved c = (omega arith, one_pair c.args.t1.entries (omega arith) (omega arith) c.loop-i.invariant.1)
-
-pub shape_of-room : goal.shape_of-room
-shape_of-room c = c.loop-i.invariant.1.size
+loop-i-preserved c = (omega arith, one_pair c.args.chain.entries (omega arith) (omega arith) c.loop-i.invariant.1)
 
 pub returns : goal.returns
-returns c = all_pairs c.args.t1.entries (omega arith) (omega arith) c.loop-i.invariant.1
+returns c = all_pairs c.args.chain.entries (omega arith) (omega arith) c.loop-i.invariant.1

@@ -11,10 +11,5 @@ bounds-room-1 c = simp length-set (omega arith)
 pub bounds-room-2 : goal.bounds-room-2
 bounds-room-2 c = simp length-set (omega arith)
 
-pub shape_of-room : goal.shape_of-room
-shape_of-room c = simp length-set at c.put_chain.ensures.size
-
 pub returns : goal.returns
-returns c =
-    let start = c in
-    told_put start.args.room.now start.args.t (omega (arith, start.requires)) start.requires.count_bound.1 c.put_chain.ensures
+returns c = told_put c.args.room.now c.args.t (omega (arith, c.requires)) c.requires.count_bound.1 c.put_chain.ensures
