@@ -1,13 +1,12 @@
 -- One script after another: what is answered stays answered, since a step changes nothing outside its own parts, and each script finds its parts as they were lent.
-use Prim.Native.Nat.{ℕ, ◌+◌, ◌-◌, ◌*◌, ◌≤◌, ◌<◌}
+use Prim.Native.Nat.{ℕ, ◌+◌, ◌*◌, ◌≤◌, ◌<◌}
 use native.Mathlib.Decide.{ℕ_discrete}
 use native.Mathlib.Omega.{arith}
 use mathlib.Core.List.{List}
 use mathlib.Core.Path.{◌≡◌, refl, sym, ◌∙◌, subst}
 use lib.ListN.{length}
 use Rattle.grammar.specs.Room.{node_width, link_width, symbol_width, scratch_width}
-use Rattle.syntax.specs.Parsed.{rooms}
-use Rattle.scripts.specs.Joined.{Lent, Joined, cut_start, cut_end, of_list, scripts, answer_width, Forward, Fits, row_part, list_of, Source, Answered, First, AnswersAll, lent, joined}
+use Rattle.scripts.specs.Joined.{Lent, Joined, cut_start, cut_end, of_list, scripts, answer_width, Forward, Fits, row_part, list_of, Source, Answered, First, AnswersAll, joined}
 use Rattle.scripts.specs.Steps.{OutsideRows, Step}
 use Rattle.scripts.proofs.Cuts.{next_start, starts_rise, rows_rise}
 use Rattle.scripts.proofs.Parts.{part_below, part_kept, kept_after}

@@ -1,13 +1,13 @@
 -- A whole call. What the door lets in is ready to be read from its first token; what is read and finished is its answer, and so is what is refused and cut; and what the
 -- door turns away is answered by its numbers.
-use Prim.Native.Nat.{ℕ, ◌+◌, ◌-◌, ◌*◌, ◌≤◌, ◌<◌}
+use Prim.Native.Nat.{ℕ, ◌*◌, ◌≤◌, ◌<◌}
 use native.Mathlib.Omega.{arith}
 use mathlib.Core.List.{List}
 use mathlib.Core.Path.{◌≡◌, refl, sym, ap, ◌∙◌}
 use lib.ListN.{length, take}
 use lib.Seq.{length-take-le}
 use Rattle.builtins.specs.Known.{Known}
-use Rattle.door.specs.Entry.{entry_numbers, Checked, Entered}
+use Rattle.door.specs.Entry.{entry_numbers, Entered}
 use Rattle.door.specs.declared.Entry.{Entry}
 use Rattle.door.specs.declared.Refusal.{Refusal as Turned}
 use Rattle.door.proofs.Codes.{opened, shut}
@@ -17,13 +17,12 @@ use Rattle.grammar.specs.Door.{Lent}
 use Rattle.grammar.specs.Edition.{edition as named-edition}
 use Rattle.grammar.specs.Outcome.{Comes}
 use Rattle.grammar.specs.Parent.{parented, written as written-rows}
-use Rattle.grammar.specs.Phrase.{Tree}
 use Rattle.grammar.specs.Profile.{Profile, form}
 use Rattle.grammar.specs.Room.{node_width, link_width, symbol_width, Rooms}
 use Rattle.grammar.specs.Rows.{Rows, unparented}
-use Rattle.grammar.specs.Space.{Space, space_of, Enough, Named}
+use Rattle.grammar.specs.Space.{Space, space_of, Enough}
 use Rattle.grammar.specs.Symbol.{symbol_rows, symbol, symbol_in}
-use Rattle.grammar.specs.Token.{kind, count}
+use Rattle.grammar.specs.Token.{count}
 use Rattle.grammar.proofs.Answers.{admitted_lent}
 use Rattle.grammar.proofs.Demands.{Stopped, refused_place}
 use Rattle.grammar.proofs.Lengths.{enough_written}

@@ -1,5 +1,5 @@
 -- A whole guard: the expression's rows are all, and its refusals the guard's; or the Eof is missing behind it.
-use Prim.Native.Nat.{ℕ, ◌+◌, ◌≤◌}
+use Prim.Native.Nat.{ℕ, ◌+◌}
 use native.Mathlib.Omega.{arith}
 use mathlib.Core.List.{List, [], ◌∷◌}
 use mathlib.Core.Path.{◌≡◌, ap, subst}
@@ -9,19 +9,19 @@ use Rattle.grammar.specs.Kaori.{expression, kaori, guard}
 use Rattle.grammar.specs.Kind.{Eof}
 use Rattle.grammar.specs.Phrase.{whole, more, none, Reads, depth}
 use Rattle.grammar.specs.Profile.{Profile}
-use Rattle.grammar.specs.Refusal.{refused, Refuses}
+use Rattle.grammar.specs.Refusal.{Refuses}
 use Rattle.grammar.specs.Rows.{walk, unparented}
 use Rattle.grammar.specs.Space.{Named}
 use Rattle.grammar.specs.Token.{kind, count}
 use Rattle.reading.specs.Answers.{node_of, AnswerCase, Answered, Took, Consumed}
-use Rattle.reading.specs.Reading.{refusal, Refusing, Success}
+use Rattle.reading.specs.Reading.{Success}
 use Rattle.reading.specs.State.{State, state, Lent}
 use Rattle.reading.specs.declared.Cursor.{Cursor}
 use Rattle.reading.specs.declared.Read.{Read}
 use Rattle.reading.specs.declared.Refusal.{Refusal}
 use Rattle.reading.specs.declared.Terms.{Terms}
 use Rattle.reading.proofs.Replies.{after}
-use Rattle.syntax.specs.Parsed.{begin, Completed, CompleteCase, Completes}
+use Rattle.syntax.specs.Parsed.{begin, CompleteCase, Completes}
 
 -- a refusal of the expression is the guard's
 pub inner_told : {ts : List ℕ} {terms : Terms} {s : State} {ns ls ss : List ℕ} {r : Read} {q : Refusal} → r ≡ Read.Refused q → Answered ts terms node_of (whole expression) 0 s ns ls ss r → Completes Profile.guard ts terms s ns ls ss r

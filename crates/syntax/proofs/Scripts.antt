@@ -4,8 +4,8 @@ use Prim.Native.Nat.{ℕ, ◌+◌, ◌-◌, ◌*◌, ◌≤◌, ◌<◌}
 use native.Mathlib.Decide.{ℕ_discrete}
 use native.Mathlib.Omega.{arith}
 use mathlib.Core.List.{List, [], ◌∷◌, ◌++◌}
-use mathlib.Core.Path.{◌≡◌, refl, sym, subst, ◌∙◌}
-use lib.ListN.{length, take, length-append, length-take}
+use mathlib.Core.Path.{◌≡◌, refl, subst, ◌∙◌}
+use lib.ListN.{length, take, length-append}
 use lib.Seq.{length-take-le}
 use Rattle.ast.specs.Inserted.{Inserted}
 use Rattle.ast.specs.Written.{Written}
@@ -26,7 +26,7 @@ use Rattle.grammar.proofs.Outcomes.{ends_at_eof}
 use Rattle.grammar.proofs.Room.{links_length}
 use Rattle.names.specs.Resolved.{names_of}
 use Rattle.reading.specs.Answers.{Listed, ListCase, Lists}
-use Rattle.reading.specs.Reading.{refusal, Refusing}
+use Rattle.reading.specs.Reading.{Refusing}
 use Rattle.reading.specs.State.{State, state, written, Lent}
 use Rattle.reading.specs.declared.Cursor.{Cursor}
 use Rattle.reading.specs.declared.Read.{Read}

@@ -1,5 +1,4 @@
 -- `read_as` meets its contract: the token maker's refusal, or what `parse_as` answers of the list that it made, which has what checks 1 and 5 to 7 ask.
-use borrow.Author.Rules.{rules}
 use native.Mathlib.Omega.{arith}
 use mathlib.Core.Path.{sym}
 use lib.Seq.{length-take-le}

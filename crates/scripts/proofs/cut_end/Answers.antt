@@ -1,5 +1,4 @@
 -- `cut_end` meets its contract: the cut is there.
-use borrow.Author.Rules.{rules}
 use Prim.Native.Nat.{◌+◌, ◌*◌}
 use native.Mathlib.Omega.{arith}
 use Rattle.scripts.proofs.cut_end.Goals as goal

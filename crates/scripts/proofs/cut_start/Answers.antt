@@ -1,5 +1,4 @@
 -- `cut_start` meets its contract: the first script starts at 0, and every other one where the one before it ends.
-use borrow.Author.Rules.{rules}
 use native.Mathlib.Omega.{arith}
 use mathlib.Core.Path.{sym, ◌∙◌}
 use Rattle.scripts.proofs.Cuts.{first_start, later_start}

@@ -1,5 +1,4 @@
 -- `locate` meets its contract: four cuts, and the rows by their number.
-use borrow.Author.Rules.{rules}
 use Prim.Native.Nat.{◌+◌}
 use native.Mathlib.Omega.{arith}
 use Rattle.scripts.proofs.Cuts.{rows_few}

@@ -2,7 +2,7 @@
 use native.Mathlib.Omega.{arith}
 use mathlib.Core.Path.{refl}
 use Rattle.grammar.specs.Builtin.{builtins}
-use Rattle.scripts.specs.Joined.{Joined, Single, lent, joined}
+use Rattle.scripts.specs.Joined.{Single, lent, joined}
 use Rattle.scripts.proofs.Parts.{unchanged}
 use Rattle.scripts.specs.Steps.{Placed}
 use Rattle.scripts.proofs.Cuts.{Places, places}

@@ -1,5 +1,4 @@
 -- `put` meets its contract: eight stores, each a number more.
-use borrow.Author.Rules.{rules}
 use native.Mathlib.Omega.{arith}
 use lib.ListN.{length-set}
 use Rattle.scripts.proofs.Stores.{eight}

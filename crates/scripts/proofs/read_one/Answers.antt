@@ -1,7 +1,7 @@
 -- `read_one` meets its contract: the parts of script i are there, the single call is made on them, and what it leaves in them is a step.
 use native.Mathlib.Omega.{arith}
 use Rattle.grammar.specs.Builtin.{builtins}
-use Rattle.scripts.specs.Joined.{Joined, Single, lent, joined}
+use Rattle.scripts.specs.Joined.{Single, lent, joined}
 use Rattle.scripts.specs.Steps.{Placed}
 use Rattle.scripts.proofs.Cuts.{Places, places}
 use Rattle.scripts.proofs.Stepping.{made_stepped}

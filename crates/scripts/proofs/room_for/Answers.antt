@@ -1,5 +1,4 @@
 -- `room_for` meets its contract: each room is asked, and the first that is too short ends it.
-use borrow.Author.Rules.{rules}
 use native.Mathlib.Omega.{arith}
 use Rattle.spelling.proofs.Deciding.{holds, fails}
 use Rattle.scripts.proofs.Cuts.{rows_few}

@@ -1,5 +1,4 @@
 -- `kaori_child` meets its contract: what `child` answers of what `below` answers.
-use borrow.Author.Rules.{rules}
 use Rattle.station.specs.Exports.{HasChild}
 use Rattle.station.proofs.kaori_child.Goals as goal
 

@@ -1,5 +1,4 @@
 -- `kaori_children` meets its contract: what `places` answers of what `below` answers.
-use borrow.Author.Rules.{rules}
 use Rattle.station.specs.Exports.{HasPlaces}
 use Rattle.station.proofs.kaori_children.Goals as goal
 

@@ -1,5 +1,4 @@
 -- `kaori_drop` meets its contract: the numbers handed back are those that `drop` answers.
-use borrow.Author.Rules.{rules}
 use native.Mathlib.Omega.{arith}
 use Rattle.station.specs.Exports.{Drops}
 use Rattle.station.proofs.kaori_drop.Goals as goal

@@ -1,5 +1,4 @@
 -- `kaori_expected` meets its contract: the set handed back and the numbers of the room are those that `expected` answers.
-use borrow.Author.Rules.{rules}
 use native.Mathlib.Omega.{arith}
 use Rattle.station.specs.Exports.{TellsExpected}
 use Rattle.station.proofs.kaori_expected.Goals as goal

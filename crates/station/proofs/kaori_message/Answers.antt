@@ -1,5 +1,4 @@
 -- `kaori_message` meets its contract: the length handed back is the one that `message` answers.
-use borrow.Author.Rules.{rules}
 use Rattle.station.specs.Exports.{Writes}
 use Rattle.station.proofs.kaori_message.Goals as goal
 

@@ -1,6 +1,5 @@
 -- `kaori_name` meets its contract: three stores of what `naming::place` answers, each a number more.
 use Prim.Native.Nat.{ℕ, ◌≤◌}
-use borrow.Author.Rules.{rules}
 use native.Mathlib.Omega.{arith}
 use mathlib.Core.List.{List}
 use mathlib.Core.Path.{◌≡◌}

@@ -1,5 +1,4 @@
 -- `kaori_reason` meets its contract: the length handed back is the one that `reason` answers.
-use borrow.Author.Rules.{rules}
 use Rattle.station.specs.Exports.{WritesReason}
 use Rattle.station.proofs.kaori_reason.Goals as goal
 

@@ -1,5 +1,4 @@
 -- `parsed` meets its contract: the numbers handed back are those that `parse_as` answers.
-use borrow.Author.Rules.{rules}
 use native.Mathlib.Omega.{arith}
 use Rattle.station.specs.Exports.{Parses}
 use Rattle.station.proofs.parsed.Goals as goal

@@ -1,9 +1,6 @@
 -- `put_chain` meets its contract. The loop's invariant: the pairs of the entries so far are written.
-use Prim.Native.Nat.{ℕ, ◌+◌, ◌*◌, ◌-◌, ◌≤◌}
-use borrow.Author.Rules.{rules}
 use native.Mathlib.Omega.{arith}
-use lib.ListN.{length, take, length-set}
-use Rattle.ast.specs.Written.{Written}
+use lib.ListN.{length-set}
 use Rattle.ast.proofs.Rooms.{unwritten}
 use Rattle.station.specs.Exports.{pairs}
 use Rattle.station.proofs.Stores.{one_pair, all_pairs}

@@ -1,12 +1,8 @@
 -- `put_chain` meets its contract. The loop's invariant: the pairs of the entries so far are written.
-use Prim.Native.Nat.{ℕ, ◌+◌, ◌*◌, ◌-◌, ◌≤◌}
-use borrow.Author.Rules.{rules}
-use native.Mathlib.Omega.{arith}
-use lib.ListN.{length, take, length-set}
+use Prim.Native.Nat.{◌+◌, ◌*◌, ◌-◌, ◌≤◌}
+use lib.ListN.{take}
 use Rattle.ast.specs.Written.{Written}
-use Rattle.ast.proofs.Rooms.{unwritten}
 use Rattle.station.specs.Exports.{pairs}
-use Rattle.station.proofs.Stores.{one_pair, all_pairs}
 use Rattle.station.proofs.put_chain.Given as goal
 
 abbrev pub invariant-loop-i : goal.invariant-loop-i

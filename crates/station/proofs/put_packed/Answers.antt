@@ -1,5 +1,4 @@
 -- `put_packed` meets its contract: six stores, each a number more.
-use borrow.Author.Rules.{rules}
 use native.Mathlib.Omega.{arith}
 use lib.ListN.{length-set}
 use Rattle.station.proofs.Stores.{six}

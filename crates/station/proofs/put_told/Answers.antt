@@ -1,5 +1,4 @@
 -- `put_told` meets its contract: three stores, and then the chain's.
-use borrow.Author.Rules.{rules}
 use native.Mathlib.Omega.{arith}
 use lib.ListN.{length-set}
 use Rattle.station.proofs.Stores.{told_put}

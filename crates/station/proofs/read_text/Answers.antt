@@ -1,5 +1,4 @@
 -- `read_text` meets its contract: the numbers handed back are those that `read_as` answers.
-use borrow.Author.Rules.{rules}
 use native.Mathlib.Omega.{arith}
 use Rattle.station.specs.Exports.{ReadsText}
 use Rattle.station.proofs.read_text.Goals as goal

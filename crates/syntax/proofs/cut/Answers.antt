@@ -1,5 +1,4 @@
 -- `cut` meets its contract: each room is cleared, and the numbers are those of the refusal.
-use borrow.Author.Rules.{rules}
 use mathlib.Core.Path.{◌∙◌}
 use Rattle.syntax.proofs.Finishing.{cut}
 use Rattle.syntax.proofs.cut.Goals as goal

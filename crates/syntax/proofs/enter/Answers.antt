@@ -1,5 +1,4 @@
 -- `enter` meets its contract: what the door turns away is answered by its numbers, the rooms as they were; what it lets in has its answer.
-use borrow.Author.Rules.{rules}
 use Rattle.syntax.proofs.Calls.{let_in, turned}
 use Rattle.syntax.proofs.enter.Goals as goal
 

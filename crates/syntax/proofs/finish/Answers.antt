@@ -1,5 +1,4 @@
 -- `finish` meets its contract: the parents are put in, and zeros follow.
-use borrow.Author.Rules.{rules}
 use mathlib.Core.Path.{refl}
 use Rattle.syntax.proofs.Finishing.{used_length, adoptable, finished}
 use Rattle.syntax.proofs.finish.Goals as goal

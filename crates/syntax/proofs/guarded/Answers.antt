@@ -1,5 +1,4 @@
 -- `guarded` meets its contract: the expression is the guard's, and then the Eof is there or not.
-use borrow.Author.Rules.{rules}
 use Rattle.syntax.proofs.Guards.{inner_told, inner, unended, guarded}
 use Rattle.syntax.proofs.guarded.Goals as goal
 

@@ -1,6 +1,5 @@
 -- `parse_checked` meets its contract: what its lengths or its built-in names turn away is answered so, and of anything else the profile says what the door would.
 use mathlib.Core.Path.{refl}
-use borrow.Author.Rules.{rules}
 use Rattle.door.specs.Entry.{ListChecked}
 use Rattle.door.proofs.Codes.{by_code, by_list}
 use Rattle.syntax.proofs.Calls.{turned}

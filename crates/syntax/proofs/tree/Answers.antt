@@ -1,5 +1,4 @@
 -- `tree` meets its contract: each profile has its reader.
-use borrow.Author.Rules.{rules}
 use Rattle.syntax.proofs.tree.Goals as goal
 
 pub returns-in-Script : goal.returns-in-Script
