@@ -1,5 +1,5 @@
 -- The pass, token by token: nothing is passed yet, and one token more is. It ends with the last token, or with a word whose row does not fit; from there on the
--- tokens are left out, one by one. And the whole room: the built-in rows are put before the script's own.
+-- tokens are left out. And the whole room: the built-in rows are put before the script's own.
 use Prim.Native.Nat.{ℕ, suc, ◌+◌, ◌-◌, ◌*◌, ◌≤◌, ◌<◌}
 use native.Mathlib.Decide.{ℕ_discrete, dec_lt}
 use native.Mathlib.Numerals.{add-one}
@@ -18,7 +18,7 @@ use Rattle.ast.proofs.Rooms.{zero_at}
 use Rattle.interner.specs.Interns.{used, Indexed}
 use Rattle.interner.specs.declared.Interned.{Interned}
 use Rattle.interner.proofs.Grown.{empty_table, empty_index, stored_behind}
-use Rattle.names.specs.Resolved.{Open, rows_of, room_of, Before, Named, rowless, LeftOut, Owned, Resolved, number_at}
+use Rattle.names.specs.Resolved.{Open, rows_of, room_of, Before, Named, LeftOut, Owned, Resolved, number_at}
 use Rattle.names.proofs.Fitting.{rowless_in, row_fits, row_lacks}
 use Rattle.names.proofs.Looking.{rows_length}
 
@@ -131,24 +131,6 @@ module _ {names : Builtins} {index text ts : List ℕ} {n known : ℕ} {own₀ s
           own_size = z.own_size ∙ p.own_size;
           scratch_size = length-set scratch' _ _ ∙ z.scratch_size ∙ p.scratch_size;
         }
-
--- no token is left out yet, one more is, and all up to the last are
-pub none_out : {ts : List ℕ} (from : ℕ) (scratch : List ℕ) → LeftOut ts from from scratch scratch
-none_out from scratch = record { numbers = λ i l h. absurd (omega arith); kept = λ i h. refl; size = refl }
-
-module _ {ts : List ℕ} {from n : ℕ} {scratch₀ scratch : List ℕ} (l : LeftOut ts from n scratch₀ scratch) where
-  pub one_out : from ≤ n → 2 * count ts + n < length scratch → LeftOut ts from (n + 1) scratch₀ (set scratch (2 * count ts + n) (rowless ts n))
-  one_out h k = record {
-    numbers = λ i j m. elim (ℕ_discrete i n) [
-      | yes e ↦ rw e (get_or-set_same scratch (2 * count ts + n) (rowless ts n) 0 k)
-      | no e ↦ get_or-set_other scratch (2 * count ts + n) (2 * count ts + i) (rowless ts n) 0 (λ f. e (omega arith)) ∙ l.numbers i j (omega arith)
-    ];
-    kept = λ i j. get_or-set_other scratch (2 * count ts + n) (2 * count ts + i) (rowless ts n) 0 (λ f. omega arith) ∙ l.kept i j;
-    size = length-set scratch _ _ ∙ l.size;
-  }
-
-  pub all_out : {size : ℕ} → size ≤ n → LeftOut ts from size scratch₀ scratch
-  all_out h = record { numbers = λ i j k. l.numbers i j (omega arith); kept = l.kept; size = l.size }
 
 -- the built-in rows are put at the start of the symbol room, and the script's own are written behind them, to the room's end
 module _ {names : Builtins} {text ts symbols₀ symbols₁ own₀ own scratch₀ scratch : List ℕ} {known : ℕ}

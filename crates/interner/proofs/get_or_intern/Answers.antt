@@ -1,7 +1,6 @@
 -- `get_or_intern` meets its contract, by what `bucket`, `find` and `link` ensure.
 use Prim.Native.Nat.{ℕ}
 use native.Mathlib.Omega.{arith}
-use lib.ListN.{length-set}
 use Rattle.grammar.specs.Table.{Holds}
 use Rattle.grammar.specs.Token.{lexeme}
 use Rattle.interner.specs.Interns.{used}
@@ -15,13 +14,6 @@ use Rattle.interner.proofs.get_or_intern.Goals.{Else-i-count}
 none : (c : Else-i-count) (i : ℕ) → let a = c.args in Holds a.text.now (lexeme a.text.now a.start a.end) (used a.count a.symbols.now) i → ⊥
 none c = sought_none _ _ c.args.symbols.now c.args.count c.requires.indexed.stands c.find-i.ensures c.if-i-count.false
 
-pub find-i-requires : goal.find-i-requires
-find-i-requires c = record { size = c.args.size; part = c.requires.part; bucket_is = c.bucket-place.ensures; indexed = c.requires.indexed; some = omega (arith, c.requires.free) }
-
--- the symbol is a number
-pub overflow_add-result : goal.overflow_add-result
-overflow_add-result c = omega (arith, c.if-i-count.true, c.requires.free, c.requires.number)
-
 pub returns-then-i-count : goal.returns-then-i-count
 returns-then-i-count c = old_name c.requires c.find-i.result (sought_row _ _ c.args.symbols.now c.args.count c.requires.indexed.stands c.find-i.ensures c.if-i-count.true)
 
@@ -30,12 +22,6 @@ returns-then-symbols-count c = no_place c.requires (none (goal.at.returns-then-s
 
 pub link-requires : goal.link-requires
 link-requires c = rw c.bucket-place.ensures (linkable c.requires.indexed c.requires.free (omega (arith, c.requires.number)) _)
-
-pub bounds-symbols-count-2 : goal.bounds-symbols-count-2
-bounds-symbols-count-2 c = simp length-set (omega (arith, c.if-symbols-count.false))
-
-pub overflow_add-result-2 : goal.overflow_add-result-2
-overflow_add-result-2 c = omega (arith, c.requires.free, c.requires.number)
 
 pub returns : goal.returns
 returns c = rw (c.link.ensures, c.bucket-place.ensures) (new_name c.requires (none (goal.at.returns c).Else-i-count) (omega (arith, c.if-symbols-count.false)))

@@ -1,17 +1,11 @@
 -- `digits` meets its contract: its loop runs over digits.
 use mathlib.Core.Path.{sym, ◌∙◌}
 use native.Mathlib.Omega.{arith}
-use Rattle.grammar.proofs.Runs.{begun, goes_on, stops, is_over}
+use Rattle.grammar.proofs.Runs.{goes_on, stops}
 use Rattle.lexeme.proofs.digits.Goals as goal
-
-pub loop-at-init : goal.loop-at-init
-loop-at-init c = begun (omega arith)
 
 pub returns-then-not-is_digit : goal.returns-then-not-is_digit
 returns-then-not-is_digit c = stops (omega arith) c.loop-at.invariant (omega arith) (sym c.is_digit.ensures ∙ c.if-not-is_digit.true)
 
 pub loop-at-preserved : goal.loop-at-preserved
 loop-at-preserved c = goes_on (omega arith) c.loop-at.invariant (omega arith) (sym c.is_digit.ensures ∙ c.if-not-is_digit.false)
-
-pub returns : goal.returns
-returns c = is_over (omega arith) c.loop-at.invariant (omega arith)

@@ -1,6 +1,6 @@
 -- `lex` meets its contract: the text's length, its first high byte, and then what `tokens` answers.
 use Rattle.door.proofs.Searching.{first_of}
-use Rattle.door.proofs.Codes.{found_high, none_high}
+use Rattle.door.proofs.Codes.{found_high}
 use Rattle.lexer.specs.Lexes.{Lexes}
 use Rattle.lexer.proofs.lex.Goals as goal
 
@@ -11,6 +11,3 @@ pub returns-then-highest-gt127 : goal.returns-then-highest-gt127
 returns-then-highest-gt127 c =
     let f = c.first_high-high.ensures in
     rw c.refused-then-highest-gt127.ensures (Lexes.high c.if-text-gt65536.false (first_of (found_high c.highest.ensures c.if-highest-gt127.true f) f))
-
-pub tokens-requires : goal.tokens-requires
-tokens-requires c = record { short = c.if-text-gt65536.false; ascii = none_high c.highest.ensures c.if-highest-gt127.false }

@@ -1,18 +1,11 @@
 -- `tokens` meets its contract: the loop keeps what is made so far (`Made`), and each return is a way in which that ends.
 use native.Mathlib.Omega.{arith}
-use Rattle.spelling.proofs.Spellings.{whole}
-use Rattle.lexer.proofs.Making.{a_blank, no_blank, token_there, nothing_there, made_none, made_blank, made_token, stopped, too_many, all_made}
+use Rattle.lexer.proofs.Making.{a_blank, no_blank, token_there, nothing_there, made_blank, made_token, stopped, too_many, all_made}
 use Rattle.lexer.proofs.Standing.{stands_some}
 use Rattle.lexer.proofs.tokens.Goals as goal
 
-pub loop-at-init : goal.loop-at-init
-loop-at-init c = made_none
-
 pub loop-at-preserved-then-is_blank : goal.loop-at-preserved-then-is_blank
 loop-at-preserved-then-is_blank c = made_blank c.loop-at.invariant (a_blank c.loop-at-test.true c.is_blank.ensures c.if-is_blank.true)
-
-pub slice_bounds-token_at-end : goal.slice_bounds-token_at-end
-slice_bounds-token_at-end c = whole c.words-table.ensures
 
 pub returns-in_default : goal.returns-in_default
 returns-in_default c = rw c.refused.ensures (stopped c.loop-at.invariant c.requires c.loop-at-test.true (no_blank c.is_blank.ensures c.if-is_blank.false) (nothing_there c.in_default.is c.token_at-found.ensures) c.clear.ensures)
@@ -21,9 +14,6 @@ pub keep-requires : goal.keep-requires
 keep-requires c =
     let token = token_there c.in-Token.is c.token_at-found.ensures in
     omega (arith, c.capacity-rows.ensures.rows, c.loop-at.invariant.same, c.loop-at.invariant.within, token.stands.inside, c.requires.short)
-
-pub overflow_add-count : goal.overflow_add-count
-overflow_add-count c = omega (arith, c.loop-at.invariant.fewer, c.loop-at.invariant.within, c.requires.short)
 
 pub loop-at-smaller : goal.loop-at-smaller
 loop-at-smaller c =
@@ -36,9 +26,6 @@ loop-at-preserved c = made_token c.loop-at.invariant (token_there c.in-Token.is 
 pub returns-then-rows-count : goal.returns-then-rows-count
 returns-then-rows-count c =
     rw c.refused-then-rows-count.ensures (too_many c.loop-at.invariant c.requires (omega (arith, c.loop-at.invariant.within)) c.capacity-rows.ensures c.if-rows-count.true c.clear-then-rows-count.ensures)
-
-pub overflow_cast-result : goal.overflow_cast-result
-overflow_cast-result c = omega (arith, c.capacity-rows.ensures.most)
 
 pub returns : goal.returns
 returns c = all_made c.loop-at.invariant c.requires (omega (arith, c.loop-at.invariant.within)) c.capacity-rows.ensures c.if-rows-count.false c.push.ensures c.clear-2.ensures

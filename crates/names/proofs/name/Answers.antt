@@ -9,9 +9,6 @@ use Rattle.names.proofs.Looking.{built_found, own_found}
 use Rattle.names.proofs.name.Goals as goal
 use Rattle.names.proofs.name.Goals.{then-built-gt0+else-i-built, else-built-gt0}
 
-pub find-i-requires : goal.find-i-requires
-find-i-requires c = let p = c.requires in (p.built_in, p.ready.part)
-
 pub returns-then-i-built : goal.returns-then-i-built
 returns-then-i-built c =
     let p = c.requires in

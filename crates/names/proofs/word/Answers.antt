@@ -30,9 +30,6 @@ inside c = omega (arith, quote_here c, c.start_at-start.ensures, c.end_at-end.en
 pub overflow_add-start : goal.overflow_add-start
 overflow_add-start c = omega (arith, inside (goal.at.overflow_add-start c).After-end_at-end)
 
-pub overflow_sub-end : goal.overflow_sub-end
-overflow_sub-end c = omega (arith, inside (goal.at.overflow_sub-end c).After-end_at-end)
-
 pub name-requires : goal.name-requires
 name-requires c = let read = (goal.at.name-requires c).After-end_at-end in rw (starts read, ends read) (free_word c.requires)
 

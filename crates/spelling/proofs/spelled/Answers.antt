@@ -38,9 +38,6 @@ returns-then-size-long c =
 pub bounds-words-at-2 : goal.bounds-words-at-2
 bounds-words-at-2 c = omega (arith, whole c.requires.0)
 
-pub overflow_add-from : goal.overflow_add-from
-overflow_add-from c = omega (arith, row (goal.at.overflow_add-from c).Else-kind-gt41)
-
 pub same-requires : goal.same-requires
 same-requires c = omega (arith, row (goal.at.same-requires c).Else-kind-gt41)
 

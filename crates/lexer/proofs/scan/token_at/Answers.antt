@@ -5,12 +5,10 @@ use mathlib.Core.Bool.{true}
 use mathlib.Core.Path.{◌≡◌, sym, ap}
 use native.Mathlib.Omega.{arith}
 use lib.ListN.{get_or}
-use borrow.Author.Rules.{rules}
 use Rattle.grammar.specs.Lexeme.{letter}
 use Rattle.grammar.specs.Pattern.{digit}
 use Rattle.grammar.proofs.Ranges.{true_on}
 use Rattle.lexer.specs.Parts.{StartCase}
-use Rattle.lexer.proofs.Sorts.{other_byte}
 use Rattle.lexer.proofs.Standing.{a_number, a_string, no_string, a_word}
 use Rattle.lexer.proofs.Stretches.{taken_out}
 use Rattle.lexer.proofs.scan.token_at.Goals as goal
@@ -37,15 +35,6 @@ pub returns-then-end-start : goal.returns-then-end-start
 unfolding StartCase
 returns-then-end-start c = record { says = no_string c.in-34.is c.string_end-end.ensures c.if-end-start.true }
 
-pub number_end-requires : goal.number_end-requires
-number_end-requires c = (search rules, a_digit (get_or c.args.text.now c.args.start 0) (omega arith) (omega arith))
-
-pub sign_at-requires : goal.sign_at-requires
-sign_at-requires c = (search rules, other_byte (get_or c.args.text.now c.args.start 0) (grind arith) (grind arith) (grind arith) (grind arith) (grind arith))
-
-pub word_end-end-requires : goal.word_end-end-requires
-word_end-end-requires c = (search rules, search rules, a_letter (get_or c.args.text.now c.args.start 0) (λ n u l. grind arith))
-
 pub returns-else-end-start : goal.returns-else-end-start
 unfolding StartCase
 returns-else-end-start c = record { says = a_string c.in-34.is (taken_out c.string_end-end.ensures c.if-end-start.false) }
@@ -53,9 +42,6 @@ returns-else-end-start c = record { says = a_string c.in-34.is (taken_out c.stri
 pub returns-in-48-to-57 : goal.returns-in-48-to-57
 unfolding StartCase
 returns-in-48-to-57 c = record { says = a_number (a_digit (get_or c.args.text.now c.args.start 0) (omega arith) (omega arith)) c.number_end.ensures }
-
-pub returns-in_default : goal.returns-in_default
-returns-in_default c = c.sign_at.ensures
 
 pub returns-in-65-to-90 : goal.returns-in-65-to-90
 unfolding StartCase

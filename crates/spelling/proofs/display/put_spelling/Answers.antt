@@ -9,12 +9,6 @@ use Rattle.spelling.proofs.display.put_spelling.Goals.{After-words-table}
 row : (c : After-words-table) → Entry c.words-table.result c.args.kind
 row c = entry c.words-table.ensures c.args.kind c.requires.0
 
-pub overflow_add-start : goal.overflow_add-start
-overflow_add-start c = omega (arith, row (goal.at.overflow_add-start c).After-words-table)
-
-pub overflow_add-end-2 : goal.overflow_add-end-2
-overflow_add-end-2 c = omega (arith, row (goal.at.overflow_add-end-2 c).After-words-table)
-
 pub slice_bounds-put-end : goal.slice_bounds-put-end
 slice_bounds-put-end c = omega (arith, row (goal.at.slice_bounds-put-end c).After-words-table)
 
