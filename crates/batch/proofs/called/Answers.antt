@@ -16,4 +16,4 @@ pub told-requires : goal.told-requires
 told-requires c =
     let call = c.parse_as-a in
     let pre = c.requires in
-    (omega (arith, call.auto.1.1.1.1.1.1.1.0, pre.1), omega (arith, call.auto.1.1.1.1.1.1.1.1.0, pre.2), omega (arith, call.auto.1.1.1.1.1.1.1.1.1.0, pre.3), omega (arith, call.auto.1.1.1.1.1.1.1.1.1.1.0, pre.4))
+    (omega (arith, call.auto.nodes, pre.1), omega (arith, call.auto.links, pre.2), omega (arith, call.auto.symbols, pre.3), omega (arith, call.auto.scratch, pre.4))

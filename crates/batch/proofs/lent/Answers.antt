@@ -26,6 +26,4 @@ pub slice_bounds-called-end-5 : goal.slice_bounds-called-end-5
 slice_bounds-called-end-5 c = sym (length-take-le _ _ (omega arith))
 
 pub called-requires : goal.called-requires
-called-requires c =
-    let sizes = c in
-    (scanned_sized sizes.form-1.given.1 sizes.scan-form.ensures, few _ sizes.sized-ns.ensures, few _ sizes.sized-ls.ensures, few _ sizes.sized-ys.ensures, few _ sizes.sized-ss.ensures)
+called-requires c = (scanned_sized c.in-Sized.is c.scan-form.ensures, few _ c.sized-ns.ensures, few _ c.sized-ls.ensures, few _ c.sized-ys.ensures, few _ c.sized-ss.ensures)

@@ -4,6 +4,4 @@ use borrow.Author.Rules.{rules}
 use Rattle.batch.proofs.refused.Goals as goal
 
 pub asked-requires : goal.asked-requires
-asked-requires c =
-    let scanned = c in
-    scanned_sized scanned.form-1.given.1 scanned.scan-form.ensures
+asked-requires c = scanned_sized c.in-Sized.is c.scan-form.ensures
