@@ -1,4 +1,4 @@
-/* The proved reader of Kaori scripts and guards, for C. Link libstation.a, which `rt staticlib station` writes for x86-64
+/* The proved reader of Kaori scripts and guards, for C. Link libstation.a, which `bindings/archive` writes for x86-64
    Linux; it needs memcpy and memset of the C library and nothing else.
 
    Every function takes any numbers and any rooms, ends, and has one answer. What the proof cannot see, the caller sees to:
