@@ -1,9 +1,11 @@
 -- Answers that decide: how they are made, carried to an equivalent statement, and used; two that decide the same statement are equal.
 use Prim.Native.Nat.{ℕ}
-use mathlib.Core.Bool.{Bool, true, false}
+use mathlib.Core.Bool.{Bool, true, false, true≢false}
 use mathlib.Core.List.{List}
-use mathlib.Core.Path.{◌≡◌, refl, sym}
-use lib.Dec.{T}
+use mathlib.Core.Path.{◌≡◌, refl, sym, ◌∙◌}
+use lib.Dec.{T, eqb}
+use lib.Pointwise.{pointwise}
+use Rattle.std.proofs.lemmas.Slice.Eq.{bytes_eq-Decides}
 use Rattle.grammar.specs.Derivative.{matches}
 use Rattle.grammar.specs.Pattern.{Pattern, Matches}
 use Rattle.grammar.proofs.Patterns.{matches_sound, matches_whole}
@@ -45,6 +47,11 @@ said d e = rw (sym e) d
 pub carried : {P Q : Type 0} {r : Bool} → (P → Q) → (Q → P) → Decides P r → Decides Q r
 carried {r = true} f g d = holds (f (held d))
 carried {r = false} f g d = fails (λ q. failed d (g q))
+
+-- the `==` of two slices decides whether they are the same list
+pub equals : (xs ys : List ℕ) {r : Bool} → r ≡ pointwise eqb xs ys → Decides (xs ≡ ys) r
+equals xs ys {r = true} e = holds ((bytes_eq-Decides xs ys).0 (sym e))
+equals xs ys {r = false} e = fails (λ z. true≢false (sym ((bytes_eq-Decides xs ys).1 z) ∙ sym e))
 
 -- the test of a pattern decides whether a text matches it
 pub matching : (p : Pattern) (xs : List ℕ) → Decides (Matches p xs) (matches p xs)

@@ -12,7 +12,6 @@ use Rattle.grammar.specs.Kind.{NumberLiteral, Semicolon}
 use Rattle.grammar.specs.Lexeme.{spelling, spellings}
 use Rattle.grammar.specs.Pattern.{bytes}
 use Rattle.grammar.specs.Symbol.{same}
-use Rattle.grammar.proofs.Lexemes.{part_length}
 use Rattle.grammar.proofs.Tests.{both, passes, same_means, within}
 use Rattle.spelling.specs.Words.{table}
 
@@ -43,9 +42,6 @@ of_table k h =
 
 pub entry : {ws : List ℕ} → ws ≡ table → (k : ℕ) → k ≤ Semicolon → Entry ws k
 entry e k h = rw e (of_table k h)
-
-pub spelling_length : {ws : List ℕ} {k : ℕ} → Entry ws k → length (spelling k) ≡ size ws k
-spelling_length {ws} {k} e = ap length (sym e.spelt) ∙ part_length ws (start ws k) (size ws k) e.inside
 
 -- the part of the table from where the spelling starts to where it ends
 pub cut : {ws : List ℕ} {k : ℕ} → Entry ws k → take ((start ws k + size ws k) - start ws k) (drop (start ws k) ws) ≡ spelling k

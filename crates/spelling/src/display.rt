@@ -1,10 +1,11 @@
-// Port of `impl fmt::Display for Token`, document 002: the names of the kinds, which are written into a lent room.
+// Port of `impl fmt::Display for Token`, document 002: the names of the kinds, which are written into a lent room. A kind stays the number that the C interface has in a token's row,
+// and a name is no `impl Display`, which would need a type for kinds.
 ghost use Rattle.std.specs.Prelude.{◌≡◌, ◌+◌, ◌≤◌, length};
 ghost use Rattle.grammar.specs.Kind.{NumberLiteral, Semicolon, Eof};
 ghost use Rattle.grammar.specs.Lexeme.{spelling};
 ghost use Rattle.spelling.specs.Display.{display, Put};
 
-use crate::{LENGTHS, SPELLINGS, words};
+use crate::{spelling_of, words};
 
 // Copies the bytes of `part` into a room from a place on, and answers the place after them. It asks that they fit.
 // Ruled out: a byte of the room before `at` or after the part changed; a byte of the part left out.
@@ -12,12 +13,9 @@ pub fn put(part: &[u8], room: &mut [u8], at: usize) -> usize
     requires { at + length part.now ≤ length room.old }
     ensures { Put part.now at room.old room.new result }
 {
-    let mut i = 0;
-    while i < part.len() {
-        room[at + i] = part[i];
-        i += 1;
-    }
-    at + i
+    let end = at + part.len();
+    room[at..end].copy_from_slice(part);
+    end
 }
 
 // Copies the name of a kind so: the spelling between backquotes, where the kind has one. It asks for a kind up to 44, and that the name fits.
@@ -50,9 +48,5 @@ fn put_spelling(kind: u32, room: &mut [u8], at: usize) -> usize
     requires { (kind ≤ Semicolon) × (at + length (spelling kind) ≤ length room.old) }
     ensures { Put (spelling kind) at room.old room.new result }
 {
-    let k = kind as usize;
-    let table = words();
-    let start = SPELLINGS + table[k] as usize;
-    let end = start + table[LENGTHS + k] as usize;
-    put(&table[start..end], room, at)
+    put(spelling_of(&words(), kind), room, at)
 }

@@ -4,7 +4,7 @@
 // and then the class of each byte. To name a constant array copies it, so the table is made once and lent.
 pub mod display;
 
-ghost use Rattle.std.specs.Prelude.{◌≡◌, ◌+◌, ◌≤◌, length, take, drop};
+ghost use Rattle.std.specs.Prelude.{◌≡◌, ◌≤◌, length};
 ghost use Rattle.grammar.specs.Lexeme.{spelling};
 ghost use Rattle.grammar.specs.Token.{lexeme};
 ghost use Rattle.spelling.specs.Decides.{Decides};
@@ -19,7 +19,8 @@ const KEYS: usize = 184;
 
 const LETTERS: usize = 248;
 
-// The class of a byte that may start a word, and of one that stands in none.
+// The class of a byte that may start a word, and of one that stands in none. Classes and kinds stay numbers: the table is bytes, by the project's rule, and `key` and `class` hand
+// them on as they stand there.
 pub const LETTER: u8 = 2;
 
 pub const OTHER: u8 = 0;
@@ -49,39 +50,28 @@ pub fn words() -> [u8; 504]
     WORDS
 }
 
-// Whether the text from `start` up to `end` is the spelling of a kind: length first, then byte by byte. A kind past the table is spelt by nothing.
+// The spelling of a kind, a part of the table. It is empty for a kind past the table.
+fn spelling_of(words: &[u8], kind: u32) -> &[u8]
+    requires { words.now ≡ table }
+    ensures { result.now ≡ spelling kind }
+{
+    if kind > 41 {
+        return &words[..0];
+    }
+    let at = kind as usize;
+    let from = SPELLINGS + words[at] as usize;
+    let long = words[LENGTHS + at] as usize;
+    &words[from..from + long]
+}
+
+// Whether the text from `start` up to `end` is the spelling of a kind. A kind past the table is spelt by nothing.
 // It asks for the table, and that the span lies in the text.
 // Ruled out: a text that only starts with the spelling; one with a byte changed.
 pub fn spelled(words: &[u8], kind: u32, text: &[u8], start: usize, end: usize) -> bool
     requires { (words.now ≡ table) × (start ≤ end) × (end ≤ length text.now) }
     ensures { Decides (lexeme text.now start end ≡ spelling kind) result }
 {
-    let size = end - start;
-    if kind > 41 {
-        return size == 0;
-    }
-    let at = kind as usize;
-    let long = words[LENGTHS + at] as usize;
-    if size != long {
-        return false;
-    }
-    let from = words[at] as usize;
-    same(words, SPELLINGS + from, text, start, size)
-}
-
-// Whether two texts have the same `size` bytes from `at` and from `start`.
-fn same(table: &[u8], at: usize, text: &[u8], start: usize, size: usize) -> bool
-    requires { (at + size ≤ length table.now) × (start + size ≤ length text.now) }
-    ensures { Decides (take size (drop start text.now) ≡ take size (drop at table.now)) result }
-{
-    let mut i = 0;
-    while i < size {
-        if text[start + i] != table[at + i] {
-            return false;
-        }
-        i += 1;
-    }
-    true
+    &text[start..end] == spelling_of(words, kind)
 }
 
 // The kind of the keyword whose slot these two bytes have, or 43, Identifier, where none has it: a word with this first and this last byte is that keyword or none.

@@ -1,29 +1,16 @@
--- Bytes that are written into a room one after the other: a byte more, a part more, and what one writing from the start leaves.
-use Prim.Native.Nat.{ℕ, ◌+◌, ◌<◌}
+-- Bytes that are written into a room one after the other: a part more, and what one writing from the start leaves.
+use Prim.Native.Nat.{ℕ, ◌+◌}
 use native.Mathlib.Nat.{add-zero}
-use native.Mathlib.Numerals.{add-one}
 use native.Mathlib.Omega.{arith}
 use mathlib.Core.Path.{◌≡◌, refl, sym, ap, ◌∙◌}
-use mathlib.Core.List.{List, [], ◌∷◌, ◌++◌, append_assoc, append-nil}
-use lib.ListN.{length, take, drop, set, length-append, take-append-drop}
-use lib.Seq.{take-suc-set, drop-set-lt, drop-drop}
+use mathlib.Core.List.{List, [], ◌++◌, append_assoc, append-nil}
+use lib.ListN.{length, take, drop, length-append, take-append-drop}
+use lib.Seq.{drop-drop}
 use Rattle.spelling.specs.Display.{Put}
 
 -- no byte
 pub nothing : (at : ℕ) (room : List ℕ) → Put [] at room room at
 nothing at room = record { ends = rw add-zero; written = rw append-nil; rest = refl }
-
--- one byte more
-pub one_more : {part before after : List ℕ} {at next : ℕ} (x : ℕ) → Put part at before after next → next < length after → Put (part ++ (x ∷ [])) at before (set after next x) (next + 1)
-one_more {part} {before} {after} {at} {next} x p h =
-    record {
-      ends = simp length-append (omega (arith, p.ends));
-      written = rw (add-one, take-suc-set after next x h, p.written, append_assoc);
-      rest = drop-set-lt (next + 1) after next x (omega arith) ∙ further p.rest;
-    }
-  where
-    further : drop next after ≡ drop next before → drop (next + 1) after ≡ drop (next + 1) before
-    further e = sym (drop-drop 1 next after) ∙ ap (drop 1) e ∙ drop-drop 1 next before
 
 -- a part more
 pub joined : {part more before between after : List ℕ} {at next end : ℕ} → Put part at before between next → Put more next between after end → Put (part ++ more) at before after end

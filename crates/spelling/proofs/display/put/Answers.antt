@@ -1,24 +1,17 @@
--- `display::put` meets its contract. Its loop keeps the contract itself, of the bytes copied so far.
-use Prim.Native.Nat.{ℕ, ◌+◌, ◌<◌}
-use native.Mathlib.Numerals.{add-one}
+-- `display::put` meets its contract: the part of the room that is copied over, and the rest of it, which stays.
 use native.Mathlib.Omega.{arith}
-use mathlib.Core.Path.{◌≡◌, ◌∙◌}
-use mathlib.Core.List.{List}
-use borrow.Author.Rules.{rules}
-use lib.ListN.{length, set, get_or, length-set}
-use lib.Seq.{take-suc}
-use Rattle.spelling.proofs.display.Writing.{one_more}
-use Rattle.spelling.proofs.display.put.Invariants.{Copied}
+use mathlib.Core.Path.{refl, ap, ◌∙◌}
+use mathlib.Core.List.{◌++◌}
+use lib.ListN.{take}
+use Rattle.std.proofs.lemmas.Slice.{take-put_mid, drop-put_mid}
 use Rattle.spelling.proofs.display.put.Goals as goal
 
-further : {part before after : List ℕ} {at i : ℕ} → Copied part before after at i → i < length part → at + i < length after → Copied part before (set after (at + i) (get_or part i 0)) at (i + 1)
-further {part} {before} {after} {at} {i} k h l =
-    let e : at + (i + 1) ≡ at + i + 1 = omega arith in
+pub returns : goal.returns
+returns c =
+    let a = c.args in
+    let e = c.copy_from_slice.ensures.after in
     record {
-      within = omega arith;
-      size = length-set after (at + i) _ ∙ k.size;
-      so_far = rw (e, add-one i, take-suc part i 0 h) (one_more _ k.so_far l);
+      ends = refl;
+      written = take-put_mid a.at _ a.room.now c.copy_from_slice.new.self _ (rw e refl) (omega arith) ∙ ap (λ ys. take a.at a.room.now ++ ys) e;
+      rest = drop-put_mid a.at _ a.room.now c.copy_from_slice.new.self _ (omega arith) (omega arith) (rw e (omega arith));
     }
-
-pub loop-i-preserved : goal.loop-i-preserved
-loop-i-preserved c = further c.loop-i.invariant (search rules) (omega arith)
