@@ -1,9 +1,0 @@
--- `pad` meets its contract: the place stays in the room from blank to blank.
-use Prim.Native.Nat.{◌-◌, ◌≤◌}
-use Rattle.page.proofs.pad.Given as goal
-
-abbrev pub invariant-loop-i : goal.invariant-loop-i
-invariant-loop-i l = l.now ≤ 4096
-
-abbrev pub decreases-loop-i : goal.decreases-loop-i
-decreases-loop-i l = l.column - l.i

@@ -1,9 +1,0 @@
--- `words::put_cell` meets its contract: the place stays in the room from byte to byte.
-use Prim.Native.Nat.{◌-◌, ◌≤◌}
-use Rattle.page.proofs.words.put_cell.Given as goal
-
-abbrev pub invariant-loop-i : goal.invariant-loop-i
-invariant-loop-i l = l.now ≤ 4096
-
-abbrev pub decreases-loop-i : goal.decreases-loop-i
-decreases-loop-i l = l.upto - l.i
