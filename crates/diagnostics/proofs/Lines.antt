@@ -8,9 +8,15 @@ use mathlib.Core.Bool.{Bool, true, false, true≢false, not, cond, ◌&&◌, ◌
 use mathlib.Core.List.{List, [], ◌∷◌}
 use mathlib.Core.Path.{◌≡◌, refl, sym, ◌∙◌}
 use lib.Dec.{eqb, leb}
+use native.Mathlib.Numerals.{one-add}
 use lib.ListN.{length, get_or}
+use lib.Seq.{length-take-le}
+use Rattle.std.specs.List.{prefix_len, take_while}
+use Rattle.std.proofs.lemmas.List.Sums.{prefix_len-le-length}
+use Rattle.grammar.specs.Token.{lexeme}
 use borrow.Author.Tests.{ne_eqb, le-leb, lt-leb}
-use Rattle.grammar.specs.Run.{Ran}
+use Rattle.grammar.specs.Run.{run, Ran}
+use Rattle.grammar.proofs.Lexemes.{lexeme_length}
 use Rattle.grammar.proofs.Runs.{run_passes, run_fails}
 use Rattle.diagnostics.specs.Line.{Newline, Return, ends, next, line_of, inner}
 use Rattle.diagnostics.specs.declared.Place.{Place}
@@ -184,3 +190,18 @@ written text i r h ran = record { line = line; column = column; clear = run_pass
     column : (n : ℕ) → i + n ≤ r → (line_of text (i + n)).column ≡ (line_of text i).column + n
     column zero h = rw (add-zero i) (omega arith)
     column (suc n) h = rw (add-suc i n, on n h) (omega (arith, column n (omega arith)))
+
+-- a run, counted from an offset to the text's end
+run_length : (test : ℕ → Bool) (xs : List ℕ) → run test xs ≡ prefix_len test xs
+run_length test [] = refl
+run_length test (x ∷ xs) = rw (run_length test xs, one-add) refl
+
+pub run_counted : {test : ℕ → Bool} {text : List ℕ} {offset n : ℕ} → offset ≤ length text → n ≡ length (take_while test (lexeme text offset (length text))) → Ran test text offset (length text) (offset + n)
+run_counted {test} {text} {offset} {n} h e =
+    let xs = lexeme text offset (length text) in
+    let l : prefix_len test xs ≤ length xs = prefix_len-le-length test xs in
+    let all : n ≡ prefix_len test xs = e ∙ length-take-le (prefix_len test xs) xs l in
+    record {
+      counted = rw (run_length test xs) (omega (arith, all));
+      within = omega (arith, all, l, lexeme_length text offset (length text) h (omega arith));
+    }

@@ -1,8 +1,8 @@
 // The line and the column of an offset in a text, the offset of a line and a column, and where what is written on a line ends.
-ghost use Rattle.std.specs.Prelude.{◌+◌, ◌≤◌, ◌<◌, ◌≡◌, length};
+ghost use Rattle.std.specs.Prelude.{◌+◌, ◌≤◌, ◌<◌, ◌≡◌, length, take_while};
 ghost use Rattle.grammar.specs.Run.{Ran};
 ghost use Rattle.spelling.specs.Decides.{Decides};
-ghost use Rattle.diagnostics.specs.Line.{BytePlaced, IsAt, Placed, OffsetGiven, ends, line_of, inner};
+ghost use Rattle.diagnostics.specs.Line.{BytePlaced, IsAt, Placed, OffsetGiven, refusal, ends, line_of, inner};
 
 use crate::Place;
 
@@ -23,14 +23,22 @@ pub fn ends_line(text: &[u8], i: usize) -> bool
     requires { i < length text.now }
     ensures { result ≡ ends text.now i }
 {
-    let byte = text[i];
-    if byte != RETURN {
-        return byte == NEWLINE;
+    match text[i] {
+        NEWLINE => true,
+        RETURN => text.get(i + 1) != Some(&NEWLINE),
+        _ => false,
     }
-    if i + 1 == text.len() {
-        return true;
+}
+
+// No place, but a refusal.
+fn refused(code: u32) -> Place
+    ensures { result ≡ refusal code }
+{
+    Place {
+        code,
+        line: 0,
+        column: 0,
     }
-    text[i + 1] != NEWLINE
 }
 
 // The place after byte i of a text, from the place of that byte.
@@ -59,24 +67,14 @@ pub fn place(text: &[u8], offset: usize) -> Place
     ensures { Placed text.now offset result }
 {
     if text.len() > 65536 {
-        return Place {
-            code: 2,
-            line: 0,
-            column: 0,
-        };
+        return refused(2);
     }
     if offset > text.len() {
-        return Place {
-            code: 14,
-            line: 0,
-            column: 0,
-        };
+        return refused(14);
     }
     let mut here = START;
-    let mut i = 0;
-    while i < offset {
+    for i in 0..offset {
         here = after(text, i, here);
-        i += 1;
     }
     here
 }
@@ -85,10 +83,7 @@ pub fn place(text: &[u8], offset: usize) -> Place
 fn is_at(here: Place, line: u32, column: u32) -> bool
     ensures { Decides (IsAt line column here) result }
 {
-    if here.line != line {
-        return false;
-    }
-    here.column == column
+    here.line == line && here.column == column
 }
 
 // The offset that has a line and a column, by one pass over the bytes before it; the text's length and one where no offset has them, and for a text over 65,536 bytes.
@@ -101,25 +96,27 @@ pub fn offset(text: &[u8], line: u32, column: u32) -> usize
         return n + 1;
     }
     let mut here = START;
-    let mut i = 0;
-    while !is_at(here, line, column) {
-        if i == n {
-            return n + 1;
+    for i in 0..n {
+        if is_at(here, line, column) {
+            return i;
         }
         here = after(text, i, here);
-        i += 1;
     }
-    i
+    if is_at(here, line, column) { n } else { n + 1 }
 }
 
 // Whether a byte is part of what is written on a line, and of no line's end.
 fn is_inner(byte: u8) -> bool
     ensures { result ≡ inner byte }
 {
-    if byte == RETURN {
-        return false;
-    }
-    byte != NEWLINE
+    byte != RETURN && byte != NEWLINE
+}
+
+// How many bytes at the front of a text are written on its first line.
+fn written(text: &[u8]) -> usize
+    ensures { result ≡ length (take_while inner text.now) }
+{
+    text.iter().take_while(|byte| is_inner(**byte)).count()
 }
 
 // Where what is written on a line ends, from an offset in it: at the first newline or return, or with the text. It asks that the offset is not past the text.
@@ -128,12 +125,5 @@ pub fn writing_end(text: &[u8], offset: usize) -> usize
     requires { offset ≤ length text.now }
     ensures { Ran inner text.now offset (length text.now) result }
 {
-    let mut at = offset;
-    while at < text.len() {
-        if !is_inner(text[at]) {
-            return at;
-        }
-        at += 1;
-    }
-    at
+    offset + written(&text[offset..])
 }

@@ -8,6 +8,7 @@ use crate::Message;
 use crate::text::message;
 use spelling::display::put;
 
+// Codes are numbers, and no enum: the C interface takes any u32 (station's `kaori_reason`; `ReasonGiven`).
 // The texts one after the other: those of the codes, and then that of a string that is not closed. One table is checked faster than an arm with bytes of its own for each
 // code.
 const TEXTS: [u8; 603] = *b"\
@@ -68,41 +69,31 @@ pub fn reason(
         };
     }
     let length = put_tabled(which(text, code, start), room);
-    Message {
-        code: 0,
-        length: length,
-    }
+    Message { code: 0, length }
 }
 
 // Whether `message` has the text of a code.
 fn has_message(code: u32) -> bool
     ensures { result ≡ from_to 8 11 code }
 {
-    if code < 8 {
-        return false;
-    }
-    code <= 11
+    matches!(code, 8..=11)
 }
 
 // Where in the table the text of a code stands.
 fn which(text: &[u8], code: u32, start: u32) -> usize
     ensures { PlacedAt text.now code start result }
 {
-    if code > LAST_CODE {
-        return NONE;
+    match code {
+        NO_TOKEN => {
+            if text.get(start as usize) == Some(&b'"') {
+                STRING
+            } else {
+                code as usize
+            }
+        }
+        0..=LAST_CODE => code as usize,
+        _ => NONE,
     }
-    let own = code as usize;
-    if code != NO_TOKEN {
-        return own;
-    }
-    let at = start as usize;
-    if at >= text.len() {
-        return own;
-    }
-    if text[at] == b'"' {
-        return STRING;
-    }
-    own
 }
 
 // The texts, to be lent: to name a constant array copies it.
@@ -117,7 +108,7 @@ fn start_of(i: usize) -> usize
     requires { i ≤ last + 1 }
     ensures { result ≡ begins i }
 {
-    STARTS[i] as usize
+    usize::from(STARTS[i])
 }
 
 // The text at a place of the table.

@@ -19,10 +19,7 @@ pub fn message(code: u32, expected: u32, found: u32, room: &mut [u8]) -> Message
         };
     }
     let length = text(code, expected, found, room);
-    Message {
-        code: 0,
-        length: length,
-    }
+    Message { code: 0, length }
 }
 
 // The text of a refusal by its code, and its length; none for any other code.
@@ -44,10 +41,7 @@ fn required(expected: u32, found: u32, room: &mut [u8]) -> usize
     requires { 52 ≤ length room.old }
     ensures { Put (text_of 8 expected found) 0 room.old room.new result }
 {
-    if expected > 44 {
-        return 0;
-    }
-    if found > 44 {
+    if expected > 44 || found > 44 {
         return 0;
     }
     let a = put(b"expected ", room, 0);

@@ -4,10 +4,10 @@ use borrow.Author.Tests.{ne_eqb}
 use Rattle.diagnostics.specs.Line.{Return, inner}
 use Rattle.diagnostics.proofs.line.is_inner.Goals as goal
 
-pub returns-then-byte-eq-RETURN : goal.returns-then-byte-eq-RETURN
+pub returns-then-byte-ne-RETURN : goal.returns-then-byte-ne-RETURN
 unfolding inner
-returns-then-byte-eq-RETURN c = rw c.if-byte-eq-RETURN.true refl
+returns-then-byte-ne-RETURN c = rw (ne_eqb _ Return c.if-byte-ne-RETURN.true) refl
 
-pub returns : goal.returns
+pub returns-else-byte-ne-RETURN : goal.returns-else-byte-ne-RETURN
 unfolding inner
-returns c = rw (ne_eqb _ Return c.if-byte-eq-RETURN.false) refl
+returns-else-byte-ne-RETURN c = rw c.if-byte-ne-RETURN.false refl

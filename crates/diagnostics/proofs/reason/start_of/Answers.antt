@@ -2,7 +2,7 @@
 use Prim.Native.Nat.{ℕ, ◌<◌}
 use native.Mathlib.Omega.{arith}
 use mathlib.Core.List.{List, [], ◌∷◌}
-use mathlib.Core.Path.{◌≡◌}
+use mathlib.Core.Path.{◌≡◌, ◌∙◌}
 use lib.Dec.{eqb, eqb→eq}
 use lib.ListN.{get_or}
 use Rattle.grammar.proofs.Tests.{within}
@@ -18,4 +18,4 @@ right i h = eqb→eq _ _ (within (λ k. eqb (get_or starts k 0) (begins k)) 0 25
 
 pub returns : goal.returns
 unfolding starts
-returns c = right _ (omega arith)
+returns c = c.from.ensures ∙ right _ (omega arith)

@@ -1,20 +1,20 @@
 -- `diagnostics::reason::which` meets its contract: each answer is the place of a text.
 use borrow.Author.Rules.{rules}
 use native.Mathlib.Omega.{arith}
-use Rattle.diagnostics.proofs.Reasons.{past, at_code, at_byte, at_end, at_string}
+use mathlib.Core.Path.{refl, sym, ◌∙◌}
+use Rattle.std.proofs.lemmas.Bool.{eqb-false}
+use Rattle.diagnostics.proofs.Places.{byte_at}
+use Rattle.diagnostics.proofs.Reasons.{past, at_code, at_byte, at_string}
 use Rattle.diagnostics.proofs.reason.which.Goals as goal
 
-pub returns-then-code-gt-LAST_CODE : goal.returns-then-code-gt-LAST_CODE
-returns-then-code-gt-LAST_CODE c = past (omega arith)
+pub returns-then-eq : goal.returns-then-eq
+returns-then-eq c = at_string c.in-16.is (search rules)
 
-pub returns-then-code-ne-NO_TOKEN : goal.returns-then-code-ne-NO_TOKEN
-returns-then-code-ne-NO_TOKEN c = at_code (omega arith) c.if-code-ne-NO_TOKEN.true
+pub returns-else-eq : goal.returns-else-eq
+returns-else-eq c = at_byte c.in-16.is (eqb-false _ _ (sym (byte_at _ _ 34 _ _ refl (λ e. omega (arith, e)) c.get.ensures.lookup.0 c.get.ensures.lookup.1) ∙ sym c.eq.ensures ∙ c.if-eq.false))
 
-pub returns-then-at-text : goal.returns-then-at-text
-returns-then-at-text c = at_end c.if-code-ne-NO_TOKEN.false (omega arith)
+pub returns-in-0-to-22 : goal.returns-in-0-to-22
+returns-in-0-to-22 c = at_code (omega arith) (omega arith)
 
-pub returns-then-text-at-eq34 : goal.returns-then-text-at-eq34
-returns-then-text-at-eq34 c = at_string (search rules) (search rules)
-
-pub returns : goal.returns
-returns c = at_byte (search rules) (search rules)
+pub returns-in_default : goal.returns-in_default
+returns-in_default c = past (omega arith)

@@ -1,5 +1,6 @@
 -- `diagnostics::text::required` meets its contract: the four parts one after the other are the text, and no name is longer than 16 bytes, so that they fit.
 use native.Mathlib.Omega.{arith}
+use mathlib.Core.Logic.{inl, inr}
 use borrow.Author.Tests.{le-leb, lt-leb}
 use Rattle.grammar.specs.Kind.{Eof}
 use Rattle.spelling.proofs.display.Names.{short}
@@ -9,11 +10,10 @@ use Rattle.diagnostics.proofs.text.required.Goals as goal
 
 pub returns-then-expected-gt44 : goal.returns-then-expected-gt44
 unfolding text_of
-returns-then-expected-gt44 c = simp (lt-leb c.args.expected Eof (omega arith)) (nothing _ _)
-
-pub returns-then-found-gt44 : goal.returns-then-found-gt44
-unfolding text_of
-returns-then-found-gt44 c = simp (le-leb c.args.expected Eof (omega arith), lt-leb c.args.found Eof (omega arith)) (nothing _ _)
+returns-then-expected-gt44 c = elim c.then-expected-gt44.either [
+  | inl h ↦ simp (lt-leb c.args.expected Eof h) (nothing _ _)
+  | inr h ↦ simp (le-leb c.args.expected Eof h.0, lt-leb c.args.found Eof h.1) (nothing _ _)
+]
 
 pub put_name-b-requires : goal.put_name-b-requires
 put_name-b-requires c = (omega arith, omega (arith, short c.args.expected))
