@@ -1,4 +1,4 @@
-// The kinds of tokens by name, in the order of `Token` in token.rs.
+// The kinds of tokens by name, in the order of `Token` in token.rs. They stay numbers: a token of the C interface is three u32, and Token.kind (grammar) reads its kind as one.
 pub const ASSIGN: u32 = 0;
 
 pub const PLUS: u32 = 1;
