@@ -1,5 +1,5 @@
 -- A run of bytes in a lexeme, as patterns take it: whole, and what is left of the lexeme after it is left to match.
-use Prim.Native.Nat.{ℕ, suc, ◌≤◌}
+use Prim.Native.Nat.{ℕ, suc, ◌+◌, ◌≤◌, ◌<◌}
 use mathlib.Core.Bool.{Bool, true, false, cond, ◌&&◌, ◌||◌, or-false}
 use mathlib.Core.List.{List, [], ◌∷◌}
 use mathlib.Core.Path.{◌≡◌, refl, sym, ap, ◌∙◌}
@@ -8,11 +8,10 @@ use borrow.Author.Tests.{lt-ltb, le-ltb}
 use lib.Dec.{ltb}
 use lib.ListN.{length, drop}
 use Rattle.grammar.specs.Derivative.{matches, nullable}
-use Rattle.grammar.specs.Token.{lexeme}
 use Rattle.grammar.specs.Pattern.{Pattern, byte, sequence, many, some}
-use Rattle.grammar.proofs.Lexemes.{lexeme_drop}
-use Rattle.grammar.proofs.Matching.{Shy, regroup, many_then, byte_then, no_byte}
-use Rattle.grammar.specs.Run.{run, Ran}
+use Rattle.grammar.proofs.Matching.{Shy, regroup, many_then, many_on, many_none, byte_then, no_byte}
+use Rattle.grammar.specs.Run.{run}
+use Rattle.std.specs.List.{list_all, prefix_len}
 
 -- a run is taken whole before what is shy of its bytes
 module _ (test : ℕ → Bool) (q : Pattern) (shy : Shy test q) where
@@ -37,12 +36,36 @@ module _ (test : ℕ → Bool) (q : Pattern) (shy : Shy test q) where
       go (x ∷ xs) = rw (byte_then test (sequence (many (byte test)) q) x xs, run_then xs) (step x xs (test x))
 
 -- where a run was read, what follows it is what is left to match
-module _ (test : ℕ → Bool) (q : Pattern) (shy : Shy test q) (text : List ℕ) (start end r : ℕ) (h : start ≤ end) (fits : end ≤ length text) (ran : Ran test text start end r) where
-  left : drop (run test (lexeme text start end)) (lexeme text start end) ≡ lexeme text r end
-  left = lexeme_drop text (run test (lexeme text start end)) start end (omega arith) fits ∙ ap (λ (i : ℕ). lexeme text i end) (sym ran.counted)
+module _ (test : ℕ → Bool) (q : Pattern) (shy : Shy test q) (xs : List ℕ) where
+  pub some_read : (run test xs ≡ 0 → ⊥) → matches (sequence (some (byte test)) q) xs ≡ matches q (drop (run test xs) xs)
+  some_read apart = some_then test q shy xs ∙ rw (lt-ltb 0 (run test xs) (omega arith))
 
-  pub some_read : (r ≡ start → ⊥) → matches (sequence (some (byte test)) q) (lexeme text start end) ≡ matches q (lexeme text r end)
-  some_read apart = some_then test q shy (lexeme text start end) ∙ rw (lt-ltb 0 (run test (lexeme text start end)) (omega arith)) (ap (matches q) left)
+  pub none_read : run test xs ≡ 0 → matches (sequence (some (byte test)) q) xs ≡ false
+  none_read e = some_then test q shy xs ∙ rw (le-ltb 0 (run test xs) (omega arith))
 
-  pub none_read : r ≡ start → matches (sequence (some (byte test)) q) (lexeme text start end) ≡ false
-  none_read e = some_then test q shy (lexeme text start end) ∙ rw (le-ltb 0 (run test (lexeme text start end)) (omega arith))
+-- all bytes pass, or all of at least one
+module _ (test : ℕ → Bool) where
+  pub many_all : (xs : List ℕ) → list_all test xs ≡ matches (many (byte test)) xs
+  many_all [] = sym (many_none (byte test))
+  many_all (x ∷ xs) = ap (λ b. test x && b) (many_all xs) ∙ sym (many_on test x xs)
+
+  pub some_all : (xs : List ℕ) → 0 < length xs → list_all test xs ≡ matches (some (byte test)) xs
+  some_all [] h = absurd (omega arith)
+  some_all (x ∷ xs) h = ap (λ b. test x && b) (many_all xs) ∙ sym (byte_then test (many (byte test)) x xs)
+
+  -- a run is what `take_while` takes, and is no longer than the text
+  pub run_prefix : (xs : List ℕ) → prefix_len test xs ≡ run test xs
+  run_prefix [] = refl
+  run_prefix (x ∷ xs) = go (test x) (run_prefix xs)
+    where
+      go : (b : Bool) → prefix_len test xs ≡ run test xs → cond b (1 + prefix_len test xs) 0 ≡ cond b (suc (run test xs)) 0
+      go true e = omega arith
+      go false e = refl
+
+  pub run_within : (xs : List ℕ) → run test xs ≤ length xs
+  run_within [] = omega arith
+  run_within (x ∷ xs) = go (test x) (run_within xs)
+    where
+      go : (b : Bool) → run test xs ≤ length xs → cond b (suc (run test xs)) 0 ≤ suc (length xs)
+      go true h = omega arith
+      go false h = omega arith

@@ -1,15 +1,35 @@
 -- What grammar's patterns ask of a text, byte by byte: a string, an identifier.
-use Prim.Native.Nat.{ℕ}
+use Prim.Native.Nat.{ℕ, suc, ◌-◌, ◌≤◌, ◌<◌}
 use mathlib.Core.Bool.{Bool, false, not, ◌&&◌, ◌||◌, or-false}
 use mathlib.Core.List.{List, [], ◌∷◌}
-use mathlib.Core.Path.{◌≡◌, refl, ◌∙◌}
+use mathlib.Core.Path.{◌≡◌, refl, sym, ap, ◌∙◌}
+use native.Mathlib.Omega.{arith}
 use lib.Dec.{eqb}
+use lib.ListN.{length, get_or, take, drop, length-drop}
+use lib.Seq.{take_all}
 use borrow.Author.Tests.{ne_eqb}
 use Rattle.grammar.specs.Derivative.{matches, nullable}
 use Rattle.grammar.specs.Lexeme.{letter, string, identifier}
 use Rattle.grammar.specs.Pattern.{Pattern, byte, sequence, either, many, bytes, among}
-use Rattle.grammar.proofs.Matching.{regroup, either_then, many_then, byte_then, byte_alone}
+use Rattle.grammar.proofs.Matching.{regroup, either_then, many_then, byte_then, byte_alone, only_empty, whole_empty}
 use Rattle.lexeme.specs.Parts.{inside, letter_or_digit}
+
+-- a text from its first byte, as a slice's pattern cuts it; one that has none; and what is behind a place
+pub opened : (w : List ℕ) → 1 ≤ length w → w ≡ get_or w 0 0 ∷ take (length w - 1) (drop 1 w)
+opened [] h = absurd (omega arith)
+opened (x ∷ xs) h = ap (λ (l : List ℕ). x ∷ l) (sym (take_all (suc (length xs) - 1) xs (omega arith)))
+
+pub emptied : {w : List ℕ} → length w < 1 → w ≡ []
+emptied {w = []} h = refl
+emptied {w = x ∷ xs} h = absurd (omega arith)
+
+pub behind : (w : List ℕ) (n : ℕ) → take (length w - n) (drop n w) ≡ drop n w
+behind w n = take_all (length w - n) (drop n w) (omega (arith, length-drop n w))
+
+-- a text with nothing left has no byte
+pub nothing_left : (xs : List ℕ) → eqb (length xs) 0 ≡ matches Pattern.nothing xs
+nothing_left [] = sym (whole_empty [] refl)
+nothing_left (x ∷ xs) = ne_eqb (suc (length xs)) 0 (λ e. omega arith) ∙ sym (only_empty x xs)
 
 -- what one byte of a string may be, or one after a backslash
 abbrev plain : ℕ → Bool
@@ -55,3 +75,7 @@ string_first x xs = byte_then quote inside x xs
 
 pub identifier_first : (x : ℕ) (xs : List ℕ) → matches identifier (x ∷ xs) ≡ (letter x && matches (many (byte letter_or_digit)) xs)
 identifier_first x xs = byte_then letter (many (byte letter_or_digit)) x xs
+
+-- said of a text by its first byte, and what a slice's pattern leaves
+pub identifier_opened : (w : List ℕ) → 1 ≤ length w → {b : Bool} → letter (get_or w 0 0) ≡ b → matches identifier w ≡ (b && matches (many (byte letter_or_digit)) (take (length w - 1) (drop 1 w)))
+identifier_opened w h e = ap (matches identifier) (opened w h) ∙ identifier_first _ _ ∙ ap (λ b. b && matches (many (byte letter_or_digit)) (take (length w - 1) (drop 1 w))) e

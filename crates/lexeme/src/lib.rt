@@ -5,7 +5,7 @@ ghost use Rattle.std.specs.Prelude.{◌≡◌, ◌≤◌, length};
 ghost use Rattle.grammar.specs.Derivative.{matches};
 ghost use Rattle.grammar.specs.Lexeme.{letter, number, string, identifier, Fits};
 ghost use Rattle.grammar.specs.Pattern.{byte, digit, some, maybe};
-ghost use Rattle.grammar.specs.Run.{Ran};
+ghost use Rattle.grammar.specs.Run.{run, Ran};
 ghost use Rattle.grammar.specs.Token.{lexeme};
 ghost use Rattle.spelling.specs.Decides.{Decides};
 ghost use Rattle.lexeme.specs.Parts.{signed, power, inside, letter_or_digit, Word};
@@ -20,14 +20,12 @@ pub fn fits(words: &[u8], kind: u32, text: &[u8], start: usize, end: usize) -> b
     requires { (words.now ≡ table) × (start ≤ end) × (end ≤ length text.now) }
     ensures { Decides (Fits kind (lexeme text.now start end)) result }
 {
+    let word = &text[start..end];
     match kind {
-        kinds::NUMBER_LITERAL => is_number(text, start, end),
-        kinds::STRING_LITERAL => is_string(text, start, end),
+        kinds::NUMBER_LITERAL => is_number(word),
+        kinds::STRING_LITERAL => is_string(word),
         kinds::IDENTIFIER => {
-            if keyword(words, text, start, end) != kinds::IDENTIFIER {
-                return false;
-            }
-            is_identifier(words, text, start, end)
+            keyword(words, text, start, end) == kinds::IDENTIFIER && is_identifier(words, word)
         }
         kinds::ASSIGN..=kinds::SEMICOLON => spelled(words, kind, text, start, end),
         _ => true,
@@ -54,130 +52,107 @@ pub fn keyword(words: &[u8], text: &[u8], start: usize, end: usize) -> u32
 }
 
 // [a-zA-Z_][a-zA-Z0-9_]*
-fn is_identifier(words: &[u8], text: &[u8], start: usize, end: usize) -> bool
-    requires { (words.now ≡ table) × (start ≤ end) × (end ≤ length text.now) }
-    ensures { result ≡ matches identifier (lexeme text.now start end) }
+fn is_identifier(words: &[u8], word: &[u8]) -> bool
+    requires { words.now ≡ table }
+    ensures { result ≡ matches identifier word.now }
 {
-    if start == end {
+    let [first, rest @ ..] = word else {
         return false;
-    }
-    if !is_letter(words, text[start]) {
-        return false;
-    }
-    let mut at = start + 1;
-    while at < end {
-        if !is_letter_or_digit(words, text[at]) {
-            return false;
-        }
-        at += 1;
-    }
-    true
+    };
+    is_letter(words, *first) && rest.iter().all(|byte| is_letter_or_digit(words, *byte))
 }
 
 // "([^"\\]|\\.)*"
-fn is_string(text: &[u8], start: usize, end: usize) -> bool
-    requires { (start ≤ end) × (end ≤ length text.now) }
-    ensures { result ≡ matches string (lexeme text.now start end) }
+fn is_string(word: &[u8]) -> bool
+    ensures { result ≡ matches string word.now }
 {
-    if start == end {
+    let [first, rest @ ..] = word else {
         return false;
-    }
-    let first = text[start];
-    if first != b'"' {
-        return false;
-    }
-    is_inside(text, start + 1, end)
+    };
+    *first == b'"' && is_inside(rest)
 }
 
 // What follows the opening quote, up to the closing one.
-fn is_inside(text: &[u8], start: usize, end: usize) -> bool
-    requires { (start ≤ end) × (end ≤ length text.now) }
-    ensures { result ≡ matches inside (lexeme text.now start end) }
+fn is_inside(word: &[u8]) -> bool
+    ensures { result ≡ matches inside word.now }
 {
-    let mut at = start;
-    while at < end {
-        let here = text[at];
-        at += 1;
-        if here == b'"' {
-            return at == end;
+    let mut left = word;
+    while let [here, rest @ ..] = left {
+        if *here == b'"' {
+            return rest.is_empty();
         }
-        if here != b'\\' {
+        if *here != b'\\' {
+            left = rest;
             continue;
         }
-        if at == end {
+        let [next, beyond @ ..] = rest else {
+            return false;
+        };
+        if *next == b'\n' {
             return false;
         }
-        let next = text[at];
-        if next == 10 {
-            return false;
-        }
-        at += 1;
+        left = beyond;
     }
     false
 }
 
 // [0-9]+(\.[0-9]+)?([eE][+-]?[0-9]+)?
-fn is_number(text: &[u8], start: usize, end: usize) -> bool
-    requires { (start ≤ end) × (end ≤ length text.now) }
-    ensures { result ≡ matches number (lexeme text.now start end) }
+fn is_number(word: &[u8]) -> bool
+    ensures { result ≡ matches number word.now }
 {
-    let at = digits(text, start, end);
-    if at == start {
+    let whole = leading_digits(word);
+    if whole == 0 {
         return false;
     }
-    if at == end {
+    let after = &word[whole..];
+    let [point, fraction @ ..] = after else {
         return true;
+    };
+    if *point != b'.' {
+        return is_power(after);
     }
-    let point = text[at];
-    if point != b'.' {
-        return is_power(text, at, end);
-    }
-    let from = at + 1;
-    let upto = digits(text, from, end);
-    if upto == from {
-        return false;
-    }
-    is_power(text, upto, end)
+    let part = leading_digits(fraction);
+    part != 0 && is_power(&fraction[part..])
 }
 
 // Nothing, or [eE][+-]?[0-9]+.
-fn is_power(text: &[u8], start: usize, end: usize) -> bool
-    requires { (start ≤ end) × (end ≤ length text.now) }
-    ensures { result ≡ matches (maybe power) (lexeme text.now start end) }
+fn is_power(word: &[u8]) -> bool
+    ensures { result ≡ matches (maybe power) word.now }
 {
-    if start == end {
+    let [first, rest @ ..] = word else {
         return true;
-    }
-    match text[start] {
-        b'E' | b'e' => is_signed(text, start + 1, end),
+    };
+    match *first {
+        b'E' | b'e' => is_signed(rest),
         _ => false,
     }
 }
 
 // [+-]?[0-9]+
-fn is_signed(text: &[u8], start: usize, end: usize) -> bool
-    requires { (start ≤ end) × (end ≤ length text.now) }
-    ensures { result ≡ matches signed (lexeme text.now start end) }
+fn is_signed(word: &[u8]) -> bool
+    ensures { result ≡ matches signed word.now }
 {
-    if start == end {
+    let [first, rest @ ..] = word else {
         return false;
-    }
-    match text[start] {
-        b'+' | b'-' => are_digits(text, start + 1, end),
-        _ => are_digits(text, start, end),
+    };
+    match *first {
+        b'+' | b'-' => are_digits(rest),
+        _ => are_digits(word),
     }
 }
 
 // [0-9]+
-fn are_digits(text: &[u8], start: usize, end: usize) -> bool
-    requires { (start ≤ end) × (end ≤ length text.now) }
-    ensures { result ≡ matches (some (byte digit)) (lexeme text.now start end) }
+fn are_digits(word: &[u8]) -> bool
+    ensures { result ≡ matches (some (byte digit)) word.now }
 {
-    let upto = digits(text, start, end);
-    if upto == start {
-        return false;
-    }
-    upto == end
+    !word.is_empty() && word.iter().all(|byte| is_digit(*byte))
+}
+
+// How many digits a text begins with.
+fn leading_digits(word: &[u8]) -> usize
+    ensures { result ≡ run digit word.now }
+{
+    word.iter().take_while(|byte| is_digit(**byte)).count()
 }
 
 // The end of the run of digits that starts at `start`. It asks that the span lies in the text.
@@ -186,14 +161,7 @@ pub fn digits(text: &[u8], start: usize, end: usize) -> usize
     requires { (start ≤ end) × (end ≤ length text.now) }
     ensures { Ran digit text.now start end result }
 {
-    let mut at = start;
-    while at < end {
-        if !is_digit(text[at]) {
-            return at;
-        }
-        at += 1;
-    }
-    at
+    start + leading_digits(&text[start..end])
 }
 
 // [a-zA-Z_]
@@ -208,10 +176,7 @@ fn is_letter(words: &[u8], byte: u8) -> bool
 fn is_digit(byte: u8) -> bool
     ensures { result ≡ digit byte }
 {
-    match byte {
-        b'0'..=b'9' => true,
-        _ => false,
-    }
+    matches!(byte, b'0'..=b'9')
 }
 
 // [a-zA-Z0-9_]. It asks for the table.

@@ -1,23 +1,28 @@
--- `are_digits` meets its contract: the run of digits is not empty and ends where the text does.
-use mathlib.Core.Path.{sym, ◌∙◌}
+-- `are_digits` meets its contract: there is a byte, and all are digits.
+use Prim.Native.Nat.{◌<◌}
+use mathlib.Core.Bool.{not}
+use mathlib.Core.Path.{sym, ap, ◌∙◌}
+use lib.ListN.{length}
 use native.Mathlib.Omega.{arith}
-use Rattle.grammar.specs.Pattern.{Pattern, byte, digit, some}
-use Rattle.grammar.specs.Token.{lexeme}
-use Rattle.grammar.proofs.Lexemes.{lexeme_whole}
-use Rattle.grammar.proofs.Matching.{then_nothing, shy_nothing}
-use Rattle.lexeme.proofs.Runs.{some_read, none_read}
+use Rattle.std.proofs.Common.{rules, tests}
+use Rattle.std.proofs.lemmas.Iterator.{YieldsList-from_slice}
+use Rattle.std.proofs.lemmas.Iterator.Search.{all_from_yields_List}
+use Rattle.std.proofs.lemmas.Bool.Decides.{nat_tests}
+use Rattle.grammar.specs.Pattern.{digit, some, many, byte}
+use Rattle.grammar.specs.Derivative.{matches}
+use Rattle.grammar.proofs.Matching.{no_byte}
+use Rattle.lexeme.proofs.Texts.{emptied}
+use Rattle.lexeme.proofs.Runs.{some_all}
 use Rattle.lexeme.proofs.are_digits.Goals as goal
 
-pub returns-then-upto-start : goal.returns-then-upto-start
-returns-then-upto-start c =
-    let a = c.args in
-    sym (sym (then_nothing (some (byte digit)) (lexeme a.text.now a.start a.end)) ∙ none_read digit Pattern.nothing (shy_nothing digit) a.text.now a.start a.end _ (omega arith) (omega arith) c.digits-upto.ensures c.if-upto-start.true)
+pub returns-then-not-is_empty : goal.returns-then-not-is_empty
+returns-then-not-is_empty c =
+    let w = c.args.word.now in
+    let some : 0 < length w = grind (arith, nat_tests) in
+    all_from_yields_List digit _ _ c.all.result c.all.ensures.ran (YieldsList-from_slice w cc) (λ x b q k. search (rules, tests)) ∙ some_all digit w some
 
-pub returns : goal.returns
-returns c =
-    let a = c.args in
-    let r = c.digits-upto.result in
-    sym
-    (sym (then_nothing (some (byte digit)) (lexeme a.text.now a.start a.end))
-    ∙ some_read digit Pattern.nothing (shy_nothing digit) a.text.now a.start a.end r (omega arith) (omega arith) c.digits-upto.ensures c.if-upto-start.false
-    ∙ lexeme_whole a.text.now r a.end (omega arith) (omega arith))
+pub returns-else-not-is_empty : goal.returns-else-not-is_empty
+returns-else-not-is_empty c =
+    let w = c.args.word.now in
+    let none : length w < 1 = grind (arith, nat_tests) in
+    ap not c.if-not-is_empty.false ∙ sym (ap (matches (some (byte digit))) (emptied none) ∙ no_byte digit (many (byte digit)))

@@ -1,11 +1,21 @@
--- `digits` meets its contract: its loop runs over digits.
-use mathlib.Core.Path.{sym, ◌∙◌}
+-- `digits` meets its contract: the digits at the front of the part, which is no longer than from `start` to `end`.
+use Prim.Native.Nat.{ℕ, ◌+◌, ◌≤◌}
+use mathlib.Core.Path.{ap}
 use native.Mathlib.Omega.{arith}
-use Rattle.grammar.proofs.Runs.{goes_on, stops}
+use Rattle.grammar.specs.Pattern.{digit}
+use Rattle.grammar.specs.Token.{lexeme}
+use Rattle.grammar.proofs.Lexemes.{lexeme_length}
+use Rattle.lexeme.proofs.Runs.{run_within}
 use Rattle.lexeme.proofs.digits.Goals as goal
+use Rattle.lexeme.proofs.digits.Goals.{After-leading_digits}
 
-pub returns-then-not-is_digit : goal.returns-then-not-is_digit
-returns-then-not-is_digit c = stops (omega arith) c.loop-at.invariant (omega arith) (sym c.is_digit.ensures ∙ c.if-not-is_digit.true)
+inside : (c : After-leading_digits) → c.args.start + c.leading_digits.result ≤ c.args.end
+inside c =
+    let a = c.args in
+    omega (arith, c.leading_digits.ensures, run_within digit (lexeme a.text.now a.start a.end), lexeme_length a.text.now a.start a.end (omega arith) (omega arith))
 
-pub loop-at-preserved : goal.loop-at-preserved
-loop-at-preserved c = goes_on (omega arith) c.loop-at.invariant (omega arith) (sym c.is_digit.ensures ∙ c.if-not-is_digit.false)
+pub overflow_add-result : goal.overflow_add-result
+overflow_add-result c = let i = inside (goal.at.overflow_add-result c).After-leading_digits in omega arith
+
+pub returns : goal.returns
+returns c = record { counted = ap (λ (n : ℕ). c.args.start + n) c.leading_digits.ensures; within = inside (goal.at.returns c).After-leading_digits }

@@ -1,5 +1,7 @@
 -- `fits` meets its contract: each arm is a way to fit.
 use native.Mathlib.Omega.{arith}
+use borrow.Author.Tests.{ne_eqb}
+use Rattle.grammar.specs.Kind.{Identifier}
 use Rattle.grammar.specs.Lexeme.{spelling, number, string, identifier}
 use Rattle.grammar.specs.Token.{lexeme}
 use Rattle.spelling.proofs.Deciding.{holds, fails, matching}
@@ -7,10 +9,10 @@ use Rattle.lexeme.proofs.Fitting.{literal_decided, spelled_pattern, fits_by_patt
 use Rattle.lexeme.proofs.Keywords.{word_keyword, word_name}
 use Rattle.lexeme.proofs.fits.Goals as goal
 
-pub returns-then-keyword-ne-IDENTIFIER : goal.returns-then-keyword-ne-IDENTIFIER
-returns-then-keyword-ne-IDENTIFIER c =
+pub returns-else-keyword-eq-IDENTIFIER : goal.returns-else-keyword-eq-IDENTIFIER
+returns-else-keyword-eq-IDENTIFIER c =
     let a = c.args in
-    fails (keyword_unfit a.kind (lexeme a.text.now a.start a.end) c.in-43.is (word_keyword c.keyword.ensures c.if-keyword-ne-IDENTIFIER.true))
+    rw (ne_eqb _ Identifier c.if-keyword-eq-IDENTIFIER.false) (fails (keyword_unfit a.kind (lexeme a.text.now a.start a.end) c.in-43.is (word_keyword c.keyword.ensures c.if-keyword-eq-IDENTIFIER.false)))
 
 pub returns-in-40 : goal.returns-in-40
 returns-in-40 c =
@@ -22,10 +24,10 @@ returns-in-42 c =
     let a = c.args in
     fits_by_pattern a.kind (lexeme a.text.now a.start a.end) (omega arith) (omega arith) (rw (c.in-42.is, c.is_string.ensures) (matching string (lexeme a.text.now a.start a.end)))
 
-pub returns-else-keyword-ne-IDENTIFIER : goal.returns-else-keyword-ne-IDENTIFIER
-returns-else-keyword-ne-IDENTIFIER c =
+pub returns-then-keyword-eq-IDENTIFIER : goal.returns-then-keyword-eq-IDENTIFIER
+returns-then-keyword-eq-IDENTIFIER c =
     let a = c.args in
-    fits_as_name a.kind (lexeme a.text.now a.start a.end) c.in-43.is (word_name c.keyword.ensures c.if-keyword-ne-IDENTIFIER.false) (rw (c.in-43.is, c.is_identifier.ensures) (matching identifier (lexeme a.text.now a.start a.end)))
+    fits_as_name a.kind (lexeme a.text.now a.start a.end) c.in-43.is (word_name c.keyword.ensures c.if-keyword-eq-IDENTIFIER.true) (rw (c.in-43.is, c.is_identifier.ensures) (matching identifier (lexeme a.text.now a.start a.end)))
 
 pub returns-in_default : goal.returns-in_default
 returns-in_default c =

@@ -1,54 +1,44 @@
 -- `is_inside` meets its contract: the whole text matches exactly where what is left does, byte after byte, or two after a backslash.
-use Prim.Native.Nat.{◌+◌}
+use mathlib.Core.List.{List, ◌∷◌}
+use mathlib.Core.Path.{sym, ap, ◌∙◌}
+use Prim.Native.Nat.{ℕ, ◌-◌}
 use mathlib.Core.Bool.{not, ◌&&◌}
-use mathlib.Core.List.{◌∷◌}
-use mathlib.Core.Path.{◌≡◌, sym, ◌∙◌}
-use native.Mathlib.Omega.{arith}
+use mathlib.Core.Path.{◌≡◌}
 use lib.Dec.{eqb}
-use lib.ListN.{get_or}
 use borrow.Author.Tests.{ne_eqb}
-use borrow.Author.Rules.{rules}
+use lib.ListN.{length, get_or, take, drop}
 use Rattle.grammar.specs.Derivative.{matches}
-use Rattle.grammar.specs.Token.{lexeme}
-use Rattle.grammar.proofs.Lexemes.{lexeme_first, lexeme_none, at_first, at_end, lexeme_whole}
 use Rattle.lexeme.specs.Parts.{inside}
-use Rattle.lexeme.proofs.Texts.{inside_quote, inside_plain, inside_cut, inside_escape, inside_open}
+use Rattle.lexeme.proofs.Texts.{opened, emptied, nothing_left, inside_quote, inside_plain, inside_cut, inside_escape, inside_open}
 use Rattle.lexeme.proofs.is_inside.Goals as goal
-use Rattle.lexeme.proofs.is_inside.Goals.{In-loop-at, Else-at-end}
-
--- a turn looks at the next byte
-opened : (c : In-loop-at) → let a = c.args in let i = c.loop-at.at in matches inside (lexeme a.text.now a.start a.end) ≡ matches inside (get_or a.text.now i 0 ∷ lexeme a.text.now (i + 1) a.end)
-opened c =
-    let a = c.args in
-    c.loop-at.invariant.1 ∙ at_first inside a.text.now c.loop-at.at a.end (omega arith) (omega arith)
+use Rattle.lexeme.proofs.is_inside.Goals.{In-len1-up-rest}
 
 -- after a backslash at the byte that follows it
-escaped : (c : Else-at-end) → let a = c.args in let i = c.loop-at.at in matches inside (lexeme a.text.now a.start a.end) ≡ (not (eqb (get_or a.text.now (i + 1) 0) 10) && matches inside (lexeme a.text.now (i + 1 + 1) a.end))
+escaped : (c : In-len1-up-rest) → let l = c.loop-left.left.now in let r = take (length l - 1) (drop 1 l) in matches inside c.args.word.now ≡ (not (eqb (get_or r 0 0) 10) && matches inside (take (length r - 1) (drop 1 r)))
 escaped c =
-    let a = c.args in
-    let i = c.loop-at.at in
-    c.loop-at.invariant.1 ∙ at_first inside a.text.now i a.end (omega arith) (omega arith) ∙ rw (lexeme_first a.text.now (i + 1) a.end (omega arith) (omega arith)) (inside_escape _ _ _ c.if-here-ne92.false)
+    let l = c.loop-left.left.now in
+    c.loop-left.invariant ∙ ap (matches inside) (opened l c.in-len1-up.len_at_least) ∙ ap (λ (r : List ℕ). matches inside (get_or l 0 0 ∷ r)) (opened _ c.in-len1-up-rest.len_at_least) ∙ inside_escape _ _ _ c.if-here-ne92.false
 
 pub returns-then-here-eq34 : goal.returns-then-here-eq34
 returns-then-here-eq34 c =
-    let a = c.args in
-    sym (opened (goal.at.returns-then-here-eq34 c).In-loop-at ∙ inside_quote _ _ c.if-here-eq34.true ∙ lexeme_whole a.text.now (c.loop-at.at + 1) a.end (omega arith) (omega arith))
+    let here = ap (matches inside) (opened c.loop-left.left.now c.in-len1-up.len_at_least) in
+    c.is_empty.ensures ∙ nothing_left _ ∙ sym (c.loop-left.invariant ∙ here ∙ inside_quote _ _ c.if-here-eq34.true)
 
-pub loop-at-preserved-then-here-ne92 : goal.loop-at-preserved-then-here-ne92
-loop-at-preserved-then-here-ne92 c = (search rules, opened (goal.at.loop-at-preserved-then-here-ne92 c).In-loop-at ∙ inside_plain _ _ c.if-here-eq34.false c.if-here-ne92.true)
+pub loop-left-preserved-then-here-ne92 : goal.loop-left-preserved-then-here-ne92
+loop-left-preserved-then-here-ne92 c =
+    let here = ap (matches inside) (opened c.loop-left.left.now c.in-len1-up.len_at_least) in
+    c.loop-left.invariant ∙ here ∙ inside_plain _ _ c.if-here-eq34.false c.if-here-ne92.true
 
-pub returns-then-at-end : goal.returns-then-at-end
-returns-then-at-end c =
-    let a = c.args in
-    sym (opened (goal.at.returns-then-at-end c).In-loop-at ∙ rw (lexeme_none a.text.now (c.loop-at.at + 1) a.end c.if-at-end.true) (inside_cut _ c.if-here-ne92.false))
+pub returns-in_default-rest : goal.returns-in_default-rest
+returns-in_default-rest c =
+    let here = ap (matches inside) (opened c.loop-left.left.now c.in-len1-up.len_at_least) in
+    sym (c.loop-left.invariant ∙ here ∙ ap (λ (l : List ℕ). matches inside (get_or c.loop-left.left.now 0 0 ∷ l)) (emptied c.in_default-rest.len_below) ∙ inside_cut _ c.if-here-ne92.false)
 
 pub returns-then-next-eq10 : goal.returns-then-next-eq10
-returns-then-next-eq10 c = sym (escaped (goal.at.returns-then-next-eq10 c).Else-at-end ∙ rw c.if-next-eq10.true)
+returns-then-next-eq10 c = sym (escaped (goal.at.returns-then-next-eq10 c).In-len1-up-rest ∙ rw c.if-next-eq10.true)
 
-pub loop-at-preserved : goal.loop-at-preserved
-loop-at-preserved c = (search rules, escaped (goal.at.loop-at-preserved c).Else-at-end ∙ rw (ne_eqb _ 10 c.if-next-eq10.false))
+pub loop-left-preserved : goal.loop-left-preserved
+loop-left-preserved c = escaped (goal.at.loop-left-preserved c).In-len1-up-rest ∙ rw (ne_eqb _ 10 c.if-next-eq10.false)
 
 pub returns : goal.returns
-returns c =
-    let a = c.args in
-    sym (c.loop-at.invariant.1 ∙ at_end inside a.text.now c.loop-at.at a.end (omega arith) ∙ inside_open)
+returns c = sym (c.loop-left.invariant ∙ ap (matches inside) (emptied c.in_default.len_below) ∙ inside_open)
