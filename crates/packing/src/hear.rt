@@ -134,10 +134,8 @@ fn hear_builtins(scratch: &mut [u32], builtins: u32)
     requires { builtins ≤ length scratch.old }
     ensures { Built builtins scratch.old scratch.new }
 {
-    let mut x = 0;
-    while x < builtins {
+    for x in 0..builtins {
         scratch[x as usize] = x + 1;
-        x += 1;
     }
 }
 
@@ -158,13 +156,11 @@ pub(crate) fn hear_all(
 {
     hear_builtins(scratch, builtins);
     let mut known = builtins;
-    let mut j = 0;
-    while j < choice.len() {
-        if choice[j] != 0 {
+    for (j, kept) in choice.iter().enumerate() {
+        if *kept != 0 {
             let row = links[LINK_WIDTH * (first + j)];
             known = hear_row(nodes, links, symbols, scratch, s as usize, known, row);
         }
-        j += 1;
     }
     known
 }

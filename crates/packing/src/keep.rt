@@ -24,13 +24,11 @@ fn mark(
     ensures { Marked (keeps choice.now) (rows nodes.now links.now) (length choice.now) base n scratch.new × Low base scratch.old scratch.new }
 {
     zero(scratch, base, base + n);
-    let mut j = 0;
-    while j < choice.len() {
-        if choice[j] != 0 {
+    for (j, kept) in choice.iter().enumerate() {
+        if *kept != 0 {
             let row = links[LINK_WIDTH * (first + j)] as usize;
             scratch[base + row] = 1;
         }
-        j += 1;
     }
 }
 
@@ -47,9 +45,7 @@ fn spread(
     requires { Markable (rows nodes.now links.now) choice.now (root_first (rows nodes.now links.now)) base (height (rows nodes.now links.now)) (length scratch.old) × (root ≡ root_row (rows nodes.now links.now)) × Marked (keeps choice.now) (rows nodes.now links.now) (length choice.now) base (height (rows nodes.now links.now)) scratch.old }
     ensures { Staying (keeps choice.now) (rows nodes.now links.now) base 0 scratch.new × Low base scratch.old scratch.new }
 {
-    let mut i = root;
-    while i > 0 {
-        i -= 1;
+    for i in (0..root).rev() {
         let parent = nodes[NODE_WIDTH * i + PARENT] as usize;
         if parent != root {
             scratch[base + i] = scratch[base + parent];
@@ -64,12 +60,10 @@ fn count(nodes: &[u32], links: &[u32], choice: &[u8], scratch: &mut [u32], base:
     ensures { Placing (keeps choice.now) (rows nodes.now links.now) base scratch.new × Low base scratch.old scratch.new }
 {
     let mut before = 0;
-    let mut i = 0;
-    while i < root {
+    for i in 0..root {
         let stays = scratch[base + i];
         scratch[base + i] = before;
         before += stays;
-        i += 1;
     }
     scratch[base + root] = before;
 }

@@ -41,12 +41,12 @@ fn turned(code: u32, rule: u32, row: u32) -> Packed
     ensures { result ≡ turned_by code rule row }
 {
     Packed {
-        code: code,
+        code,
         nodes: 0,
         links: 0,
         symbols: 0,
-        rule: rule,
-        row: row,
+        rule,
+        row,
     }
 }
 

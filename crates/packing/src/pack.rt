@@ -8,7 +8,7 @@ ghost use Rattle.packing.specs.Rows.{moving, MovesNumber, MovesLink, MovesList, 
 
 use crate::maps::{Maps, row_to, symbol_to};
 use crate::roles::{CHILD, ENTRIES, NAMES, NODES, PLAIN, role};
-use ast::{ABSENT, LINK_WIDTH, NODE_WIDTH, kinds};
+use ast::{ABSENT, LINK_WIDTH, NODE_WIDTH, PARENT, kinds};
 
 // A number of a row, by its role.
 // Ruled out: a list's old place; a row's old number.
@@ -60,8 +60,7 @@ fn move_list(
     requires { MovesList scratch.now m sort links.old from to count }
     ensures { Written (link_width * to) (link_width * (to + count)) (list_moved (moving scratch.now m) sort links.old from count) links.old links.new }
 {
-    let mut k = 0;
-    while k < count {
+    for k in 0..count {
         let i = LINK_WIDTH * (from + k);
         let x = link_first(scratch, m, sort, links[i]);
         let y = link_second(scratch, m, sort, links[i + 1]);
@@ -70,7 +69,6 @@ fn move_list(
         links[o] = x;
         links[o + 1] = y;
         links[o + 2] = z;
-        k += 1;
     }
 }
 
@@ -83,15 +81,13 @@ fn move_lists(nodes: &[u32], links: &mut [u32], scratch: &[u32], m: Maps, row: u
     let base = NODE_WIDTH * row;
     let kind = nodes[base];
     let mut to = m.to;
-    let mut j = 0;
-    while j < 9 {
+    for j in 0..PARENT {
         let sort = role(kind, j);
         if sort >= NODES {
             let count = nodes[base + j + 1] as usize;
             move_list(links, scratch, m, sort, nodes[base + j] as usize, to, count);
             to += count;
         }
-        j += 1;
     }
 }
 
@@ -104,12 +100,10 @@ fn row_links(nodes: &[u32], row: usize) -> usize
     let base = NODE_WIDTH * row;
     let kind = nodes[base];
     let mut size = 0;
-    let mut j = 0;
-    while j < 9 {
+    for j in 0..PARENT {
         if role(kind, j) >= NODES {
             size += nodes[base + j + 1] as usize;
         }
-        j += 1;
     }
     size
 }
@@ -122,10 +116,8 @@ fn move_row(nodes: &mut [u32], scratch: &[u32], m: Maps, row: usize, to: usize)
 {
     let from = NODE_WIDTH * row;
     let kind = nodes[from];
-    let mut j = 0;
-    while j < NODE_WIDTH {
+    for j in 0..NODE_WIDTH {
         nodes[NODE_WIDTH * to + j] = number(scratch, m, role(kind, j), nodes[from + j]);
-        j += 1;
     }
 }
 
@@ -144,23 +136,21 @@ pub(crate) fn pack_rows(
 {
     let mut from = 0;
     let mut to = 0;
-    let mut i = 0;
-    while i < root {
+    for i in 0..root {
         let place = scratch[base + i];
         let size = row_links(nodes, i);
         if scratch[base + i + 1] != place {
             let m = Maps {
-                base: base,
-                symbols: symbols,
-                from: from,
-                to: to,
+                base,
+                symbols,
+                from,
+                to,
             };
             move_lists(nodes, links, scratch, m, i);
             move_row(nodes, scratch, m, i, place as usize);
             to += size;
         }
         from += size;
-        i += 1;
     }
     to
 }
@@ -179,9 +169,8 @@ fn pack_list(
     ensures { Lists links.old scratch.now base choice.now first to links.new result }
 {
     let mut at = to;
-    let mut j = 0;
-    while j < choice.len() {
-        if choice[j] != 0 {
+    for (j, kept) in choice.iter().enumerate() {
+        if *kept != 0 {
             let row = links[LINK_WIDTH * (first + j)] as usize;
             let i = LINK_WIDTH * at;
             links[i] = scratch[base + row];
@@ -189,7 +178,6 @@ fn pack_list(
             links[i + 2] = 0;
             at += 1;
         }
-        j += 1;
     }
     at
 }

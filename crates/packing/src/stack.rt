@@ -7,7 +7,7 @@ ghost use Rattle.packing.specs.Roles.{rows, link_parts, list_parts, number_parts
 ghost use Rattle.packing.specs.Stack.{present, RoomFor, Pushed, HoldsNumber};
 
 use crate::roles::{CHILD, ENTRIES, NAME, NAMES, NODES, STRING, role};
-use ast::{ABSENT, LINK_WIDTH, NODE_WIDTH};
+use ast::{ABSENT, LINK_WIDTH, NODE_WIDTH, PARENT};
 
 // What a part is: a row; the name in a link row; a string, whose symbol stands at that number of its row, and LETTERS more. Another number is the place of a name in a row.
 pub(crate) const ROW: u32 = 0;
@@ -87,9 +87,7 @@ fn push_list(
     ensures { Pushed (rows nodes.now links.now) base top (list_parts sort links.now from count) stack.old stack.new result }
 {
     let mut above = top;
-    let mut left = count;
-    while left > 0 {
-        left -= 1;
+    for left in (0..count).rev() {
         above = push_link(stack, base, above, nodes, links, sort, from + left);
     }
     above
@@ -135,9 +133,7 @@ pub(crate) fn push_parts(
 {
     let kind = nodes[NODE_WIDTH * (row as usize)];
     let mut above = top;
-    let mut j = 9;
-    while j > 0 {
-        j -= 1;
+    for j in (0..PARENT).rev() {
         above = push_number(stack, base, above, nodes, links, row, j, role(kind, j));
     }
     above

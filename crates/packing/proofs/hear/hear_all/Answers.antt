@@ -12,7 +12,7 @@ use Rattle.packing.specs.Roles.{rows}
 use Rattle.packing.proofs.Beginning.{begun, statement_heard, statement_dropped, some_heard}
 use Rattle.packing.proofs.Rooting.{root_ends, statement_below, statement_is}
 use Rattle.packing.proofs.hear.hear_all.Goals as goal
-use Rattle.packing.proofs.hear.hear_all.Goals.{In-loop-j, then-choice-j-ne0, else-choice-j-ne0}
+use Rattle.packing.proofs.hear.hear_all.Goals.{In-loop-j, then-kept-ne0, else-kept-ne0}
 
 -- a turn of the loop
 abbrev rows_at : In-loop-j → Rows
@@ -67,9 +67,9 @@ loop-j-preserved c =
     let a = c.args in
     let (h, i, m, k) = l.invariant in
     let z : l.j + 1 ≡ suc l.j = omega arith in
-    elim c.if-choice-j-ne0.branch [
-      | then-choice-j-ne0 w ↦ (rw (w.symbols-is, w.scratch-is, w.known-is, z) (statement_heard a.choice.now h w.if-choice-j-ne0.true (rw (row_is t) at w.hear_row-known.ensures)), omega arith, rw w.symbols-is (w.hear_row-known.auto.symbols ∙ m), rw w.scratch-is (w.hear_row-known.auto.scratch ∙ k))
-      | else-choice-j-ne0 w ↦ (rw (w.symbols-is, w.scratch-is, w.known-is, z) (statement_dropped a.choice.now h w.if-choice-j-ne0.false), omega arith, rw w.symbols-is m, rw w.scratch-is k)
+    elim c.if-kept-ne0.branch [
+      | then-kept-ne0 w ↦ (rw (w.symbols-is, w.scratch-is, w.known-is, z) (statement_heard a.choice.now h w.if-kept-ne0.true (rw (row_is t) at w.hear_row-known.ensures)), omega arith, rw w.symbols-is (w.hear_row-known.auto.symbols ∙ m), rw w.scratch-is (w.hear_row-known.auto.scratch ∙ k))
+      | else-kept-ne0 w ↦ (rw (w.symbols-is, w.scratch-is, w.known-is, z) (statement_dropped a.choice.now h w.if-kept-ne0.false), omega arith, rw w.symbols-is m, rw w.scratch-is k)
     ]
 
 pub returns : goal.returns

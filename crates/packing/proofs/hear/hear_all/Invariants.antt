@@ -9,6 +9,3 @@ use Rattle.packing.proofs.hear.hear_all.Given as goal
 
 abbrev pub invariant-loop-j : goal.invariant-loop-j
 invariant-loop-j l = HearingAll l.s l.builtins l.initial.symbols (keeps l.choice) (rows l.nodes l.links) l.j l.symbols l.scratch l.known × (l.j ≤ length l.choice) × (length l.symbols ≡ length l.initial.symbols) × (length l.scratch ≡ length l.initial.scratch)
-
-abbrev pub decreases-loop-j : goal.decreases-loop-j
-decreases-loop-j l = length l.choice - l.j

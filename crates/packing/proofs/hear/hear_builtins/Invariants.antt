@@ -7,6 +7,3 @@ use Rattle.packing.proofs.hear.hear_builtins.Given as goal
 
 abbrev pub invariant-loop-x : goal.invariant-loop-x
 invariant-loop-x l = Built l.x l.initial.scratch l.scratch × (l.x ≤ l.builtins) × (length l.scratch ≡ length l.initial.scratch)
-
-abbrev pub decreases-loop-x : goal.decreases-loop-x
-decreases-loop-x l = l.builtins - l.x

@@ -6,6 +6,3 @@ use Rattle.packing.proofs.keep.count.Given as goal
 
 abbrev pub invariant-loop-i : goal.invariant-loop-i
 invariant-loop-i l = Counting (rows l.nodes l.links) l.choice l.base l.i l.before l.initial.scratch l.scratch
-
-abbrev pub decreases-loop-i : goal.decreases-loop-i
-decreases-loop-i l = l.root - l.i

@@ -7,7 +7,7 @@ use Rattle.grammar.specs.Room.{link_width}
 use Rattle.packing.specs.Roles.{rows}
 use Rattle.packing.proofs.Keeping.{low_on, low_written, none_marked, row_below, link_there, statement_marked, statement_passed}
 use Rattle.packing.proofs.keep.mark.Goals as goal
-use Rattle.packing.proofs.keep.mark.Goals.{In-loop-j, then-choice-j-ne0, else-choice-j-ne0}
+use Rattle.packing.proofs.keep.mark.Goals.{In-loop-j, then-kept-ne0, else-kept-ne0}
 
 -- the statement's link
 abbrev link : In-loop-j → ℕ
@@ -53,9 +53,9 @@ bounds-scratch-base c = inside (goal.at.bounds-scratch-base c).In-loop-j
 
 pub loop-j-preserved : goal.loop-j-preserved
 loop-j-preserved c =
-    elim c.if-choice-j-ne0.branch [
-      | then-choice-j-ne0 w ↦ statement_marked c.requires (sym c.zero.ensures.size) c.loop-j.invariant c.loop-j-test.true w.if-choice-j-ne0.true w.scratch-is
-      | else-choice-j-ne0 w ↦ statement_passed c.requires (sym c.zero.ensures.size) c.loop-j.invariant c.loop-j-test.true w.if-choice-j-ne0.false w.scratch-is
+    elim c.if-kept-ne0.branch [
+      | then-kept-ne0 w ↦ statement_marked c.requires (sym c.zero.ensures.size) c.loop-j.invariant c.loop-j-test.true w.if-kept-ne0.true w.scratch-is
+      | else-kept-ne0 w ↦ statement_passed c.requires (sym c.zero.ensures.size) c.loop-j.invariant c.loop-j-test.true w.if-kept-ne0.false w.scratch-is
     ]
 
 pub returns : goal.returns

@@ -7,6 +7,3 @@ use Rattle.packing.proofs.keep.mark.Given as goal
 
 abbrev pub invariant-loop-j : goal.invariant-loop-j
 invariant-loop-j l = Marking (rows l.nodes l.links) l.choice l.base l.n l.j l.initial.scratch l.scratch
-
-abbrev pub decreases-loop-j : goal.decreases-loop-j
-decreases-loop-j l = length l.choice - l.j

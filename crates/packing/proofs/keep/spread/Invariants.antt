@@ -5,6 +5,3 @@ use Rattle.packing.proofs.keep.spread.Given as goal
 
 abbrev pub invariant-loop-i : goal.invariant-loop-i
 invariant-loop-i l = Spreading (rows l.nodes l.links) l.choice l.base l.i l.initial.scratch l.scratch
-
-abbrev pub decreases-loop-i : goal.decreases-loop-i
-decreases-loop-i l = l.i

@@ -6,6 +6,3 @@ use Rattle.packing.proofs.pack.move_list.Given as goal
 
 abbrev pub invariant-loop-k : goal.invariant-loop-k
 invariant-loop-k l = Listed (moving l.scratch l.m) l.sort l.initial.links l.from l.to l.k l.links × (l.k ≤ l.count)
-
-abbrev pub decreases-loop-k : goal.decreases-loop-k
-decreases-loop-k l = l.count - l.k

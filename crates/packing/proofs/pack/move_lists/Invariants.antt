@@ -6,6 +6,3 @@ use Rattle.packing.proofs.pack.move_lists.Given as goal
 
 abbrev pub invariant-loop-j : goal.invariant-loop-j
 invariant-loop-j l = ListsDone (moving l.scratch l.m) l.nodes l.initial.links l.row l.m.to l.to l.j l.links
-
-abbrev pub decreases-loop-j : goal.decreases-loop-j
-decreases-loop-j l = 9 - l.j

@@ -6,6 +6,3 @@ use Rattle.packing.proofs.pack.move_row.Given as goal
 
 abbrev pub invariant-loop-j : goal.invariant-loop-j
 invariant-loop-j l = Rowed (moving l.scratch l.m) l.initial.nodes l.row l.to l.j l.nodes
-
-abbrev pub decreases-loop-j : goal.decreases-loop-j
-decreases-loop-j l = 10 - l.j

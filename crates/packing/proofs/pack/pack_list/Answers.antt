@@ -6,7 +6,7 @@ use lib.ListN.{length, get_or, length-set}
 use Rattle.grammar.specs.Room.{link_width}
 use Rattle.packing.proofs.Moving.{none_chosen, still_statement, statement_left, statement_kept}
 use Rattle.packing.proofs.pack.pack_list.Goals as goal
-use Rattle.packing.proofs.pack.pack_list.Goals.{In-loop-j, then-choice-j-ne0, else-choice-j-ne0}
+use Rattle.packing.proofs.pack.pack_list.Goals.{In-loop-j, then-kept-ne0, else-kept-ne0}
 
 -- the statement's row has a number in the room
 row_inside : (c : In-loop-j) → c.args.base + get_or c.loop-j.links (link_width * (c.args.first + c.loop-j.j)) 0 < length c.args.scratch.now
@@ -37,23 +37,23 @@ offset_bounds-links-i c = omega (arith, room (goal.at.offset_bounds-links-i c).I
 pub bounds-links-i : goal.bounds-links-i
 bounds-links-i c = omega (arith, room (goal.at.bounds-links-i c).In-loop-j)
 
-pub overflow_add-links-then-choice-j-ne0 : goal.overflow_add-links-then-choice-j-ne0
-overflow_add-links-then-choice-j-ne0 c = omega (arith, room (goal.at.overflow_add-links-then-choice-j-ne0 c).In-loop-j)
+pub overflow_add-links-then-kept-ne0 : goal.overflow_add-links-then-kept-ne0
+overflow_add-links-then-kept-ne0 c = omega (arith, room (goal.at.overflow_add-links-then-kept-ne0 c).In-loop-j)
 
-pub offset_bounds-links-i-then-choice-j-ne0 : goal.offset_bounds-links-i-then-choice-j-ne0
-offset_bounds-links-i-then-choice-j-ne0 c = omega (arith, room (goal.at.offset_bounds-links-i-then-choice-j-ne0 c).In-loop-j)
+pub offset_bounds-links-i-then-kept-ne0 : goal.offset_bounds-links-i-then-kept-ne0
+offset_bounds-links-i-then-kept-ne0 c = omega (arith, room (goal.at.offset_bounds-links-i-then-kept-ne0 c).In-loop-j)
 
-pub bounds-links-i-then-choice-j-ne0 : goal.bounds-links-i-then-choice-j-ne0
-bounds-links-i-then-choice-j-ne0 c = simp length-set (omega (arith, room (goal.at.bounds-links-i-then-choice-j-ne0 c).In-loop-j))
+pub bounds-links-i-then-kept-ne0 : goal.bounds-links-i-then-kept-ne0
+bounds-links-i-then-kept-ne0 c = simp length-set (omega (arith, room (goal.at.bounds-links-i-then-kept-ne0 c).In-loop-j))
 
-pub overflow_add-links-then-choice-j-ne0-2 : goal.overflow_add-links-then-choice-j-ne0-2
-overflow_add-links-then-choice-j-ne0-2 c = omega (arith, room (goal.at.overflow_add-links-then-choice-j-ne0-2 c).In-loop-j)
+pub overflow_add-links-then-kept-ne0-2 : goal.overflow_add-links-then-kept-ne0-2
+overflow_add-links-then-kept-ne0-2 c = omega (arith, room (goal.at.overflow_add-links-then-kept-ne0-2 c).In-loop-j)
 
-pub offset_bounds-links-i-then-choice-j-ne0-2 : goal.offset_bounds-links-i-then-choice-j-ne0-2
-offset_bounds-links-i-then-choice-j-ne0-2 c = omega (arith, room (goal.at.offset_bounds-links-i-then-choice-j-ne0-2 c).In-loop-j)
+pub offset_bounds-links-i-then-kept-ne0-2 : goal.offset_bounds-links-i-then-kept-ne0-2
+offset_bounds-links-i-then-kept-ne0-2 c = omega (arith, room (goal.at.offset_bounds-links-i-then-kept-ne0-2 c).In-loop-j)
 
-pub bounds-links-i-then-choice-j-ne0-2 : goal.bounds-links-i-then-choice-j-ne0-2
-bounds-links-i-then-choice-j-ne0-2 c = simp length-set (omega (arith, room (goal.at.bounds-links-i-then-choice-j-ne0-2 c).In-loop-j))
+pub bounds-links-i-then-kept-ne0-2 : goal.bounds-links-i-then-kept-ne0-2
+bounds-links-i-then-kept-ne0-2 c = simp length-set (omega (arith, room (goal.at.bounds-links-i-then-kept-ne0-2 c).In-loop-j))
 
 pub overflow_add-at : goal.overflow_add-at
 overflow_add-at c = omega (arith, room (goal.at.overflow_add-at c).In-loop-j)
@@ -61,9 +61,9 @@ overflow_add-at c = omega (arith, room (goal.at.overflow_add-at c).In-loop-j)
 pub loop-j-preserved : goal.loop-j-preserved
 loop-j-preserved c =
     let b = (goal.at.loop-j-preserved c).In-loop-j in
-    elim c.if-choice-j-ne0.branch [
-      | then-choice-j-ne0 w ↦ statement_kept b.loop-j.invariant b.loop-j-test.true b.requires.back (room b) w.if-choice-j-ne0.true w.links-is w.at-is
-      | else-choice-j-ne0 w ↦ statement_left b.loop-j.invariant b.loop-j-test.true w.if-choice-j-ne0.false w.links-is w.at-is
+    elim c.if-kept-ne0.branch [
+      | then-kept-ne0 w ↦ statement_kept b.loop-j.invariant b.loop-j-test.true b.requires.back (room b) w.if-kept-ne0.true w.links-is w.at-is
+      | else-kept-ne0 w ↦ statement_left b.loop-j.invariant b.loop-j-test.true w.if-kept-ne0.false w.links-is w.at-is
     ]
 
 pub returns : goal.returns

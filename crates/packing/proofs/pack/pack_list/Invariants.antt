@@ -6,6 +6,3 @@ use Rattle.packing.proofs.pack.pack_list.Given as goal
 
 abbrev pub invariant-loop-j : goal.invariant-loop-j
 invariant-loop-j l = Chosen l.initial.links l.scratch l.base l.choice l.first l.to l.at l.j l.links
-
-abbrev pub decreases-loop-j : goal.decreases-loop-j
-decreases-loop-j l = length l.choice - l.j

@@ -6,6 +6,3 @@ use Rattle.packing.proofs.pack.pack_rows.Given as goal
 
 abbrev pub invariant-loop-i : goal.invariant-loop-i
 invariant-loop-i l = Packing (rows l.initial.nodes l.initial.links) l.base l.symbols l.scratch l.i l.from l.to l.nodes l.links
-
-abbrev pub decreases-loop-i : goal.decreases-loop-i
-decreases-loop-i l = l.root - l.i

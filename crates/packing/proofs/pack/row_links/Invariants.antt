@@ -5,6 +5,3 @@ use Rattle.packing.proofs.pack.row_links.Given as goal
 
 abbrev pub invariant-loop-j : goal.invariant-loop-j
 invariant-loop-j l = Sized l.nodes l.row l.j l.size
-
-abbrev pub decreases-loop-j : goal.decreases-loop-j
-decreases-loop-j l = 9 - l.j

@@ -8,6 +8,3 @@ use Rattle.packing.proofs.stack.push_list.Given as goal
 
 abbrev pub invariant-loop-left : goal.invariant-loop-left
 invariant-loop-left l = Pushed (rows l.nodes l.links) l.base l.top (list_parts l.sort l.links (l.from + l.left) (l.count - l.left)) l.initial.stack l.stack l.above × (l.left ≤ l.count) × (length l.stack ≡ length l.initial.stack)
-
-abbrev pub decreases-loop-left : goal.decreases-loop-left
-decreases-loop-left l = l.left

@@ -8,6 +8,3 @@ use Rattle.packing.proofs.stack.push_parts.Given as goal
 
 abbrev pub invariant-loop-j : goal.invariant-loop-j
 invariant-loop-j l = Pushed (rows l.nodes l.links) l.base l.top (numbers_parts l.nodes l.links l.row l.j (9 - l.j)) l.initial.stack l.stack l.above × (l.j ≤ 9) × (length l.stack ≡ length l.initial.stack)
-
-abbrev pub decreases-loop-j : goal.decreases-loop-j
-decreases-loop-j l = l.j
