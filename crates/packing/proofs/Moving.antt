@@ -6,7 +6,7 @@ use mathlib.Core.Bool.{true, false, cond}
 use mathlib.Core.List.{List, [], ◌∷◌, ◌++◌, append-nil}
 use mathlib.Core.Path.{◌≡◌, refl, sym, ap, ◌∙◌}
 use lib.Dec.{eqb, leb}
-use lib.ListN.{length, get_or, set, length-set}
+use lib.ListN.{length, get_or, set}
 use lib.Seq.{get_or-drop}
 use borrow.Author.Tests.{le-leb, lt-leb, ne_eqb}
 use Rattle.grammar.specs.Room.{node_width, own_width, link_width}
@@ -43,17 +43,6 @@ unchanged {b = b} {l = l} {m} j h w =
     let e : b + (j - b) ≡ j = omega arith in
     rw e at (sym (get_or-drop b m (j - b) 0) ∙ ap (λ (ys : List ℕ). get_or ys (j - b) 0) w.rest ∙ get_or-drop b l (j - b) 0)
 
--- three numbers more
-three_stored : (l : List ℕ) (i x y z : ℕ) → i + 3 ≤ length l → Written i (i + 3) (x ∷ y ∷ z ∷ []) l (set (set (set l i x) (i + 1) y) (i + 2) z)
-three_stored l i x y z h =
-    let l₁ = set l i x in
-    let l₂ = set l₁ (i + 1) y in
-    let s₁ = length-set l i x in
-    let s₂ = length-set l₁ (i + 1) y in
-    let e : i + 2 + 1 ≡ i + 3 = omega arith in
-    let d : i + 1 + 1 ≡ i + 2 = omega arith in
-    said refl e refl (joined (omega arith) (said refl d refl (joined (omega arith) (stored l i x (omega arith)) (stored l₁ (i + 1) y (omega arith)))) (stored l₂ (i + 2) z (omega arith)))
-
 list_next : (m : Move) (r : ℕ) (l : List ℕ) (from k : ℕ) {x y z : ℕ} → x ≡ cond (eqb r 5) (m.symbol (linked l (from + k) 0)) (moved_node m (linked l (from + k) 0)) → y ≡ cond (eqb r 6) (moved_node m (linked l (from + k) 1)) (linked l (from + k) 1) → z ≡ linked l (from + k) 2 →
     list_moved m r l from k ++ (x ∷ y ∷ z ∷ []) ≡ list_moved m r l from (k + 1)
 unfolding list_moved link_moved
@@ -78,15 +67,16 @@ module _ {m : Move} {r : ℕ} {l : List ℕ} {from to k : ℕ} {ls : List ℕ} (
   still_second = still 1
 
   -- one link more
-  pub link_turn : {x y : ℕ} → link_width * (to + k) + 3 ≤ length ls →
+  pub link_turn : {x y : ℕ} {ls' : List ℕ} →
       x ≡ cond (eqb r 5) (m.symbol (get_or ls (link_width * (from + k)) 0)) (moved_node m (get_or ls (link_width * (from + k)) 0)) →
       y ≡ cond (eqb r 6) (moved_node m (get_or ls (link_width * (from + k) + 1) 0)) (get_or ls (link_width * (from + k) + 1) 0) →
-      Listed m r l from to (k + 1) (set (set (set ls (link_width * (to + k)) x) (link_width * (to + k) + 1) y) (link_width * (to + k) + 2) (get_or ls (link_width * (from + k) + 2) 0))
-  link_turn {x} {y} room a b =
-      let e : link_width * (to + k) + 3 ≡ link_width * (to + (k + 1)) = omega arith in
+      Written (link_width * (to + k)) (link_width * (to + k) + link_width) (x ∷ y ∷ get_or ls (link_width * (from + k) + 2) 0 ∷ []) ls ls' →
+      Listed m r l from to (k + 1) ls'
+  link_turn {x} {y} a b put =
+      let e : link_width * (to + k) + link_width ≡ link_width * (to + (k + 1)) = omega arith in
       let g : x ≡ cond (eqb r 5) (m.symbol (linked l (from + k) 0)) (moved_node m (linked l (from + k) 0)) = a ∙ rw still_first refl in
       let h : y ≡ cond (eqb r 6) (moved_node m (linked l (from + k) 1)) (linked l (from + k) 1) = b ∙ rw (still 1) refl in
-      record { done = said refl e (list_next m r l from k g h (still 2)) (joined (omega arith) w.done (three_stored ls (link_width * (to + k)) x y (get_or ls (link_width * (from + k) + 2) 0) room)) }
+      record { done = said refl e (list_next m r l from k g h (still 2)) (joined (omega arith) w.done put) }
 
 -- a row's kind and numbers, as the code reads them
 module _ (ns : List ℕ) (row : ℕ) where
@@ -199,10 +189,6 @@ module _ {m : Move} {ns l ls : List ℕ} {row start to j r : ℕ} (d : ListsDone
         most = omega arith;
       }
 
--- one number more behind so many
-pub one_more : {i : ℕ} (k : ℕ) {xs l m : List ℕ} (x : ℕ) → i + k < length m → Written i (i + k) xs l m → Written i (i + (k + 1)) (xs ++ (x ∷ [])) l (set m (i + k) x)
-one_more {i} k {m = m} x h w = let e : i + k + 1 ≡ i + (k + 1) = omega arith in said refl e refl (joined (omega arith) w (stored m (i + k) x h))
-
 -- the root's list so far: the statements that are kept
 pub record Chosen (l sc : List ℕ) (base : ℕ) (choice : List ℕ) (first to at j : ℕ) (ls : List ℕ) : Type 0 where
   pub done : Written (link_width * to) (link_width * at) (chosen l sc base choice first j) l ls
@@ -238,32 +224,16 @@ module _ {l sc : List ℕ} {base : ℕ} {choice : List ℕ} {first to at' j : �
         most = omega arith;
       }
 
-  pub statement_kept : {at'' : ℕ} {ls' : List ℕ} → to ≤ first → link_width * at' + 3 ≤ length ls → (get_or choice j 0 ≡ 0 → ⊥) → ls' ≡ set (set (set ls (link_width * at') (get_or sc (base + get_or ls (link_width * (first + j)) 0) 0)) (link_width * at' + 1) 0) (link_width * at' + 2) 0 → at'' ≡ at' + 1 → Chosen l sc base choice first to at'' (j + 1) ls'
-  statement_kept back room e p q =
+  pub statement_kept : {at'' : ℕ} {ls' ls'' : List ℕ} → to ≤ first → (get_or choice j 0 ≡ 0 → ⊥) → Written (link_width * at') (link_width * at' + link_width) (get_or sc (base + get_or ls (link_width * (first + j)) 0) 0 ∷ 0 ∷ 0 ∷ []) ls ls'' → ls' ≡ ls'' → at'' ≡ at' + 1 → Chosen l sc base choice first to at'' (j + 1) ls'
+  statement_kept back e put p q =
       let f : keeps choice j ≡ true = rw (ne_eqb (get_or choice j 0) 0 e) refl in
       let x = get_or sc (base + get_or ls (link_width * (first + j)) 0) 0 in
       let y : x ≡ get_or sc (base + linked l (first + j) 0) 0 = ap (λ (k : ℕ). get_or sc (base + k) 0) (still_statement back) in
-      let z : link_width * at' + 3 ≡ link_width * (at' + 1) = omega arith in
+      let z : link_width * at' + link_width ≡ link_width * (at' + 1) = omega arith in
       rw (p, q) record {
-        done = said refl z (ap (λ (k : ℕ). chosen l sc base choice first j ++ (k ∷ 0 ∷ 0 ∷ [])) y ∙ sym (chosen_next ∙ rw f refl)) (joined (omega arith) d.done (three_stored ls (link_width * at') x 0 0 room));
+        done = said refl z (ap (λ (k : ℕ). chosen l sc base choice first j ++ (k ∷ 0 ∷ 0 ∷ [])) y ∙ sym (chosen_next ∙ rw f refl)) (joined (omega arith) d.done put);
         reached = omega (arith, d.reached, rw f at count_next);
         few = omega (arith, d.few);
         low = omega (arith, d.low);
         most = omega arith;
       }
-
--- a row's ten numbers, one after another
-pub ten_stored : (l : List ℕ) (i a b c d e f g h j k : ℕ) → i + 10 ≤ length l →
-    Written i (i + 10) (a ∷ b ∷ c ∷ d ∷ e ∷ f ∷ g ∷ h ∷ j ∷ k ∷ []) l
-    (set (set (set (set (set (set (set (set (set (set l i a) (i + 1) b) (i + 2) c) (i + 3) d) (i + 4) e) (i + 5) f) (i + 6) g) (i + 7) h) (i + 8) j) (i + 9) k)
-ten_stored l i a b c d e f g h j k r =
-    let w₁ = stored l i a (omega arith) in
-    let w₂ = one_more 1 b (omega (arith, w₁.size)) w₁ in
-    let w₃ = one_more 2 c (omega (arith, w₂.size)) w₂ in
-    let w₄ = one_more 3 d (omega (arith, w₃.size)) w₃ in
-    let w₅ = one_more 4 e (omega (arith, w₄.size)) w₄ in
-    let w₆ = one_more 5 f (omega (arith, w₅.size)) w₅ in
-    let w₇ = one_more 6 g (omega (arith, w₆.size)) w₆ in
-    let w₈ = one_more 7 h (omega (arith, w₇.size)) w₇ in
-    let w₉ = one_more 8 j (omega (arith, w₈.size)) w₈ in
-    one_more 9 k (omega (arith, w₉.size)) w₉

@@ -1,5 +1,5 @@
 // Rows and links moved to the front, in place: each goes to its own place or before it, so what is still to be moved is not yet overwritten.
-ghost use Rattle.std.specs.Prelude.{◌+◌, ◌*◌, ◌≤◌, cond, ◌≡◌, eqb, length};
+ghost use Rattle.std.specs.Prelude.{◌+◌, ◌*◌, ◌≤◌, [], ◌∷◌, cond, ◌≡◌, eqb, length};
 ghost use Rattle.grammar.specs.Room.{node_width, link_width};
 ghost use Rattle.ast.specs.Written.{Written};
 ghost use Rattle.parts.specs.Moved.{moved_node};
@@ -46,6 +46,16 @@ fn link_second(scratch: &[u32], m: Maps, sort: u32, y: u32) -> u32
     y
 }
 
+// The three numbers of a link row.
+// Ruled out: the numbers of the row before; a fourth number that changes.
+fn put_link(links: &mut [u32], k: usize, x: u32, y: u32, z: u32)
+    requires { link_width * k + link_width ≤ length links.old }
+    ensures { Written (link_width * k) (link_width * k + link_width) (x ∷ y ∷ z ∷ []) links.old links.new }
+{
+    let i = LINK_WIDTH * k;
+    links[i..i + LINK_WIDTH].copy_from_slice(&[x, y, z]);
+}
+
 // The links of a list, to a place at or before theirs.
 // Ruled out: the last link left behind; a name's place moved.
 fn move_list(
@@ -65,10 +75,7 @@ fn move_list(
         let x = link_first(scratch, m, sort, links[i]);
         let y = link_second(scratch, m, sort, links[i + 1]);
         let z = links[i + 2];
-        let o = LINK_WIDTH * (to + k);
-        links[o] = x;
-        links[o + 1] = y;
-        links[o + 2] = z;
+        put_link(links, to + k, x, y, z);
     }
 }
 
@@ -172,10 +179,7 @@ fn pack_list(
     for (j, kept) in choice.iter().enumerate() {
         if *kept != 0 {
             let row = links[LINK_WIDTH * (first + j)] as usize;
-            let i = LINK_WIDTH * at;
-            links[i] = scratch[base + row];
-            links[i + 1] = 0;
-            links[i + 2] = 0;
+            put_link(links, at, scratch[base + row], 0, 0);
             at += 1;
         }
     }
@@ -190,16 +194,8 @@ fn pack_root(nodes: &mut [u32], root: usize, to: usize, first: u32, count: u32)
     let start = nodes[NODE_WIDTH * root + 1];
     let end = nodes[NODE_WIDTH * root + 2];
     let i = NODE_WIDTH * to;
-    nodes[i] = kinds::BLOCK;
-    nodes[i + 1] = start;
-    nodes[i + 2] = end;
-    nodes[i + 3] = first;
-    nodes[i + 4] = count;
-    nodes[i + 5] = ABSENT;
-    nodes[i + 6] = 0;
-    nodes[i + 7] = 0;
-    nodes[i + 8] = 0;
-    nodes[i + 9] = ABSENT;
+    let row = [kinds::BLOCK, start, end, first, count, ABSENT, 0, 0, 0, ABSENT];
+    nodes[i..i + NODE_WIDTH].copy_from_slice(&row);
 }
 
 // All rows, the root and its list too; how many links there are.

@@ -1,5 +1,5 @@
 -- `hear_all` meets its contract: the built-in names, and then statement by statement.
-use Prim.Native.Nat.{◌-◌, ◌≤◌}
+use Prim.Native.Nat.{◌≤◌}
 use mathlib.Core.Path.{◌≡◌}
 use lib.ListN.{length}
 use Rattle.parts.specs.Packed.{keeps}

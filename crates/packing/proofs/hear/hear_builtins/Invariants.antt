@@ -1,5 +1,5 @@
 -- `hear_builtins` meets its contract: the symbols so far are known.
-use Prim.Native.Nat.{◌-◌, ◌≤◌}
+use Prim.Native.Nat.{◌≤◌}
 use mathlib.Core.Path.{◌≡◌}
 use lib.ListN.{length}
 use Rattle.packing.specs.Known.{Built}

@@ -1,5 +1,4 @@
 -- `count` meets its contract: rows so far have their place, those from there on are still marked.
-use Prim.Native.Nat.{◌-◌}
 use Rattle.packing.specs.Roles.{rows}
 use Rattle.packing.proofs.Keeping.{Counting}
 use Rattle.packing.proofs.keep.count.Given as goal

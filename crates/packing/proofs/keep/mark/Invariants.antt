@@ -1,6 +1,4 @@
 -- `mark` meets its contract: after zeros, the statements so far that are kept are marked.
-use Prim.Native.Nat.{◌-◌}
-use lib.ListN.{length}
 use Rattle.packing.specs.Roles.{rows}
 use Rattle.packing.proofs.Keeping.{Marking}
 use Rattle.packing.proofs.keep.mark.Given as goal

@@ -1,5 +1,5 @@
 -- `move_list` meets its contract: the links so far are moved, and those from the place that is read on are as they were.
-use Prim.Native.Nat.{◌-◌, ◌≤◌}
+use Prim.Native.Nat.{◌≤◌}
 use Rattle.packing.specs.Rows.{moving}
 use Rattle.packing.proofs.Moving.{Listed}
 use Rattle.packing.proofs.pack.move_list.Given as goal

@@ -1,5 +1,4 @@
 -- `move_lists` meets its contract: the lists among the numbers so far are moved, one behind another, and those after them are as they were.
-use Prim.Native.Nat.{◌-◌}
 use Rattle.packing.specs.Rows.{moving}
 use Rattle.packing.proofs.Moving.{ListsDone}
 use Rattle.packing.proofs.pack.move_lists.Given as goal

@@ -1,5 +1,4 @@
 -- `move_row` meets its contract: the numbers so far are moved, and those from the one that is read on are as they were.
-use Prim.Native.Nat.{◌-◌}
 use Rattle.packing.specs.Rows.{moving}
 use Rattle.packing.proofs.Moving.{Rowed}
 use Rattle.packing.proofs.pack.move_row.Given as goal

@@ -2,7 +2,7 @@
 use Prim.Native.Nat.{◌+◌, ◌*◌, ◌≤◌, ◌<◌}
 use native.Mathlib.Omega.{arith}
 use mathlib.Core.Path.{◌≡◌}
-use lib.ListN.{length, get_or, length-set}
+use lib.ListN.{length, get_or}
 use Rattle.grammar.specs.Room.{link_width}
 use Rattle.packing.proofs.Moving.{none_chosen, still_statement, statement_left, statement_kept}
 use Rattle.packing.proofs.pack.pack_list.Goals as goal
@@ -19,11 +19,8 @@ room c = let s = c in omega (arith, c.loop-j.invariant.done.size, c.loop-j.invar
 pub loop-j-init : goal.loop-j-init
 loop-j-init c = let a = c.args in none_chosen a.links.now a.scratch.now a.base a.choice.now a.first a.to
 
-pub overflow_mul-i : goal.overflow_mul-i
-overflow_mul-i c = omega (arith, room (goal.at.overflow_mul-i c).In-loop-j)
-
-pub overflow_add-links : goal.overflow_add-links
-overflow_add-links c = omega (arith, row_inside (goal.at.overflow_add-links c).In-loop-j)
+pub overflow_add-base : goal.overflow_add-base
+overflow_add-base c = omega (arith, row_inside (goal.at.overflow_add-base c).In-loop-j)
 
 pub offset_bounds-scratch-base : goal.offset_bounds-scratch-base
 offset_bounds-scratch-base c = omega (arith, row_inside (goal.at.offset_bounds-scratch-base c).In-loop-j)
@@ -31,29 +28,8 @@ offset_bounds-scratch-base c = omega (arith, row_inside (goal.at.offset_bounds-s
 pub bounds-scratch-base : goal.bounds-scratch-base
 bounds-scratch-base c = row_inside (goal.at.bounds-scratch-base c).In-loop-j
 
-pub offset_bounds-links-i : goal.offset_bounds-links-i
-offset_bounds-links-i c = omega (arith, room (goal.at.offset_bounds-links-i c).In-loop-j)
-
-pub bounds-links-i : goal.bounds-links-i
-bounds-links-i c = omega (arith, room (goal.at.bounds-links-i c).In-loop-j)
-
-pub overflow_add-links-then-kept-ne0 : goal.overflow_add-links-then-kept-ne0
-overflow_add-links-then-kept-ne0 c = omega (arith, room (goal.at.overflow_add-links-then-kept-ne0 c).In-loop-j)
-
-pub offset_bounds-links-i-then-kept-ne0 : goal.offset_bounds-links-i-then-kept-ne0
-offset_bounds-links-i-then-kept-ne0 c = omega (arith, room (goal.at.offset_bounds-links-i-then-kept-ne0 c).In-loop-j)
-
-pub bounds-links-i-then-kept-ne0 : goal.bounds-links-i-then-kept-ne0
-bounds-links-i-then-kept-ne0 c = simp length-set (omega (arith, room (goal.at.bounds-links-i-then-kept-ne0 c).In-loop-j))
-
-pub overflow_add-links-then-kept-ne0-2 : goal.overflow_add-links-then-kept-ne0-2
-overflow_add-links-then-kept-ne0-2 c = omega (arith, room (goal.at.overflow_add-links-then-kept-ne0-2 c).In-loop-j)
-
-pub offset_bounds-links-i-then-kept-ne0-2 : goal.offset_bounds-links-i-then-kept-ne0-2
-offset_bounds-links-i-then-kept-ne0-2 c = omega (arith, room (goal.at.offset_bounds-links-i-then-kept-ne0-2 c).In-loop-j)
-
-pub bounds-links-i-then-kept-ne0-2 : goal.bounds-links-i-then-kept-ne0-2
-bounds-links-i-then-kept-ne0-2 c = simp length-set (omega (arith, room (goal.at.bounds-links-i-then-kept-ne0-2 c).In-loop-j))
+pub put_link-requires : goal.put_link-requires
+put_link-requires c = omega (arith, room (goal.at.put_link-requires c).In-loop-j)
 
 pub overflow_add-at : goal.overflow_add-at
 overflow_add-at c = omega (arith, room (goal.at.overflow_add-at c).In-loop-j)
@@ -62,7 +38,7 @@ pub loop-j-preserved : goal.loop-j-preserved
 loop-j-preserved c =
     let b = (goal.at.loop-j-preserved c).In-loop-j in
     elim c.if-kept-ne0.branch [
-      | then-kept-ne0 w ↦ statement_kept b.loop-j.invariant b.loop-j-test.true b.requires.back (room b) w.if-kept-ne0.true w.links-is w.at-is
+      | then-kept-ne0 w ↦ statement_kept b.loop-j.invariant b.loop-j-test.true b.requires.back w.if-kept-ne0.true w.put_link.ensures w.links-is w.at-is
       | else-kept-ne0 w ↦ statement_left b.loop-j.invariant b.loop-j-test.true w.if-kept-ne0.false w.links-is w.at-is
     ]
 

@@ -1,6 +1,4 @@
 -- `pack_list` meets its contract: the statements so far that are kept stand in the list, and those after them are as they were.
-use Prim.Native.Nat.{◌-◌}
-use lib.ListN.{length}
 use Rattle.packing.proofs.Moving.{Chosen}
 use Rattle.packing.proofs.pack.pack_list.Given as goal
 

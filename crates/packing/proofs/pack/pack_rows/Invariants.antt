@@ -1,5 +1,4 @@
 -- `pack_rows` meets its contract: the rows so far are packed, whatever the choice was, and those from there on are as they were.
-use Prim.Native.Nat.{◌-◌}
 use Rattle.packing.specs.Roles.{rows}
 use Rattle.packing.proofs.Packing.{Packing}
 use Rattle.packing.proofs.pack.pack_rows.Given as goal

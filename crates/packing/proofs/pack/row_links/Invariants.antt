@@ -1,5 +1,4 @@
 -- `row_links` meets its contract: what is counted is the links of the lists among the numbers so far.
-use Prim.Native.Nat.{◌-◌}
 use Rattle.packing.proofs.Moving.{Sized}
 use Rattle.packing.proofs.pack.row_links.Given as goal
 
