@@ -3,6 +3,7 @@ pub mod Outcomes
 pub mod Reading
 pub mod Again
 -- roles and slots, and rows that passed the check
+pub mod Digits
 pub mod Slots
 pub mod Numbers
 -- what waits

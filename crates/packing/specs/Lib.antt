@@ -1,4 +1,5 @@
 -- in the order of reading
+pub mod Digits
 pub mod Good
 pub mod Answer
 pub mod Roles

@@ -3,47 +3,48 @@ ghost use Rattle.std.specs.Prelude.{◌+◌, ◌*◌, ◌≤◌, [], ◌∷◌, 
 ghost use Rattle.grammar.specs.Room.{node_width, link_width};
 ghost use Rattle.ast.specs.Written.{Written};
 ghost use Rattle.parts.specs.Moved.{moved_node};
+ghost use Rattle.packing.specs.Digits.{digit};
 ghost use Rattle.packing.specs.Roles.{rows, StandsRow, number_moved, list_moved, numbers_moved, lists_moved, lists_size};
 ghost use Rattle.packing.specs.Rows.{moving, MovesNumber, MovesLink, MovesList, MovesRow, MovesLists, Packable, PacksRows, Listable, Lists, root_numbers, PackableAll, PacksAll};
 
 use crate::maps::{Maps, row_to, symbol_to};
-use crate::roles::{CHILD, ENTRIES, NAMES, NODES, PLAIN, role};
+use crate::roles::Role;
 use ast::{ABSENT, LINK_WIDTH, NODE_WIDTH, PARENT, kinds};
 
 // A number of a row, by its role.
 // Ruled out: a list's old place; a row's old number.
-fn number(scratch: &[u32], m: Maps, sort: u32, x: u32) -> u32
-    requires { MovesNumber scratch.now m sort x }
-    ensures { result ≡ number_moved (moving scratch.now m) sort x }
+fn number(scratch: &[u32], m: Maps, role: Role, x: u32) -> u32
+    requires { MovesNumber scratch.now m (digit role) x }
+    ensures { result ≡ number_moved (moving scratch.now m) (digit role) x }
 {
-    match sort {
-        PLAIN => x,
-        CHILD => row_to(scratch, m.base, x),
-        NODES..=ENTRIES => (x as usize - m.from + m.to) as u32,
-        _ => symbol_to(scratch, m.symbols, x),
+    match role {
+        Role::Plain => x,
+        Role::Child => row_to(scratch, m.base, x),
+        Role::Letters | Role::Name => symbol_to(scratch, m.symbols, x),
+        Role::Nodes | Role::Names | Role::Entries => (x as usize - m.from + m.to) as u32,
     }
 }
 
 // The first number of a link row: a name's symbol, or a row.
-fn link_first(scratch: &[u32], m: Maps, sort: u32, x: u32) -> u32
-    requires { MovesLink scratch.now m sort x }
-    ensures { result ≡ cond (eqb sort 5) ((moving scratch.now m).symbol x) (moved_node (moving scratch.now m) x) }
+fn link_first(scratch: &[u32], m: Maps, role: Role, x: u32) -> u32
+    requires { MovesLink scratch.now m (digit role) x }
+    ensures { result ≡ cond (eqb (digit role) 5) ((moving scratch.now m).symbol x) (moved_node (moving scratch.now m) x) }
 {
-    if sort == NAMES {
-        return symbol_to(scratch, m.symbols, x);
+    match role {
+        Role::Names => symbol_to(scratch, m.symbols, x),
+        _ => row_to(scratch, m.base, x),
     }
-    row_to(scratch, m.base, x)
 }
 
 // And the second: a value's row, or a number that stays.
-fn link_second(scratch: &[u32], m: Maps, sort: u32, y: u32) -> u32
-    requires { sort ≡ 6 → MovesLink scratch.now m 6 y }
-    ensures { result ≡ cond (eqb sort 6) (moved_node (moving scratch.now m) y) y }
+fn link_second(scratch: &[u32], m: Maps, role: Role, y: u32) -> u32
+    requires { digit role ≡ 6 → MovesLink scratch.now m 6 y }
+    ensures { result ≡ cond (eqb (digit role) 6) (moved_node (moving scratch.now m) y) y }
 {
-    if sort == ENTRIES {
-        return row_to(scratch, m.base, y);
+    match role {
+        Role::Entries => row_to(scratch, m.base, y),
+        _ => y,
     }
-    y
 }
 
 // The three numbers of a link row.
@@ -62,18 +63,18 @@ fn move_list(
     links: &mut [u32],
     scratch: &[u32],
     m: Maps,
-    sort: u32,
+    role: Role,
     from: usize,
     to: usize,
     count: usize,
 )
-    requires { MovesList scratch.now m sort links.old from to count }
-    ensures { Written (link_width * to) (link_width * (to + count)) (list_moved (moving scratch.now m) sort links.old from count) links.old links.new }
+    requires { MovesList scratch.now m (digit role) links.old from to count }
+    ensures { Written (link_width * to) (link_width * (to + count)) (list_moved (moving scratch.now m) (digit role) links.old from count) links.old links.new }
 {
     for k in 0..count {
         let i = LINK_WIDTH * (from + k);
-        let x = link_first(scratch, m, sort, links[i]);
-        let y = link_second(scratch, m, sort, links[i + 1]);
+        let x = link_first(scratch, m, role, links[i]);
+        let y = link_second(scratch, m, role, links[i + 1]);
         let z = links[i + 2];
         put_link(links, to + k, x, y, z);
     }
@@ -89,10 +90,10 @@ fn move_lists(nodes: &[u32], links: &mut [u32], scratch: &[u32], m: Maps, row: u
     let kind = nodes[base];
     let mut to = m.to;
     for j in 0..PARENT {
-        let sort = role(kind, j);
-        if sort >= NODES {
+        let role = Role::at(kind, j);
+        if role.is_list() {
             let count = nodes[base + j + 1] as usize;
-            move_list(links, scratch, m, sort, nodes[base + j] as usize, to, count);
+            move_list(links, scratch, m, role, nodes[base + j] as usize, to, count);
             to += count;
         }
     }
@@ -108,7 +109,7 @@ fn row_links(nodes: &[u32], row: usize) -> usize
     let kind = nodes[base];
     let mut size = 0;
     for j in 0..PARENT {
-        if role(kind, j) >= NODES {
+        if Role::at(kind, j).is_list() {
             size += nodes[base + j + 1] as usize;
         }
     }
@@ -124,7 +125,7 @@ fn move_row(nodes: &mut [u32], scratch: &[u32], m: Maps, row: usize, to: usize)
     let from = NODE_WIDTH * row;
     let kind = nodes[from];
     for j in 0..NODE_WIDTH {
-        nodes[NODE_WIDTH * to + j] = number(scratch, m, role(kind, j), nodes[from + j]);
+        nodes[NODE_WIDTH * to + j] = number(scratch, m, Role::at(kind, j), nodes[from + j]);
     }
 }
 

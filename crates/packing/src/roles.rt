@@ -1,24 +1,50 @@
 // What each of a node row's ten numbers is, by the row's kind.
-ghost use Rattle.std.specs.Prelude.{◌≤◌, ◌<◌, ◌≡◌};
-ghost use Rattle.packing.specs.Roles.{role as role-of, all_roles};
+ghost use Rattle.std.specs.Prelude.{◌≤◌, ◌<◌, ◌≡◌, ◌↔◌, IsTrue};
+ghost use Rattle.packing.specs.Digits.{digit};
+ghost use Rattle.packing.specs.Roles.{role, all_roles};
 
 use ast::kinds;
 
 // A number that stays; a row, or absent; a string's symbol; a name's symbol, with its place behind it; and the first link row of a list of rows, of names, of keys with values, with its
 // count behind it.
-pub(crate) const PLAIN: u32 = 0;
+#[derive(Clone, Copy)]
+pub(crate) enum Role {
+    Plain,
+    Child,
+    Letters,
+    Name,
+    Nodes,
+    Names,
+    Entries,
+}
 
-pub(crate) const CHILD: u32 = 1;
+impl Role {
+    // The role of number j of a row of this kind.
+    // Ruled out: the role of the number before; a parent that stays where it was.
+    pub(crate) fn at(kind: u32, j: usize) -> Role
+        requires { (1 ≤ kind) × (kind ≤ 26) × (j < 10) }
+        ensures { digit result ≡ role kind j }
+    {
+        let digits = 3 * (j as u32);
+        match roles(kind) >> digits & 7 {
+            0 => Role::Plain,
+            1 => Role::Child,
+            2 => Role::Letters,
+            3 => Role::Name,
+            4 => Role::Nodes,
+            5 => Role::Names,
+            _ => Role::Entries,
+        }
+    }
 
-pub(crate) const STRING: u32 = 2;
-
-pub(crate) const NAME: u32 = 3;
-
-pub(crate) const NODES: u32 = 4;
-
-pub(crate) const NAMES: u32 = 5;
-
-pub(crate) const ENTRIES: u32 = 6;
+    // Whether a list begins there.
+    // Ruled out: a name; a list of names left out.
+    pub(crate) fn is_list(self) -> bool
+        ensures { IsTrue result ↔ 4 ≤ digit self }
+    {
+        matches!(self, Role::Nodes | Role::Names | Role::Entries)
+    }
+}
 
 // The ten roles of a kind, from Binary on, as one number with an octal digit for each, the first the lowest. A match, since a constant array is copied wherever it is named.
 fn roles(kind: u32) -> u32
@@ -53,14 +79,4 @@ fn roles(kind: u32) -> u32
         kinds::CONTINUE => 0o1000000000,
         _ => 0o1000505000,
     }
-}
-
-// The role of number j of a row of this kind.
-// Ruled out: the role of the number before; a parent that stays where it was.
-pub(crate) fn role(kind: u32, j: usize) -> u32
-    requires { (1 ≤ kind) × (kind ≤ 26) × (j < 10) }
-    ensures { result ≡ role-of kind j }
-{
-    let digits = 3 * (j as u32);
-    roles(kind) >> digits & 7
 }

@@ -2,11 +2,12 @@
 ghost use Rattle.std.specs.Prelude.{◌+◌, ◌*◌, ◌≤◌, ◌∷◌, [], ◌≡◌, length, set};
 ghost use Rattle.grammar.specs.Room.{link_width};
 ghost use Rattle.parts.specs.Spoken.{row as row_part};
+ghost use Rattle.packing.specs.Digits.{digit};
 ghost use Rattle.packing.specs.Good.{Sound, In};
 ghost use Rattle.packing.specs.Roles.{rows, link_parts, list_parts, number_parts, numbers_parts};
 ghost use Rattle.packing.specs.Stack.{present, RoomFor, Pushed, HoldsNumber};
 
-use crate::roles::{CHILD, ENTRIES, NAME, NAMES, NODES, STRING, role};
+use crate::roles::Role;
 use ast::{ABSENT, LINK_WIDTH, NODE_WIDTH, PARENT};
 
 // What a part is: a row; the name in a link row; a string, whose symbol stands at that number of its row, and LETTERS more. Another number is the place of a name in a row.
@@ -54,21 +55,21 @@ fn push_link(
     top: usize,
     nodes: &[u32],
     links: &[u32],
-    sort: u32,
+    role: Role,
     k: u32,
 ) -> usize
-    requires { (link_width * k + link_width ≤ length links.now) × RoomFor base top (length (present (link_parts sort links.now k))) (length stack.old) }
-    ensures { Pushed (rows nodes.now links.now) base top (link_parts sort links.now k) stack.old stack.new result }
+    requires { (link_width * k + link_width ≤ length links.now) × RoomFor base top (length (present (link_parts (digit role) links.now k))) (length stack.old) }
+    ensures { Pushed (rows nodes.now links.now) base top (link_parts (digit role) links.now k) stack.old stack.new result }
 {
-    if sort == NAMES {
-        return push(stack, base, top, LINK, k);
-    }
     let i = LINK_WIDTH * (k as usize);
-    if sort == ENTRIES {
-        let above = push_row(stack, base, top, nodes, links, links[i + 1]);
-        return push_row(stack, base, above, nodes, links, links[i]);
+    match role {
+        Role::Names => push(stack, base, top, LINK, k),
+        Role::Entries => {
+            let above = push_row(stack, base, top, nodes, links, links[i + 1]);
+            push_row(stack, base, above, nodes, links, links[i])
+        }
+        _ => push_row(stack, base, top, nodes, links, links[i]),
     }
-    push_row(stack, base, top, nodes, links, links[i])
 }
 
 // What all link rows of a list hold, the last one first.
@@ -79,16 +80,16 @@ fn push_list(
     top: usize,
     nodes: &[u32],
     links: &[u32],
-    sort: u32,
+    role: Role,
     from: u32,
     count: u32,
 ) -> usize
-    requires { (link_width * (from + count) ≤ length links.now) × (from + count ≤ 4294967295) × RoomFor base top (length (present (list_parts sort links.now from count))) (length stack.old) }
-    ensures { Pushed (rows nodes.now links.now) base top (list_parts sort links.now from count) stack.old stack.new result }
+    requires { (link_width * (from + count) ≤ length links.now) × (from + count ≤ 4294967295) × RoomFor base top (length (present (list_parts (digit role) links.now from count))) (length stack.old) }
+    ensures { Pushed (rows nodes.now links.now) base top (list_parts (digit role) links.now from count) stack.old stack.new result }
 {
     let mut above = top;
     for left in (0..count).rev() {
-        above = push_link(stack, base, above, nodes, links, sort, from + left);
+        above = push_link(stack, base, above, nodes, links, role, from + left);
     }
     above
 }
@@ -103,18 +104,20 @@ fn push_number(
     links: &[u32],
     row: u32,
     j: usize,
-    sort: u32,
+    role: Role,
 ) -> usize
-    requires { HoldsNumber nodes.now links.now row j sort × RoomFor base top (length (present (number_parts nodes.now links.now row j sort))) (length stack.old) }
-    ensures { Pushed (rows nodes.now links.now) base top (number_parts nodes.now links.now row j sort) stack.old stack.new result }
+    requires { HoldsNumber nodes.now links.now row j (digit role) × RoomFor base top (length (present (number_parts nodes.now links.now row j (digit role)))) (length stack.old) }
+    ensures { Pushed (rows nodes.now links.now) base top (number_parts nodes.now links.now row j (digit role)) stack.old stack.new result }
 {
     let i = NODE_WIDTH * (row as usize) + j;
-    match sort {
-        CHILD => push_row(stack, base, top, nodes, links, nodes[i]),
-        STRING => push(stack, base, top, LETTERS + j as u32, row),
-        NAME => push(stack, base, top, j as u32, row),
-        NODES..=ENTRIES => push_list(stack, base, top, nodes, links, sort, nodes[i], nodes[i + 1]),
-        _ => top,
+    match role {
+        Role::Plain => top,
+        Role::Child => push_row(stack, base, top, nodes, links, nodes[i]),
+        Role::Letters => push(stack, base, top, LETTERS + j as u32, row),
+        Role::Name => push(stack, base, top, j as u32, row),
+        Role::Nodes | Role::Names | Role::Entries => {
+            push_list(stack, base, top, nodes, links, role, nodes[i], nodes[i + 1])
+        }
     }
 }
 
@@ -134,7 +137,7 @@ pub(crate) fn push_parts(
     let kind = nodes[NODE_WIDTH * (row as usize)];
     let mut above = top;
     for j in (0..PARENT).rev() {
-        above = push_number(stack, base, above, nodes, links, row, j, role(kind, j));
+        above = push_number(stack, base, above, nodes, links, row, j, Role::at(kind, j));
     }
     above
 }

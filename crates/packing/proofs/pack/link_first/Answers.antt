@@ -1,17 +1,20 @@
 -- `link_first` meets its contract.
-use borrow.Author.Tests.{eq-eqb, ne_eqb}
+use borrow.Author.Tests.{ne_eqb}
+use mathlib.Core.Path.{ap}
 use Rattle.parts.specs.Moved.{moved_node}
+use Rattle.packing.specs.Digits.{digit}
+use Rattle.packing.proofs.Digits.{no_names}
 use Rattle.packing.proofs.pack.link_first.Goals as goal
 
 pub symbol_to-requires : goal.symbol_to-requires
-symbol_to-requires c = c.requires.name c.if-sort-eq-NAMES.true
-
-pub returns-then-sort-eq-NAMES : goal.returns-then-sort-eq-NAMES
-returns-then-sort-eq-NAMES c = rw (eq-eqb c.args.sort 5 c.if-sort-eq-NAMES.true) c.symbol_to.ensures
+symbol_to-requires c = c.requires.name (ap digit c.in-Names.is)
 
 pub row_to-requires : goal.row_to-requires
-row_to-requires c = c.requires.node c.if-sort-eq-NAMES.false
+row_to-requires c = c.requires.node (no_names c.in_default.not-Names)
 
-pub returns : goal.returns
+pub returns-in-Names : goal.returns-in-Names
+returns-in-Names c = rw c.in-Names.is c.symbol_to.ensures
+
+pub returns-in_default : goal.returns-in_default
 unfolding moved_node
-returns c = rw (ne_eqb c.args.sort 5 c.if-sort-eq-NAMES.false) c.row_to.ensures
+returns-in_default c = rw (ne_eqb (digit c.args.role) 5 (no_names c.in_default.not-Names)) c.row_to.ensures

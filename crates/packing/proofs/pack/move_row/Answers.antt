@@ -8,20 +8,20 @@ use Rattle.packing.proofs.pack.move_row.Goals as goal
 pub loop-j-init : goal.loop-j-init
 loop-j-init c = let a = c.args in none_rowed (moving a.scratch.now a.m) a.nodes.now a.row a.to
 
-pub role-requires : goal.role-requires
-role-requires c = let k = kind_of_row c.requires.stands in (k.least, k.most, omega arith)
+pub at-requires : goal.at-requires
+at-requires c = let k = kind_of_row c.requires.stands in (k.least, k.most, omega arith)
 
 pub number-requires : goal.number-requires
 number-requires c =
     let s = c in
     let l = c.loop-j in
-    rw (c.role.ensures ∙ role_read s.args.nodes.now s.args.row l.j, still_number s.requires.back l.invariant) (s.requires.each l.j (omega arith))
+    rw (c.at.ensures ∙ role_read s.args.nodes.now s.args.row l.j, still_number s.requires.back l.invariant) (s.requires.each l.j (omega arith))
 
 pub loop-j-preserved : goal.loop-j-preserved
 loop-j-preserved c =
     let s = c in
     let l = c.loop-j in
-    number_turn s.requires.back l.invariant c.role.ensures c.number.ensures (omega (arith, l.invariant.done.size, s.requires.back, s.requires.stands.room)) (omega arith)
+    number_turn s.requires.back l.invariant c.at.ensures c.number.ensures (omega (arith, l.invariant.done.size, s.requires.back, s.requires.stands.room)) (omega arith)
 
 pub returns : goal.returns
 returns c = let l = c.loop-j in let e : l.j ≡ 10 = omega (arith, l.invariant.most) in rw e at l.invariant.done

@@ -1,31 +1,32 @@
 -- `push_link` meets its contract: a name; a value and then its key; a row.
 use native.Mathlib.Omega.{arith}
 use mathlib.Core.List.{[], ◌∷◌}
+use mathlib.Core.Path.{ap}
+use Rattle.packing.specs.Digits.{digit}
+use Rattle.packing.proofs.Digits.{no_names, no_entries}
 use Rattle.packing.proofs.Stacking.{pushed_one, pushed_both, link_waits, name_link, entry_link, node_link, name_room, entry_room, node_room}
 use Rattle.packing.proofs.stack.push_link.Goals as goal
 
 pub push-requires : goal.push-requires
-push-requires c = omega (arith, c.requires.1, name_room c.args.links.now c.args.k c.if-sort-eq-NAMES.true)
+push-requires c = omega (arith, c.requires.1, name_room c.args.links.now c.args.k (ap digit c.in-Names.is))
 
-pub returns-then-sort-eq-NAMES : goal.returns-then-sort-eq-NAMES
-returns-then-sort-eq-NAMES c =
-    let e = c.if-sort-eq-NAMES.true in
+pub returns-in-Names : goal.returns-in-Names
+returns-in-Names c =
+    let e = ap digit c.in-Names.is in
     rw (name_link c.args.links.now c.args.k e) (pushed_one _ _ _ _ _ (omega (arith, c.requires.1, name_room c.args.links.now c.args.k e)) (link_waits _ _) c.push.ensures)
 
 pub push_row-above-requires : goal.push_row-above-requires
-push_row-above-requires c = omega (arith, c.requires.1, entry_room c.args.links.now c.args.k c.if-sort-eq-ENTRIES.true)
+push_row-above-requires c = omega (arith, c.requires.1, entry_room c.args.links.now c.args.k (ap digit c.in-Entries.is))
 
 pub push_row-requires : goal.push_row-requires
 push_row-requires c =
-    omega (arith, c.requires.1, entry_room c.args.links.now c.args.k c.if-sort-eq-ENTRIES.true, c.push_row-above.ensures.many, c.push_row-above.auto.stack)
+    omega (arith, c.requires.1, entry_room c.args.links.now c.args.k (ap digit c.in-Entries.is), c.push_row-above.ensures.many, c.push_row-above.auto.stack)
 
-pub returns-then-sort-eq-ENTRIES : goal.returns-then-sort-eq-ENTRIES
-returns-then-sort-eq-ENTRIES c =
-    rw (entry_link c.args.links.now c.args.k c.if-sort-eq-ENTRIES.true) (pushed_both (_ ∷ []) (_ ∷ []) c.push_row-above.ensures c.push_row.ensures)
+pub returns-in-Entries : goal.returns-in-Entries
+returns-in-Entries c = rw (entry_link c.args.links.now c.args.k (ap digit c.in-Entries.is)) (pushed_both (_ ∷ []) (_ ∷ []) c.push_row-above.ensures c.push_row.ensures)
 
-pub push_row-requires-2 : goal.push_row-requires-2
-push_row-requires-2 c = omega (arith, c.requires.1, node_room c.args.links.now c.args.k c.if-sort-eq-NAMES.false c.if-sort-eq-ENTRIES.false)
+pub push_row-requires-in_default : goal.push_row-requires-in_default
+push_row-requires-in_default c = omega (arith, c.requires.1, node_room c.args.links.now c.args.k (no_names c.in_default.not-Names) (no_entries c.in_default.not-Entries))
 
-pub returns : goal.returns
-returns c =
-    rw (node_link c.args.links.now c.args.k c.if-sort-eq-NAMES.false c.if-sort-eq-ENTRIES.false) c.push_row-2.ensures
+pub returns-in_default : goal.returns-in_default
+returns-in_default c = rw (node_link c.args.links.now c.args.k (no_names c.in_default.not-Names) (no_entries c.in_default.not-Entries)) c.push_row-in_default.ensures

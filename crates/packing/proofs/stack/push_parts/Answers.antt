@@ -26,8 +26,8 @@ kind_is ns i j = rw (add_zero (node_width * i)) refl
 pub loop-j-init : goal.loop-j-init
 loop-j-init c = let a = c.args in (pushed_none _ _ _ _ (rw (none_after a.nodes.now a.links.now a.row 9) none_present), omega arith, refl)
 
-pub role-requires : goal.role-requires
-role-requires c =
+pub at-requires : goal.at-requires
+at-requires c =
     let s = c in
     let st = stood s.requires.0.good s.requires.1 in
     let z = add_zero (node_width * s.args.row) in
@@ -39,7 +39,7 @@ push_number-above-requires c =
     let s = c in
     let a = s.args in
     let (p, q, r) = l.invariant in
-    let e = c.role.ensures ∙ kind_is a.nodes.now a.row (l.j - 1) in
+    let e = c.at.ensures ∙ kind_is a.nodes.now a.row (l.j - 1) in
     rw e (holds s.requires.0 s.requires.1 (l.j - 1) (omega arith), omega (arith, s.requires.2, p.many, r, one_more a.nodes.now a.links.now a.row (l.j - 1) l.j (omega arith) q))
 
 pub loop-j-preserved : goal.loop-j-preserved
@@ -47,7 +47,7 @@ loop-j-preserved c =
     let l = c.loop-j in
     let a = c.args in
     let (p, q, r) = l.invariant in
-    let e = c.role.ensures ∙ kind_is a.nodes.now a.row (l.j - 1) in
+    let e = c.at.ensures ∙ kind_is a.nodes.now a.row (l.j - 1) in
     (rw (number_more a.nodes.now a.links.now a.row (l.j - 1) l.j (omega arith) q) (pushed_both _ _ p (rw e at c.push_number-above.ensures)), omega arith, c.push_number-above.auto.stack ∙ r)
 
 pub returns : goal.returns
