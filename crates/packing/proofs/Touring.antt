@@ -207,10 +207,6 @@ module _ {s : ℕ} {w : Rows} (g : Good s w) where
           word_steps = rw (stack_same, e) (omega arith)
 
 -- what is taken from the stack, by its two numbers
-pub popped_row : (w : Rows) (sc : List ℕ) (s k : ℕ) → get_or sc (s + 2 * k) 0 ≡ 0 → stacked w sc s (suc k) ≡ row (get_or sc (s + 2 * k + 1) 0) ∷ stacked w sc s k
-unfolding stacked source
-popped_row w sc s k e = rw e refl
-
-pub popped_word : (w : Rows) (sc : List ℕ) (s k : ℕ) {x : Word} → source w (get_or sc (s + 2 * k) 0) (get_or sc (s + 2 * k + 1) 0) ≡ word x → stacked w sc s (suc k) ≡ word x ∷ stacked w sc s k
+pub popped : (w : Rows) (sc : List ℕ) (s k : ℕ) {p : Part} → p ≡ source w (get_or sc (s + 2 * k) 0) (get_or sc (s + 2 * k + 1) 0) → stacked w sc s (suc k) ≡ p ∷ stacked w sc s k
 unfolding stacked
-popped_word w sc s k e = rw e refl
+popped w sc s k e = rw e refl

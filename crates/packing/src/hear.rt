@@ -3,12 +3,12 @@ ghost use Rattle.std.specs.Prelude.{◌+◌, ◌*◌, ◌≤◌, ◌<◌, ◌≡
 ghost use Rattle.grammar.specs.Naming.{height};
 ghost use Rattle.grammar.specs.Room.{symbol_width};
 ghost use Rattle.parts.specs.Packed.{keeps};
-ghost use Rattle.parts.specs.Spoken.{word as word_part, spoken, inside_from, inside_upto};
+ghost use Rattle.parts.specs.Spoken.{said, spoken};
 ghost use Rattle.packing.specs.Good.{In};
 ghost use Rattle.packing.specs.Known.{Heard, Noted, Hears, Speaks, Built, Begins, HearingAll};
 ghost use Rattle.packing.specs.Roles.{rows};
 ghost use Rattle.packing.specs.Stack.{source};
-ghost use Rattle.packing.specs.Words.{worded};
+ghost use Rattle.packing.specs.Words.{worded, parted};
 
 use crate::stack::{LETTERS, LINK, ROW, push, push_parts};
 use ast::{LINK_WIDTH, NODE_WIDTH};
@@ -21,65 +21,47 @@ pub struct Word {
     pub upto: u32,
 }
 
-const LARGEST: u32 = 4294967295;
-
-// Where a string's inside starts: behind the quote.
-fn inside_from(start: u32) -> u32
-    ensures { result ≡ inside_from start }
-{
-    if start == LARGEST {
-        return LARGEST;
-    }
-    start + 1
-}
-
-// And where it ends: before the quote.
-fn inside_upto(end: u32) -> u32
-    ensures { result ≡ inside_upto end }
-{
-    if end == 0 {
-        return 0;
-    }
-    end - 1
+// What is taken from the stack: a row, or a word that is said.
+#[derive(Drop)]
+pub enum Part {
+    Row(u32),
+    Said(Word),
 }
 
 // A number of a room, 0 past its end.
 fn held(room: &[u32], at: usize) -> u32
     ensures { result ≡ get_or room.now at 0 }
 {
-    if at < room.len() {
-        return room[at];
-    }
-    0
+    room.get(at).copied().unwrap_or(0)
 }
 
-// The word that a part of the stack stands for, which is no row.
-// Ruled out: a string with its quotes.
-fn spell(nodes: &[u32], links: &[u32], tag: u32, x: u32) -> Word
-    requires { tag ≡ 0 → ⊥ }
-    ensures { source (rows nodes.now links.now) tag x ≡ word_part (worded result) }
+// A symbol and its place, as they stand in a room.
+fn word_at(room: &[u32], at: usize) -> Word
+    requires { at + 2 < 18446744073709551616 }
+    ensures { worded result ≡ said (get_or room.now at 0) (get_or room.now (at + 1) 0) (get_or room.now (at + 2) 0) }
 {
-    if tag == LINK {
-        let i = LINK_WIDTH * (x as usize);
-        return Word {
-            symbol: held(links, i),
-            from: held(links, i + 1),
-            upto: held(links, i + 2),
-        };
-    }
-    let row = NODE_WIDTH * (x as usize);
-    if tag < LETTERS {
-        let i = row + tag as usize;
-        return Word {
-            symbol: held(nodes, i),
-            from: held(nodes, i + 1),
-            upto: held(nodes, i + 2),
-        };
-    }
     Word {
-        symbol: held(nodes, row + (tag - LETTERS) as usize),
-        from: inside_from(held(nodes, row + 1)),
-        upto: inside_upto(held(nodes, row + 2)),
+        symbol: held(room, at),
+        from: held(room, at + 1),
+        upto: held(room, at + 2),
+    }
+}
+
+// What two numbers of the stack stand for.
+// Ruled out: a string with its quotes.
+fn meant(nodes: &[u32], links: &[u32], tag: u32, x: u32) -> Part
+    ensures { parted result ≡ source (rows nodes.now links.now) tag x }
+{
+    let row = NODE_WIDTH * (x as usize);
+    match tag {
+        ROW => Part::Row(x),
+        LINK => Part::Said(word_at(links, LINK_WIDTH * (x as usize))),
+        2..LETTERS => Part::Said(word_at(nodes, row + tag as usize)),
+        _ => Part::Said(Word {
+            symbol: held(nodes, row + (tag - LETTERS) as usize),
+            from: held(nodes, row + 1).saturating_add(1),
+            upto: held(nodes, row + 2).saturating_sub(1),
+        }),
     }
 }
 
@@ -118,12 +100,10 @@ fn hear_row(
     let mut top = push(scratch, s, 0, ROW, row);
     while top > 0 {
         top -= 1;
-        let tag = scratch[s + 2 * top];
-        let x = scratch[s + 2 * top + 1];
-        if tag == ROW {
-            top = push_parts(scratch, s, top, nodes, links, x);
-        } else {
-            known = hear(symbols, scratch, known, spell(nodes, links, tag, x));
+        let at = s + 2 * top;
+        match meant(nodes, links, scratch[at], scratch[at + 1]) {
+            Part::Row(row) => top = push_parts(scratch, s, top, nodes, links, row),
+            Part::Said(word) => known = hear(symbols, scratch, known, word),
         }
     }
     known

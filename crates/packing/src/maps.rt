@@ -32,9 +32,5 @@ pub(crate) fn symbol_to(scratch: &[u32], symbols: u32, x: u32) -> u32
     requires { x < length scratch.now }
     ensures { result ≡ known_as scratch.now symbols x }
 {
-    let k = scratch[x as usize];
-    if k == 0 {
-        return symbols;
-    }
-    k - 1
+    scratch[x as usize].checked_sub(1).unwrap_or(symbols)
 }

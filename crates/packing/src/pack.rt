@@ -195,7 +195,18 @@ fn pack_root(nodes: &mut [u32], root: usize, to: usize, first: u32, count: u32)
     let start = nodes[NODE_WIDTH * root + 1];
     let end = nodes[NODE_WIDTH * root + 2];
     let i = NODE_WIDTH * to;
-    let row = [kinds::BLOCK, start, end, first, count, ABSENT, 0, 0, 0, ABSENT];
+    let row = [
+        kinds::BLOCK,
+        start,
+        end,
+        first,
+        count,
+        ABSENT,
+        0,
+        0,
+        0,
+        ABSENT,
+    ];
     nodes[i..i + NODE_WIDTH].copy_from_slice(&row);
 }
 

@@ -5,14 +5,18 @@ ghost use Rattle.packing.specs.Roles.{role, all_roles};
 
 use ast::kinds;
 
-// A number that stays; a row, or absent; a string's symbol; a name's symbol, with its place behind it; and the first link row of a list of rows, of names, of keys with values, with its
-// count behind it.
+// What a number of a row is.
 #[derive(Clone, Copy)]
 pub(crate) enum Role {
+    // A number that stays.
     Plain,
+    // A row, or absent.
     Child,
+    // A string's symbol.
     Letters,
+    // A name's symbol, with its place behind it.
     Name,
+    // The first link row of a list, with its count behind it: of rows, of names, of keys with values.
     Nodes,
     Names,
     Entries,

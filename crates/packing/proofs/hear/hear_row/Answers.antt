@@ -10,11 +10,11 @@ use Rattle.grammar.specs.Rows.{Rows}
 use Rattle.foreign.specs.Check.{link_count}
 use Rattle.parts.specs.Spoken.{Word, Part, row, parts_of, spoken}
 use Rattle.packing.specs.Roles.{rows, numbers_parts}
-use Rattle.packing.specs.Stack.{stacked, Pushed}
+use Rattle.packing.specs.Stack.{source, stacked, Pushed}
 use Rattle.packing.proofs.Knowing.{room_left}
 use Rattle.packing.proofs.Slots.{parts_all, stood}
 use Rattle.packing.proofs.Stacking.{pushed_one, row_waits}
-use Rattle.packing.proofs.Touring.{Tour, began, inside, ended, hears_both, hears_low, row_there, row_room, row_taken, row_steps, word_low, word_taken, word_steps, popped_row, popped_word}
+use Rattle.packing.proofs.Touring.{Tour, began, inside, ended, hears_both, hears_low, row_there, row_room, row_taken, row_steps, word_low, word_taken, word_steps, popped}
 use Rattle.packing.proofs.hear.hear_row.Goals as goal
 use Rattle.packing.proofs.hear.hear_row.Goals.{Start, After-push-top, In-loop-top}
 
@@ -37,22 +37,16 @@ lent c = omega (arith, c.requires.0.room, c.push-top.auto.stack)
 fits : (c : In-loop-top) → c.args.s + 2 * c.loop-top.top ≤ length c.loop-top.scratch
 fits c = inside c.requires.0.good (lent c) c.loop-top.invariant.0
 
--- a row that is taken, and a word
-abbrev tag_at : In-loop-top → ℕ
-tag_at c = get_or c.loop-top.scratch (c.args.s + 2 * (c.loop-top.top - 1)) 0
-
-abbrev number_at : In-loop-top → ℕ
-number_at c = get_or c.loop-top.scratch (c.args.s + 2 * (c.loop-top.top - 1) + 1) 0
-
+-- what is taken
 abbrev Popped : (c : In-loop-top) → Part → Type 0
 Popped c p = stacked (rows_at c) c.loop-top.scratch c.args.s (suc (c.loop-top.top - 1)) ≡ p ∷ stacked (rows_at c) c.loop-top.scratch c.args.s (c.loop-top.top - 1)
 
-row_popped : (c : In-loop-top) → tag_at c ≡ 0 → Popped c (row (number_at c))
-row_popped c e = popped_row _ _ _ _ e
+taken : (c : In-loop-top) {p : Part} → p ≡ source (rows_at c) (get_or c.loop-top.scratch (c.args.s + 2 * (c.loop-top.top - 1)) 0) (get_or c.loop-top.scratch (c.args.s + 2 * (c.loop-top.top - 1) + 1) 0) → Popped c p
+taken c e = popped _ _ _ _ e
 
 -- what a row holds, number by number
-held : (c : In-loop-top) (e : tag_at c ≡ 0) → numbers_parts c.args.nodes.now c.args.links.now (number_at c) 0 9 ≡ parts_of (rows_at c) (number_at c)
-held c e = parts_all (rows_at c) (number_at c) (stood c.requires.0.good (row_there c.requires.0.good (tour c) (row_popped c e)))
+held : (c : In-loop-top) {i : ℕ} → Popped c (row i) → numbers_parts c.args.nodes.now c.args.links.now i 0 9 ≡ parts_of (rows_at c) i
+held c {i} e = parts_all (rows_at c) i (stood c.requires.0.good (row_there c.requires.0.good (tour c) e))
 
 -- the row that the walk begins at waits
 entered : (c : After-push-top) → Pushed (rows c.args.nodes.now c.args.links.now) c.args.s 0 (row c.args.row ∷ []) c.args.scratch.now c.push-top.new.stack c.push-top.result
@@ -74,75 +68,66 @@ push-top-requires c = omega (arith, c.requires.0.room, c.requires.0.good.checked
 pub loop-top-init : goal.loop-top-init
 loop-top-init c = (began c.requires.0.good {sc₀ = c.args.scratch.now} c.requires.1 (entered (goal.at.loop-top-init c).After-push-top), refl)
 
-pub overflow_mul-tag : goal.overflow_mul-tag
-overflow_mul-tag c = omega (arith, fits (goal.at.overflow_mul-tag c).In-loop-top)
+pub overflow_mul-at : goal.overflow_mul-at
+overflow_mul-at c = omega (arith, fits (goal.at.overflow_mul-at c).In-loop-top)
 
-pub overflow_add-tag : goal.overflow_add-tag
-overflow_add-tag c = omega (arith, fits (goal.at.overflow_add-tag c).In-loop-top)
+pub overflow_add-at : goal.overflow_add-at
+overflow_add-at c = omega (arith, fits (goal.at.overflow_add-at c).In-loop-top)
 
-pub offset_bounds-scratch-s : goal.offset_bounds-scratch-s
-offset_bounds-scratch-s c = let l = below (goal.at.offset_bounds-scratch-s c).In-loop-top (c.args.s + 2 * (c.loop-top.top - 1)) (omega arith) in search rules
+pub offset_bounds-scratch-at : goal.offset_bounds-scratch-at
+offset_bounds-scratch-at c = let l = below (goal.at.offset_bounds-scratch-at c).In-loop-top (c.args.s + 2 * (c.loop-top.top - 1)) (omega arith) in search rules
 
-pub bounds-scratch-s : goal.bounds-scratch-s
-bounds-scratch-s c = omega (arith, fits (goal.at.bounds-scratch-s c).In-loop-top)
+pub bounds-scratch-at : goal.bounds-scratch-at
+bounds-scratch-at c = omega (arith, fits (goal.at.bounds-scratch-at c).In-loop-top)
 
-pub overflow_mul-x : goal.overflow_mul-x
-overflow_mul-x c = omega (arith, fits (goal.at.overflow_mul-x c).In-loop-top)
+pub overflow_add-at-in-loop-top : goal.overflow_add-at-in-loop-top
+overflow_add-at-in-loop-top c = omega (arith, fits (goal.at.overflow_add-at-in-loop-top c).In-loop-top)
 
-pub overflow_add-x : goal.overflow_add-x
-overflow_add-x c = omega (arith, fits (goal.at.overflow_add-x c).In-loop-top)
+pub offset_bounds-scratch-at-in-loop-top : goal.offset_bounds-scratch-at-in-loop-top
+offset_bounds-scratch-at-in-loop-top c = let l = below (goal.at.offset_bounds-scratch-at-in-loop-top c).In-loop-top (c.args.s + 2 * (c.loop-top.top - 1) + 1) (omega arith) in search rules
 
-pub overflow_add-x-in-loop-top : goal.overflow_add-x-in-loop-top
-overflow_add-x-in-loop-top c = omega (arith, fits (goal.at.overflow_add-x-in-loop-top c).In-loop-top)
-
-pub offset_bounds-scratch-s-in-loop-top : goal.offset_bounds-scratch-s-in-loop-top
-offset_bounds-scratch-s-in-loop-top c = let l = below (goal.at.offset_bounds-scratch-s-in-loop-top c).In-loop-top (c.args.s + 2 * (c.loop-top.top - 1) + 1) (omega arith) in search rules
-
-pub bounds-scratch-s-in-loop-top : goal.bounds-scratch-s-in-loop-top
-bounds-scratch-s-in-loop-top c = omega (arith, fits (goal.at.bounds-scratch-s-in-loop-top c).In-loop-top)
+pub bounds-scratch-at-in-loop-top : goal.bounds-scratch-at-in-loop-top
+bounds-scratch-at-in-loop-top c = omega (arith, fits (goal.at.bounds-scratch-at-in-loop-top c).In-loop-top)
 
 pub push_parts-top-requires : goal.push_parts-top-requires
 push_parts-top-requires c =
     let t = (goal.at.push_parts-top-requires c).In-loop-top in
     let g = t.requires.0.good in
-    let e = c.if-tag-eq-ROW.true in
-    (record { symbols = _; good = g }, row_there g (tour t) (row_popped t e), rw (held t e) (row_room g (tour t) (row_popped t e) (lent t)))
+    let e = taken t c.in-Row.ensures in
+    (record { symbols = _; good = g }, row_there g (tour t) e, rw (held t e) (row_room g (tour t) e (lent t)))
 
-pub loop-top-smaller-then-tag-eq-ROW : goal.loop-top-smaller-then-tag-eq-ROW
-loop-top-smaller-then-tag-eq-ROW c =
-    let t = (goal.at.loop-top-smaller-then-tag-eq-ROW c).In-loop-top in
-    let e = c.if-tag-eq-ROW.true in
+pub loop-top-smaller-in-Row : goal.loop-top-smaller-in-Row
+loop-top-smaller-in-Row c =
+    let t = (goal.at.loop-top-smaller-in-Row c).In-loop-top in
+    let e = taken t c.in-Row.ensures in
     let z : suc (t.loop-top.top - 1) ≡ t.loop-top.top = omega arith in
-    rw z at (row_steps t.requires.0.good (tour t) (row_popped t e) (rw (held t e) at c.push_parts-top.ensures))
+    rw z at (row_steps t.requires.0.good (tour t) e (rw (held t e) at c.push_parts-top.ensures))
 
-pub loop-top-preserved-then-tag-eq-ROW : goal.loop-top-preserved-then-tag-eq-ROW
-loop-top-preserved-then-tag-eq-ROW c =
-    let t = (goal.at.loop-top-preserved-then-tag-eq-ROW c).In-loop-top in
+pub loop-top-preserved-in-Row : goal.loop-top-preserved-in-Row
+loop-top-preserved-in-Row c =
+    let t = (goal.at.loop-top-preserved-in-Row c).In-loop-top in
     let g = t.requires.0.good in
-    let e = c.if-tag-eq-ROW.true in
-    (row_taken g (tour t) (row_popped t e) (rw (held t e) at c.push_parts-top.ensures) c.push_parts-top.auto.stack, t.loop-top.invariant.1)
-
-pub spell-requires : goal.spell-requires
-spell-requires c = c.if-tag-eq-ROW.false
+    let e = taken t c.in-Row.ensures in
+    (row_taken g (tour t) e (rw (held t e) at c.push_parts-top.ensures) c.push_parts-top.auto.stack, t.loop-top.invariant.1)
 
 pub hear-known-requires : goal.hear-known-requires
 hear-known-requires c =
     let t = (goal.at.hear-known-requires c).In-loop-top in
     let g = t.requires.0.good in
-    let l = word_low g (tour t) (popped_word (rows_at t) t.loop-top.scratch t.args.s (t.loop-top.top - 1) c.spell.ensures) in
+    let l = word_low g (tour t) (taken t c.in-Said.ensures) in
     let h = (tour t).hears.says ((hears_low (entered (goal.at.hear-known-requires c).After-push-top).low).says t.requires.2.hearing) in
-    (omega (arith, fits t), λ z. (let k = room_left h c.spell.result.symbol l z in (omega (arith, h.room), omega (arith, t.requires.0.few))))
+    (omega (arith, fits t), λ z. (let k = room_left h c.in-Said.word.symbol l z in (omega (arith, h.room), omega (arith, t.requires.0.few))))
 
 pub loop-top-smaller : goal.loop-top-smaller
 loop-top-smaller c =
     let t = (goal.at.loop-top-smaller c).In-loop-top in
     let z : suc (t.loop-top.top - 1) ≡ t.loop-top.top = omega arith in
-    rw z at (word_steps t.requires.0.good (tour t) (popped_word (rows_at t) t.loop-top.scratch t.args.s (t.loop-top.top - 1) c.spell.ensures) (numbers t) c.hear-known.ensures)
+    rw z at (word_steps t.requires.0.good (tour t) (taken t c.in-Said.ensures) (numbers t) c.hear-known.ensures)
 
 pub loop-top-preserved : goal.loop-top-preserved
 loop-top-preserved c =
     let t = (goal.at.loop-top-preserved c).In-loop-top in
-    (word_taken t.requires.0.good (tour t) (popped_word (rows_at t) t.loop-top.scratch t.args.s (t.loop-top.top - 1) c.spell.ensures) (numbers t) c.hear-known.ensures c.hear-known.auto.scratch, c.hear-known.auto.symbols ∙ t.loop-top.invariant.1)
+    (word_taken t.requires.0.good (tour t) (taken t c.in-Said.ensures) (numbers t) c.hear-known.ensures c.hear-known.auto.scratch, c.hear-known.auto.symbols ∙ t.loop-top.invariant.1)
 
 pub returns : goal.returns
 returns c = hears_both [] (spoken (rows c.args.nodes.now c.args.links.now) (height (rows c.args.nodes.now c.args.links.now)) c.args.row) (hears_low (entered (goal.at.returns c).After-push-top).low) (ended c.requires.0.good (omega arith) c.loop-top.invariant.0)

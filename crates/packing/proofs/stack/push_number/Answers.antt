@@ -1,7 +1,6 @@
 -- `push_number` meets its contract: each arm is what a number of its role holds.
-use Prim.Native.Nat.{◌≤◌}
 use native.Mathlib.Omega.{arith}
-use mathlib.Core.Path.{◌≡◌, ap}
+use mathlib.Core.Path.{ap}
 use Rattle.packing.specs.Digits.{digit}
 use Rattle.packing.specs.Roles.{rows}
 use Rattle.packing.proofs.Digits.{lists}
