@@ -2,12 +2,13 @@
 -- then its last digit. And what shows that the definition is right: the digits are worth the number, and the first is no 0 but for 0 itself.
 use Prim.Native.Nat.{ℕ, zero, suc, ◌+◌, ◌-◌, ◌*◌, ◌/◌, ◌%◌, ◌^◌, ◌≤◌, ◌<◌}
 use native.Mathlib.Decide.{dec_lt}
-use native.Mathlib.Nat.{pow-succ'}
 use native.Mathlib.Omega.{arith}
 use mathlib.Core.List.{List, [], ◌∷◌, ◌++◌}
 use mathlib.Core.Path.{◌≡◌, refl, sym, ap, ◌∙◌}
 use borrow.Author.Tests.{lt-ltb, le-ltb}
 use lib.ListN.{length, get_or, length-append, get_or-append}
+use Rattle.std.specs.Fmt as Fmt
+use Rattle.std.proofs.lemmas.Fmt.{AppendsLastDigit, decimal_from_appends, length-decimal-le, length-decimal-le_succ}
 use Rattle.wire.specs.Number.{digit, digits, decimal}
 
 -- one digit, and more
@@ -40,16 +41,15 @@ decimal_more (suc k) h = digits_more k (suc k) h ∙ ap (λ (xs : List ℕ). xs 
 pub longer : (n : ℕ) → 10 ≤ n → length (decimal n) ≡ length (decimal (n / 10)) + 1
 longer n h = rw (decimal_more n h) (length-append (decimal (n / 10)) _)
 
--- how many digits there are at most
-short : (d n : ℕ) → n < 10 ^ suc d → length (decimal n) ≤ suc d
-short zero n h = rw (decimal_one n (omega (arith, pow-succ' 10 0))) (omega arith)
-short (suc d) n h = elim (dec_lt n 10) [
-  | yes l ↦ rw (decimal_one n l) (omega arith)
-  | no l ↦ let i = short d (n / 10) (omega (arith, pow-succ' 10 (suc d))) in omega (arith, longer n (omega arith))
-]
+-- the library's digits are these, so that a number of 32 bits has ten at most
+pub decimal_std : (n : ℕ) → n < 2 ^ 64 → Fmt.decimal n ≡ decimal n
+unfolding decimal
+decimal_std n h =
+    let appends : AppendsLastDigit digits = record { one = λ k m l. digits_one (suc k) m l; more = digits_more } in
+    sym (enough n (suc n) n (omega arith) (omega arith) ∙ decimal_from_appends digits appends (suc n) n h (omega (arith, length-decimal-le_succ n h)))
 
 pub decimal_short : (n : ℕ) → n < 2 ^ 32 → length (decimal n) ≤ 10
-decimal_short n h = short 9 n (omega arith)
+decimal_short n h = rw (← decimal_std n (omega arith)) (length-decimal-le 10 n (omega arith) (omega arith) (omega arith))
 
 -- what digits are worth, after those that are worth v
 abbrev pub worth : ℕ → List ℕ → ℕ

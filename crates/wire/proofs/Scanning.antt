@@ -9,6 +9,11 @@ use mathlib.Core.List.{List}
 use mathlib.Core.Path.{◌≡◌, refl, sym, ap, ◌∙◌}
 use lib.ListN.{length, get_or, take, drop, set, replicate, length-drop, length-set, length-replicate, take-append-drop}
 use lib.Seq.{length-take-le, get_or-take, get_or-set_same, get_or-set_other, drop-set-lt, drop-drop, ext_get_or}
+use mathlib.Core.Bool.{false}
+use lib.Dec.{eqb}
+use borrow.Author.Tests.{eq-eqb, ne_eqb}
+use Rattle.spelling.specs.Decides.{Decides}
+use Rattle.spelling.proofs.Deciding.{holds, fails}
 use Rattle.grammar.specs.Token.{count, kind, start, end, lexeme}
 use Rattle.wire.specs.Input.{Marked, TokenRecord, InputHolds, Broken, head_size, token_size}
 use Rattle.wire.specs.Number.{number}
@@ -30,6 +35,16 @@ held_measured h = record { marked = h.marked; size_is = h.size; most_bytes = h.m
 
 pub measured : {input : List ℕ} {size n : ℕ} → Sizes input size n → InputSized input size n
 measured s = rw (s.size_is, s.count_is) at (held_measured s.holds)
+
+-- a mark, by its two bytes
+pub second_decides : {input : List ℕ} {at second : ℕ} → get_or input at 0 ≡ 0x4B → Decides (Marked input at second) (eqb (get_or input (at + 1) 0) second)
+second_decides {input} {at} {second} e = elim (ℕ_discrete (get_or input (at + 1) 0) second) [
+  | yes h ↦ rw (eq-eqb _ _ h) (holds (record { first = e; next = h }))
+  | no n ↦ rw (ne_eqb _ _ n) (fails (λ m. n m.next))
+]
+
+pub other_first : {input : List ℕ} {at second : ℕ} → (get_or input at 0 ≡ 0x4B → ⊥) → Decides (Marked input at second) false
+other_first n = fails (λ m. n m.first)
 
 -- the marks of one record more
 pub marks_none : (input : List ℕ) (at : ℕ) → Marks input at 0

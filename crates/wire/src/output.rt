@@ -1,36 +1,25 @@
 // The output of the program `rows`: the lines of an answer.
-ghost use Rattle.std.specs.Prelude.{[], ◌∷◌, ◌≡◌, ◌+◌, ◌*◌, ◌≤◌, ◌<◌, length};
+ghost use Rattle.std.specs.Prelude.{◌≡◌, ◌+◌, ◌*◌, ◌≤◌, length};
 ghost use Rattle.diagnostics.specs.Message.{text_of};
 ghost use Rattle.grammar.specs.Token.{kind};
 ghost use Rattle.spelling.specs.Display.{Put};
-ghost use Rattle.wire.specs.Number.{digit as Number·digit, decimal as Number·decimal};
+ghost use Rattle.wire.specs.Number.{decimal as Number·decimal};
 ghost use Rattle.wire.specs.Printed.{fields, line as Printed·line, row as Printed·row, rows as Printed·rows, listed as Printed·listed, refused as Printed·refused};
 ghost use Rattle.wire.specs.Lines.{PutWithin, Line, Lines, Listing, line_size};
 
 use diagnostics::text::message;
+use itoa::Buffer;
 use spelling::display::put;
-
-// A digit.
-fn digit(d: u32, room: &mut [u8], at: usize) -> usize
-    requires { (d < 10) × (at < length room.old) }
-    ensures { Put (Number·digit d ∷ []) at room.old room.new result }
-{
-    room[at] = 48 + d as u8;
-    at + 1
-}
 
 // A number in decimal.
 fn decimal(n: u32, room: &mut [u8], at: usize) -> usize
     requires { at + length (Number·decimal n) ≤ length room.old }
     ensures { Put (Number·decimal n) at room.old room.new result }
 {
-    if n < 10 {
-        return digit(n, room, at);
-    }
-    let last = decimal(n / 10, room, at);
-    digit(n % 10, room, last)
+    put(Buffer::new().format(n).as_bytes(), room, at)
 }
 
+// A room and a place stay two parameters, here and below: `put`, `numbers` and `row`, which other crates call, take the two and answer the next place.
 // Numbers, each after a blank. It asks for 11 bytes of room for each from `at` on.
 // Ruled out: a number without its blank; a byte before `at` that changes.
 pub fn numbers(values: &[u32], room: &mut [u8], at: usize) -> usize
@@ -38,11 +27,9 @@ pub fn numbers(values: &[u32], room: &mut [u8], at: usize) -> usize
     ensures { PutWithin (11 * length values.now) (fields values.now) at room.old room.new result }
 {
     let mut k = at;
-    let mut i = 0;
-    while i < values.len() {
+    for value in values {
         let blank = put(b" ", room, k);
-        k = decimal(values[i], room, blank);
-        i += 1;
+        k = decimal(*value, room, blank);
     }
     k
 }
@@ -78,10 +65,8 @@ fn rows(lead: &[u8], width: usize, source: &[u32], n: usize, room: &mut [u8], at
     ensures { PutWithin (line_size * n) (Printed·rows lead.now width source.now n) at room.old room.new result }
 {
     let mut k = at;
-    let mut i: usize = 0;
-    while i < n {
+    for i in 0..n {
         k = row(lead, width, source, i, room, k);
-        i += 1;
     }
     k
 }
@@ -112,11 +97,7 @@ pub fn listed(
 pub fn found(tokens: &[u32], at: u32) -> u32
     ensures { result ≡ kind tokens.now at }
 {
-    let i = 3 * (at as usize);
-    if i < tokens.len() {
-        return tokens[i];
-    }
-    0
+    tokens.get(3 * (at as usize)).copied().unwrap_or(0)
 }
 
 // The message of a refusal.
@@ -124,8 +105,7 @@ fn told(code: u32, expected: u32, found: u32, room: &mut [u8], at: usize) -> usi
     requires { at + 52 ≤ length room.old }
     ensures { Put (text_of code expected found) at room.old room.new result }
 {
-    let text = message(code, expected, found, &mut room[at..]);
-    at + text.length
+    at + message(code, expected, found, &mut room[at..]).length
 }
 
 // What is printed for a refusal, at the start of a room. It asks for a room of 256 bytes.

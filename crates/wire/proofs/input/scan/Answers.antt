@@ -3,49 +3,45 @@ use Prim.Native.Nat.{◌+◌, ◌-◌, ◌/◌}
 use native.Mathlib.Omega.{arith}
 use mathlib.Core.Path.{◌≡◌, sym, ◌∙◌}
 use lib.ListN.{length}
-use Rattle.spelling.proofs.Deciding.{held, failed}
+use Rattle.spelling.proofs.Deciding.{held, failed, said}
 use Rattle.wire.proofs.Scanning.{bad, sized}
-use borrow.Author.Rules.{rules}
 use Rattle.wire.proofs.input.scan.Goals as goal
+use Rattle.wire.proofs.input.scan.Goals.{then-input-lt6-via-then-input-lt6, then-input-lt6-via-else-input-lt6+then-not-is_marked, then-size-gt8192-via-then-size-gt8192, then-size-gt8192-via-else-size-gt8192+then-input-size, then-left-ne0-via-then-left-ne0, then-left-ne0-via-else-left-ne0+then-n-gt512, then-left-ne0-via-else-left-ne0+else-n-gt512+then-not-marked}
 
 pub returns-then-input-lt6 : goal.returns-then-input-lt6
-returns-then-input-lt6 c = bad (λ size n m. omega (arith, m.ends))
-
-pub returns-then-input-ne75 : goal.returns-then-input-ne75
-returns-then-input-ne75 c = bad (λ size n m. c.if-input-ne75.true m.marked.first)
-
-pub returns-then-input-ne83 : goal.returns-then-input-ne83
-returns-then-input-ne83 c = bad (λ size n m. c.if-input-ne83.true m.marked.next)
+returns-then-input-lt6 c = elim c.then-input-lt6.branch [
+  | then-input-lt6-via-then-input-lt6 w ↦ bad (λ size n m. omega (arith, w.if-input-lt6.true, m.ends))
+  | then-input-lt6-via-else-input-lt6+then-not-is_marked w ↦ bad (λ size n m. failed (said w.is_marked.ensures w.if-not-is_marked.true) m.marked)
+]
 
 pub returns-then-size-gt8192 : goal.returns-then-size-gt8192
-returns-then-size-gt8192 c = bad (λ size n m. omega (arith, m.size_is, m.most_bytes, c.four-size.ensures))
-
-pub returns-then-input-from : goal.returns-then-input-from
-returns-then-input-from c = bad (λ size n m. omega (arith, m.size_is, m.ends, c.four-size.ensures))
+returns-then-size-gt8192 c = elim c.then-size-gt8192.branch [
+  | then-size-gt8192-via-then-size-gt8192 w ↦ bad (λ size n m. omega (arith, w.if-size-gt8192.true, m.size_is, m.most_bytes, c.four-size.ensures))
+  | then-size-gt8192-via-else-size-gt8192+then-input-size w ↦ bad (λ size n m. omega (arith, w.if-input-size.true, m.size_is, m.ends, c.four-size.ensures))
+]
 
 pub returns-then-left-ne0 : goal.returns-then-left-ne0
-returns-then-left-ne0 c = bad (λ size n m. omega (arith, m.size_is, m.ends, c.four-size.ensures))
-
-pub returns-then-n-gt512 : goal.returns-then-n-gt512
-returns-then-n-gt512 c = bad (λ size n m. omega (arith, m.size_is, m.ends, m.most_tokens, c.four-size.ensures))
-
-pub returns-then-marked : goal.returns-then-marked
-returns-then-marked c =
-    sized
-    (record {
-      marked = record { first = search rules; next = search rules };
-      size_is = sym c.four-size.ensures;
-      most_bytes = search rules;
-      most_tokens = search rules;
-      ends = omega arith;
-      marks = held (rw c.if-marked.true at c.marked.ensures);
-    })
+returns-then-left-ne0 c =
+    let read = c.four-size in
+    let left = length c.args.input.now - (6 + read.result) in
+    elim c.then-left-ne0.branch [
+      | then-left-ne0-via-then-left-ne0 w ↦ bad (λ size n m. omega (arith, w.if-left-ne0.true, m.size_is, m.ends, read.ensures))
+      | then-left-ne0-via-else-left-ne0+then-n-gt512 w ↦ bad (λ size n m. omega (arith, w.if-n-gt512.true, m.size_is, m.ends, m.most_tokens, read.ensures))
+      | then-left-ne0-via-else-left-ne0+else-n-gt512+then-not-marked w ↦
+          bad (λ size n m.
+          let e : size ≡ read.result = sym m.size_is ∙ sym read.ensures in
+          let q : n ≡ left / 11 = omega (arith, m.ends) in
+          failed (said w.marked.ensures w.if-not-marked.true) (rw (e, q) at m.marks))
+    ]
 
 pub returns : goal.returns
 returns c =
-    let read = c.four-size in
-    let left = length c.args.input.now - (6 + read.result) in
-    bad (λ size n m.
-    let e : size ≡ read.result = sym m.size_is ∙ sym read.ensures in
-    let q : n ≡ left / 11 = omega (arith, m.ends) in
-    failed (rw c.if-marked.false at c.marked.ensures) (rw (e, q) at m.marks))
+    sized
+    (record {
+      marked = held (said c.is_marked.ensures c.if-not-is_marked.false);
+      size_is = sym c.four-size.ensures;
+      most_bytes = c.if-size-gt8192.false;
+      most_tokens = c.if-n-gt512.false;
+      ends = omega arith;
+      marks = held (said c.marked.ensures c.if-not-marked.false);
+    })

@@ -3,4 +3,4 @@ use Rattle.wire.proofs.Lines.{told_at}
 use Rattle.wire.proofs.output.told.Goals as goal
 
 pub returns : goal.returns
-returns c = told_at c.requires c.message-text.ensures
+returns c = told_at c.requires c.message.ensures
