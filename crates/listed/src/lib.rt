@@ -4,93 +4,72 @@ pub mod digits;
 pub mod judging;
 mod line;
 
-ghost use Rattle.std.specs.Prelude.{◌≤◌, length};
+ghost use Rattle.std.specs.Prelude.{◌≤◌};
 
 use ast::{LINK_WIDTH, NODE_WIDTH};
 use builtins::NAME_WIDTH;
-use line::{counts, rows};
+use line::{at_row, counts, rows};
 
 // What is wrong with a text that is no listing: its first line; counts for which there are no rooms; the line of a row, of a link, of a symbol, or that there is one too many.
-pub const HEAD: u32 = 1;
+#[derive(Clone, Copy, PartialEq, Eq)]
+pub enum Fault {
+    Head,
+    Large,
+    Row,
+    Link,
+    Symbol,
+    More,
+}
 
-pub const LARGE: u32 = 2;
-
-pub const ROW: u32 = 3;
-
-pub const LINK: u32 = 4;
-
-pub const SYMBOL: u32 = 5;
-
-pub const MORE: u32 = 6;
+// Why a text is no listing: what is wrong; the line where, from 1 on; the number of the row that should stand there; and whether the text ends before it.
+#[derive(Clone, Copy)]
+pub struct Wrong {
+    pub fault: Fault,
+    pub line: u32,
+    pub row: u32,
+    pub ends: bool,
+}
 
 // The most rows and links, and the most symbols.
 const MOST: u32 = 4096;
 
 const MOST_SYMBOLS: u32 = 4160;
 
-// A listing that was read: how many rows of nodes, links and symbols it has. Or what is wrong, 0 where nothing is; the line where, and its offset; and the number of the row
-// that should stand there.
+// A listing that was read: how many rows of nodes, links and symbols it has.
 #[derive(Clone, Copy)]
 pub struct Listed {
     pub nodes: u32,
     pub links: u32,
     pub symbols: u32,
-    pub fault: u32,
-    pub line: u32,
-    pub row: u32,
-    pub at: usize,
 }
 
-// What is wrong at a line.
-fn wrong(fault: u32, line: u32, row: u32, at: usize) -> Listed {
-    Listed {
-        nodes: 0,
-        links: 0,
-        symbols: 0,
-        fault: fault,
-        line: line,
-        row: row,
-        at: at,
-    }
-}
-
-// The rows of a listing from an offset on, where there are so many.
+// The rows of a listing behind its first line, where there are so many.
 fn read_rows(
     text: &[u8],
-    from: usize,
-    n: u32,
-    m: u32,
-    s: u32,
+    l: Listed,
     nodes: &mut [u32; 40960],
     links: &mut [u32; 12288],
     symbols: &mut [u32; 8320],
-) -> Listed
-    requires { (from ≤ length text.now) × (n ≤ 4096) × (m ≤ 4096) × (s ≤ 4160) }
+) -> Result<(), Wrong>
+    requires { (l.nodes ≤ 4096) × (l.links ≤ 4096) × (l.symbols ≤ 4160) }
 {
-    let a = rows(text, from, b"", NODE_WIDTH, n, nodes);
-    if a.rows < n {
-        return wrong(ROW, 2 + a.rows, a.rows, a.at);
+    let n = 1 + l.nodes;
+    let m = n + l.links;
+    let text = rows(text, b"", NODE_WIDTH, l.nodes, nodes, Fault::Row, 1)?;
+    let text = rows(text, b"link ", LINK_WIDTH, l.links, links, Fault::Link, n)?;
+    let text = rows(
+        text,
+        b"sym ",
+        NAME_WIDTH,
+        l.symbols,
+        symbols,
+        Fault::Symbol,
+        m,
+    )?;
+    if text.is_empty() {
+        return Ok(());
     }
-    let b = rows(text, a.at, b"link ", LINK_WIDTH, m, links);
-    if b.rows < m {
-        return wrong(LINK, 2 + n + b.rows, b.rows, b.at);
-    }
-    let c = rows(text, b.at, b"sym ", NAME_WIDTH, s, symbols);
-    if c.rows < s {
-        return wrong(SYMBOL, 2 + n + m + c.rows, c.rows, c.at);
-    }
-    if c.at < text.len() {
-        return wrong(MORE, 2 + n + m + s, 0, c.at);
-    }
-    Listed {
-        nodes: n,
-        links: m,
-        symbols: s,
-        fault: 0,
-        line: 0,
-        row: 0,
-        at: 0,
-    }
+    Err(at_row(Fault::More, m + l.symbols, 0, text))
 }
 
 // Reads the listing that a text is into rooms.
@@ -99,23 +78,17 @@ pub fn read(
     nodes: &mut [u32; 40960],
     links: &mut [u32; 12288],
     symbols: &mut [u32; 8320],
-) -> Listed {
-    let mut list: [u32; 3] = [0; 3];
-    let from = counts(text, &mut list);
-    if from == 0 {
-        return wrong(HEAD, 1, 0, 0);
+) -> Result<Listed, Wrong> {
+    let mut list = [0; 3];
+    let text = counts(text, &mut list).ok_or(at_row(Fault::Head, 0, 0, text))?;
+    let l = Listed {
+        nodes: list[0],
+        links: list[1],
+        symbols: list[2],
+    };
+    if l.nodes > MOST || l.links > MOST || l.symbols > MOST_SYMBOLS {
+        return Err(at_row(Fault::Large, 0, 0, text));
     }
-    let n = list[0];
-    let m = list[1];
-    let s = list[2];
-    if n > MOST {
-        return wrong(LARGE, 1, 0, 0);
-    }
-    if m > MOST {
-        return wrong(LARGE, 1, 0, 0);
-    }
-    if s > MOST_SYMBOLS {
-        return wrong(LARGE, 1, 0, 0);
-    }
-    read_rows(text, from, n, m, s, nodes, links, symbols)
+    read_rows(text, l, nodes, links, symbols)?;
+    Ok(l)
 }
