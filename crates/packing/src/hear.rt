@@ -6,10 +6,11 @@ ghost use Rattle.parts.specs.Packed.{keeps};
 ghost use Rattle.parts.specs.Spoken.{said, spoken};
 ghost use Rattle.packing.specs.Good.{In};
 ghost use Rattle.packing.specs.Known.{Heard, Noted, Hears, Speaks, Built, Begins, HearingAll};
-ghost use Rattle.packing.specs.Roles.{rows};
+ghost use Rattle.packing.specs.Seen.{seen};
 ghost use Rattle.packing.specs.Stack.{source};
 ghost use Rattle.packing.specs.Words.{worded, parted};
 
+use crate::rows::Rows;
 use crate::stack::{LETTERS, LINK, ROW, push, push_parts};
 use ast::{LINK_WIDTH, NODE_WIDTH};
 
@@ -49,18 +50,18 @@ fn word_at(room: &[u32], at: usize) -> Word
 
 // What two numbers of the stack stand for.
 // Ruled out: a string with its quotes.
-fn meant(nodes: &[u32], links: &[u32], tag: u32, x: u32) -> Part
-    ensures { parted result ≡ source (rows nodes.now links.now) tag x }
+fn meant(rows: Rows, tag: u32, x: u32) -> Part
+    ensures { parted result ≡ source (seen rows.entry) tag x }
 {
     let row = NODE_WIDTH * (x as usize);
     match tag {
         ROW => Part::Row(x),
-        LINK => Part::Said(word_at(links, LINK_WIDTH * (x as usize))),
-        2..LETTERS => Part::Said(word_at(nodes, row + tag as usize)),
+        LINK => Part::Said(word_at(rows.links, LINK_WIDTH * (x as usize))),
+        2..LETTERS => Part::Said(word_at(rows.nodes, row + tag as usize)),
         _ => Part::Said(Word {
-            symbol: held(nodes, row + (tag - LETTERS) as usize),
-            from: held(nodes, row + 1).saturating_add(1),
-            upto: held(nodes, row + 2).saturating_sub(1),
+            symbol: held(rows.nodes, row + (tag - LETTERS) as usize),
+            from: held(rows.nodes, row + 1).saturating_add(1),
+            upto: held(rows.nodes, row + 2).saturating_sub(1),
         }),
     }
 }
@@ -85,24 +86,23 @@ fn hear(symbols: &mut [u32], scratch: &mut [u32], count: u32, w: Word) -> u32
 // The words of a row and of all below it.
 // Ruled out: the words of a row before those that stand further left in the text.
 fn hear_row(
-    nodes: &[u32],
-    links: &[u32],
+    rows: Rows,
     symbols: &mut [u32],
     scratch: &mut [u32],
     s: usize,
     count: u32,
     row: u32,
 ) -> u32
-    requires { Speaks s (rows nodes.now links.now) (length scratch.old) × In (rows nodes.now links.now) row × Heard s symbols.old scratch.old count }
-    ensures { Hears s (spoken (rows nodes.now links.now) (height (rows nodes.now links.now)) row) symbols.old scratch.old count symbols.new scratch.new result }
+    requires { Speaks s (seen rows) (length scratch.old) × In (seen rows) row × Heard s symbols.old scratch.old count }
+    ensures { Hears s (spoken (seen rows.entry) (height (seen rows.entry)) row) symbols.old scratch.old count symbols.new scratch.new result }
 {
     let mut known = count;
     let mut top = push(scratch, s, 0, ROW, row);
     while top > 0 {
         top -= 1;
         let at = s + 2 * top;
-        match meant(nodes, links, scratch[at], scratch[at + 1]) {
-            Part::Row(row) => top = push_parts(scratch, s, top, nodes, links, row),
+        match meant(rows, scratch[at], scratch[at + 1]) {
+            Part::Row(row) => top = push_parts(scratch, s, top, rows, row),
             Part::Said(word) => known = hear(symbols, scratch, known, word),
         }
     }
@@ -122,8 +122,7 @@ fn hear_builtins(scratch: &mut [u32], builtins: u32)
 // The words of the statements that are kept, after the built-in names. It asks for zeros at the front of the lent room, a number for each symbol.
 // Ruled out: the words of a dropped statement; a built-in name that is numbered anew.
 pub(crate) fn hear_all(
-    nodes: &[u32],
-    links: &[u32],
+    rows: Rows,
     symbols: &mut [u32],
     scratch: &mut [u32],
     s: u32,
@@ -131,15 +130,15 @@ pub(crate) fn hear_all(
     first: usize,
     choice: &[u8],
 ) -> u32
-    requires { Begins s builtins (rows nodes.now links.now) first choice.now symbols.old scratch.old }
-    ensures { HearingAll s builtins symbols.old (keeps choice.now) (rows nodes.now links.now) (length choice.now) symbols.new scratch.new result }
+    requires { Begins s builtins (seen rows) first choice.now symbols.old scratch.old }
+    ensures { HearingAll s builtins symbols.old (keeps choice.now) (seen rows.entry) (length choice.now) symbols.new scratch.new result }
 {
     hear_builtins(scratch, builtins);
     let mut known = builtins;
     for (j, kept) in choice.iter().enumerate() {
         if *kept != 0 {
-            let row = links[LINK_WIDTH * (first + j)];
-            known = hear_row(nodes, links, symbols, scratch, s as usize, known, row);
+            let row = rows.links[LINK_WIDTH * (first + j)];
+            known = hear_row(rows, symbols, scratch, s as usize, known, row);
         }
     }
     known

@@ -4,29 +4,22 @@ ghost use Rattle.grammar.specs.Naming.{height};
 ghost use Rattle.parts.specs.Packed.{keeps, root_row, root_first};
 ghost use Rattle.packing.specs.Good.{Sound};
 ghost use Rattle.packing.specs.Kept.{Low, Marked, Staying, Placing, Markable};
-ghost use Rattle.packing.specs.Roles.{rows};
+ghost use Rattle.packing.specs.Seen.{seen};
 
+use crate::rows::Rows;
 use ast::room::zero;
 use ast::{LINK_WIDTH, NODE_WIDTH, PARENT};
 
 // 1 at each statement that is kept.
 // Ruled out: a dropped statement that is marked.
-fn mark(
-    nodes: &[u32],
-    links: &[u32],
-    choice: &[u8],
-    first: usize,
-    scratch: &mut [u32],
-    base: usize,
-    n: usize,
-)
-    requires { Markable (rows nodes.now links.now) choice.now first base n (length scratch.old) }
-    ensures { Marked (keeps choice.now) (rows nodes.now links.now) (length choice.now) base n scratch.new × Low base scratch.old scratch.new }
+fn mark(rows: Rows, choice: &[u8], first: usize, scratch: &mut [u32], base: usize, n: usize)
+    requires { Markable (seen rows) choice.now first base n (length scratch.old) }
+    ensures { Marked (keeps choice.now) (seen rows.entry) (length choice.now) base n scratch.new × Low base scratch.old scratch.new }
 {
     zero(scratch, base, base + n);
     for (j, kept) in choice.iter().enumerate() {
         if *kept != 0 {
-            let row = links[LINK_WIDTH * (first + j)] as usize;
+            let row = rows.links[LINK_WIDTH * (first + j)] as usize;
             scratch[base + row] = 1;
         }
     }
@@ -34,19 +27,12 @@ fn mark(
 
 // And at each row below one. Parents stand later, so the last row is looked at first.
 // Ruled out: a row that stays though its parent does not.
-fn spread(
-    nodes: &[u32],
-    links: &[u32],
-    choice: &[u8],
-    scratch: &mut [u32],
-    base: usize,
-    root: usize,
-)
-    requires { Markable (rows nodes.now links.now) choice.now (root_first (rows nodes.now links.now)) base (height (rows nodes.now links.now)) (length scratch.old) × (root ≡ root_row (rows nodes.now links.now)) × Marked (keeps choice.now) (rows nodes.now links.now) (length choice.now) base (height (rows nodes.now links.now)) scratch.old }
-    ensures { Staying (keeps choice.now) (rows nodes.now links.now) base 0 scratch.new × Low base scratch.old scratch.new }
+fn spread(rows: Rows, choice: &[u8], scratch: &mut [u32], base: usize, root: usize)
+    requires { Markable (seen rows) choice.now (root_first (seen rows)) base (height (seen rows)) (length scratch.old) × (root ≡ root_row (seen rows)) × Marked (keeps choice.now) (seen rows) (length choice.now) base (height (seen rows)) scratch.old }
+    ensures { Staying (keeps choice.now) (seen rows.entry) base 0 scratch.new × Low base scratch.old scratch.new }
 {
     for i in (0..root).rev() {
-        let parent = nodes[NODE_WIDTH * i + PARENT] as usize;
+        let parent = rows.nodes[NODE_WIDTH * i + PARENT] as usize;
         if parent != root {
             scratch[base + i] = scratch[base + parent];
         }
@@ -55,9 +41,9 @@ fn spread(
 
 // Then how many stay before each.
 // Ruled out: a row's own place counted.
-fn count(nodes: &[u32], links: &[u32], choice: &[u8], scratch: &mut [u32], base: usize, root: usize)
-    requires { Sound (rows nodes.now links.now) × (base + height (rows nodes.now links.now) ≤ length scratch.old) × (root ≡ root_row (rows nodes.now links.now)) × Staying (keeps choice.now) (rows nodes.now links.now) base 0 scratch.old }
-    ensures { Placing (keeps choice.now) (rows nodes.now links.now) base scratch.new × Low base scratch.old scratch.new }
+fn count(rows: Rows, choice: &[u8], scratch: &mut [u32], base: usize, root: usize)
+    requires { Sound (seen rows) × (base + height (seen rows) ≤ length scratch.old) × (root ≡ root_row (seen rows)) × Staying (keeps choice.now) (seen rows) base 0 scratch.old }
+    ensures { Placing (keeps choice.now) (seen rows.entry) base scratch.new × Low base scratch.old scratch.new }
 {
     let mut before = 0;
     for i in 0..root {
@@ -70,18 +56,17 @@ fn count(nodes: &[u32], links: &[u32], choice: &[u8], scratch: &mut [u32], base:
 
 // Where each row goes, once those are dropped that the choice does not keep.
 pub(crate) fn keep(
-    nodes: &[u32],
-    links: &[u32],
+    rows: Rows,
     choice: &[u8],
     first: usize,
     scratch: &mut [u32],
     base: usize,
     n: usize,
 )
-    requires { Markable (rows nodes.now links.now) choice.now first base n (length scratch.old) }
-    ensures { Placing (keeps choice.now) (rows nodes.now links.now) base scratch.new × Low base scratch.old scratch.new }
+    requires { Markable (seen rows) choice.now first base n (length scratch.old) }
+    ensures { Placing (keeps choice.now) (seen rows.entry) base scratch.new × Low base scratch.old scratch.new }
 {
-    mark(nodes, links, choice, first, scratch, base, n);
-    spread(nodes, links, choice, scratch, base, n - 1);
-    count(nodes, links, choice, scratch, base, n - 1);
+    mark(rows, choice, first, scratch, base, n);
+    spread(rows, choice, scratch, base, n - 1);
+    count(rows, choice, scratch, base, n - 1);
 }

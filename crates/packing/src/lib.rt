@@ -6,6 +6,7 @@ mod keep;
 mod maps;
 mod pack;
 mod roles;
+mod rows;
 mod stack;
 
 ghost use Rattle.std.specs.Prelude.{◌≡◌};
@@ -15,6 +16,7 @@ ghost use Rattle.packing.specs.Roles.{rows};
 use crate::hear::hear_all;
 use crate::keep::keep;
 use crate::pack::pack;
+use crate::rows::Rows;
 use ast::room::clear;
 use ast::{LINK_WIDTH, NODE_WIDTH};
 use checker::check;
@@ -68,8 +70,9 @@ fn settle(
     let root = n as usize - 1;
     let first = nodes[NODE_WIDTH * root + 3] as usize;
     let base = s as usize;
-    let known = hear_all(nodes, links, symbols, scratch, s, builtins, first, choice);
-    keep(nodes, links, choice, first, scratch, base, n as usize);
+    let rows = Rows { nodes, links };
+    let known = hear_all(rows, symbols, scratch, s, builtins, first, choice);
+    keep(rows, choice, first, scratch, base, n as usize);
     let high = scratch[base + root] as usize + 1;
     let long = pack(nodes, links, scratch, base, known, choice, first, root);
     clear(nodes, NODE_WIDTH * high);

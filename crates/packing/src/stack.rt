@@ -1,13 +1,16 @@
 // What waits to be heard, on a stack in the lent room: rows, and names and strings that stand in rows and links. Two numbers each.
 ghost use Rattle.std.specs.Prelude.{◌+◌, ◌*◌, ◌≤◌, ◌∷◌, [], ◌≡◌, length, set};
 ghost use Rattle.grammar.specs.Room.{link_width};
+ghost use Rattle.grammar.specs.Rows.{Rows as Lines};
 ghost use Rattle.parts.specs.Spoken.{row as row_part};
 ghost use Rattle.packing.specs.Digits.{digit};
 ghost use Rattle.packing.specs.Good.{Sound, In};
-ghost use Rattle.packing.specs.Roles.{rows, link_parts, list_parts, number_parts, numbers_parts};
+ghost use Rattle.packing.specs.Roles.{link_parts, list_parts, number_parts, numbers_parts};
+ghost use Rattle.packing.specs.Seen.{seen};
 ghost use Rattle.packing.specs.Stack.{present, RoomFor, Pushed, HoldsNumber};
 
 use crate::roles::Role;
+use crate::rows::Rows;
 use ast::{ABSENT, LINK_WIDTH, NODE_WIDTH, PARENT};
 
 // What a part is: a row; the name in a link row; a string, whose symbol stands at that number of its row, and LETTERS more. Another number is the place of a name in a row.
@@ -30,16 +33,9 @@ pub(crate) fn push(stack: &mut [u32], base: usize, top: usize, tag: u32, x: u32)
 
 // A row, if it is not absent.
 // Ruled out: an absent row that waits.
-fn push_row(
-    stack: &mut [u32],
-    base: usize,
-    top: usize,
-    nodes: &[u32],
-    links: &[u32],
-    x: u32,
-) -> usize
+fn push_row(stack: &mut [u32], base: usize, top: usize, x: u32) -> usize
     requires { RoomFor base top (length (present (row_part x ∷ []))) (length stack.old) }
-    ensures { Pushed (rows nodes.now links.now) base top (row_part x ∷ []) stack.old stack.new result }
+    ensures { (w : Lines) → Pushed w base top (row_part x ∷ []) stack.old stack.new result }
 {
     if x == ABSENT {
         return top;
@@ -49,26 +45,18 @@ fn push_row(
 
 // What a link row of a list holds.
 // Ruled out: a key before its value, which then goes first; a name's place taken for a row.
-fn push_link(
-    stack: &mut [u32],
-    base: usize,
-    top: usize,
-    nodes: &[u32],
-    links: &[u32],
-    role: Role,
-    k: u32,
-) -> usize
-    requires { (link_width * k + link_width ≤ length links.now) × RoomFor base top (length (present (link_parts (digit role) links.now k))) (length stack.old) }
-    ensures { Pushed (rows nodes.now links.now) base top (link_parts (digit role) links.now k) stack.old stack.new result }
+fn push_link(stack: &mut [u32], base: usize, top: usize, rows: Rows, role: Role, k: u32) -> usize
+    requires { (link_width * k + link_width ≤ length rows.links.now) × RoomFor base top (length (present (link_parts (digit role) rows.links.now k))) (length stack.old) }
+    ensures { Pushed (seen rows.entry) base top (link_parts (digit role) rows.entry.links.now k) stack.old stack.new result }
 {
     let i = LINK_WIDTH * (k as usize);
     match role {
         Role::Names => push(stack, base, top, LINK, k),
         Role::Entries => {
-            let above = push_row(stack, base, top, nodes, links, links[i + 1]);
-            push_row(stack, base, above, nodes, links, links[i])
+            let above = push_row(stack, base, top, rows.links[i + 1]);
+            push_row(stack, base, above, rows.links[i])
         }
-        _ => push_row(stack, base, top, nodes, links, links[i]),
+        _ => push_row(stack, base, top, rows.links[i]),
     }
 }
 
@@ -78,18 +66,17 @@ fn push_list(
     stack: &mut [u32],
     base: usize,
     top: usize,
-    nodes: &[u32],
-    links: &[u32],
+    rows: Rows,
     role: Role,
     from: u32,
     count: u32,
 ) -> usize
-    requires { (link_width * (from + count) ≤ length links.now) × (from + count ≤ 4294967295) × RoomFor base top (length (present (list_parts (digit role) links.now from count))) (length stack.old) }
-    ensures { Pushed (rows nodes.now links.now) base top (list_parts (digit role) links.now from count) stack.old stack.new result }
+    requires { (link_width * (from + count) ≤ length rows.links.now) × (from + count ≤ 4294967295) × RoomFor base top (length (present (list_parts (digit role) rows.links.now from count))) (length stack.old) }
+    ensures { Pushed (seen rows.entry) base top (list_parts (digit role) rows.entry.links.now from count) stack.old stack.new result }
 {
     let mut above = top;
     for left in (0..count).rev() {
-        above = push_link(stack, base, above, nodes, links, role, from + left);
+        above = push_link(stack, base, above, rows, role, from + left);
     }
     above
 }
@@ -100,44 +87,44 @@ fn push_number(
     stack: &mut [u32],
     base: usize,
     top: usize,
-    nodes: &[u32],
-    links: &[u32],
+    rows: Rows,
     row: u32,
     j: usize,
     role: Role,
 ) -> usize
-    requires { HoldsNumber nodes.now links.now row j (digit role) × RoomFor base top (length (present (number_parts nodes.now links.now row j (digit role)))) (length stack.old) }
-    ensures { Pushed (rows nodes.now links.now) base top (number_parts nodes.now links.now row j (digit role)) stack.old stack.new result }
+    requires { HoldsNumber rows.nodes.now rows.links.now row j (digit role) × RoomFor base top (length (present (number_parts rows.nodes.now rows.links.now row j (digit role)))) (length stack.old) }
+    ensures { Pushed (seen rows.entry) base top (number_parts rows.entry.nodes.now rows.entry.links.now row j (digit role)) stack.old stack.new result }
 {
     let i = NODE_WIDTH * (row as usize) + j;
     match role {
         Role::Plain => top,
-        Role::Child => push_row(stack, base, top, nodes, links, nodes[i]),
+        Role::Child => push_row(stack, base, top, rows.nodes[i]),
         Role::Letters => push(stack, base, top, LETTERS + j as u32, row),
         Role::Name => push(stack, base, top, j as u32, row),
         Role::Nodes | Role::Names | Role::Entries => {
-            push_list(stack, base, top, nodes, links, role, nodes[i], nodes[i + 1])
+            push_list(
+                stack,
+                base,
+                top,
+                rows,
+                role,
+                rows.nodes[i],
+                rows.nodes[i + 1],
+            )
         }
     }
 }
 
 // What a row holds, its last number first.
 // Ruled out: the parent among what it holds; its first number left out.
-pub(crate) fn push_parts(
-    stack: &mut [u32],
-    base: usize,
-    top: usize,
-    nodes: &[u32],
-    links: &[u32],
-    row: u32,
-) -> usize
-    requires { Sound (rows nodes.now links.now) × In (rows nodes.now links.now) row × RoomFor base top (length (present (numbers_parts nodes.now links.now row 0 9))) (length stack.old) }
-    ensures { Pushed (rows nodes.now links.now) base top (numbers_parts nodes.now links.now row 0 9) stack.old stack.new result }
+pub(crate) fn push_parts(stack: &mut [u32], base: usize, top: usize, rows: Rows, row: u32) -> usize
+    requires { Sound (seen rows) × In (seen rows) row × RoomFor base top (length (present (numbers_parts rows.nodes.now rows.links.now row 0 9))) (length stack.old) }
+    ensures { Pushed (seen rows.entry) base top (numbers_parts rows.entry.nodes.now rows.entry.links.now row 0 9) stack.old stack.new result }
 {
-    let kind = nodes[NODE_WIDTH * (row as usize)];
+    let kind = rows.nodes[NODE_WIDTH * (row as usize)];
     let mut above = top;
     for j in (0..PARENT).rev() {
-        above = push_number(stack, base, above, nodes, links, row, j, Role::at(kind, j));
+        above = push_number(stack, base, above, rows, row, j, Role::at(kind, j));
     }
     above
 }

@@ -8,7 +8,7 @@ use Rattle.grammar.specs.Naming.{height}
 use Rattle.grammar.specs.Room.{link_width}
 use Rattle.grammar.specs.Rows.{Rows}
 use Rattle.parts.specs.Packed.{root_first, statement, statements}
-use Rattle.packing.specs.Roles.{rows}
+use Rattle.packing.specs.Seen.{seen}
 use Rattle.packing.proofs.Beginning.{begun, statement_heard, statement_dropped, some_heard}
 use Rattle.packing.proofs.Rooting.{root_ends, statement_below, statement_is}
 use Rattle.packing.proofs.hear.hear_all.Goals as goal
@@ -16,17 +16,17 @@ use Rattle.packing.proofs.hear.hear_all.Goals.{In-loop-j, then-kept-ne0, else-ke
 
 -- a turn of the loop
 abbrev rows_at : In-loop-j → Rows
-rows_at c = rows c.args.nodes.now c.args.links.now
+rows_at c = seen c.args.rows
 
 -- the statement's link is there, and its row
 there : (c : In-loop-j) → c.args.first + c.loop-j.j < root_first (rows_at c) + statements (rows_at c)
 there c = let p = c.requires in omega (arith, p.list, p.all)
 
-inside : (c : In-loop-j) → link_width * (c.args.first + c.loop-j.j) + link_width ≤ length c.args.links.now
+inside : (c : In-loop-j) → link_width * (c.args.first + c.loop-j.j) + link_width ≤ length c.args.rows.links.now
 inside c = let g = c.requires.speaks.good in omega (arith, there c, root_ends g, g.links)
 
-row_is : (c : In-loop-j) → get_or c.args.links.now (link_width * (c.args.first + c.loop-j.j)) 0 ≡ statement (rows_at c) c.loop-j.j
-row_is c = ap (λ (f : ℕ). get_or c.args.links.now (link_width * (f + c.loop-j.j)) 0) c.requires.list
+row_is : (c : In-loop-j) → get_or c.args.rows.links.now (link_width * (c.args.first + c.loop-j.j)) 0 ≡ statement (rows_at c) c.loop-j.j
+row_is c = ap (λ (f : ℕ). get_or c.args.rows.links.now (link_width * (f + c.loop-j.j)) 0) c.requires.list
 
 row_there : (c : In-loop-j) → statement (rows_at c) c.loop-j.j < height (rows_at c)
 row_there c =
@@ -47,11 +47,11 @@ overflow_add-row c = omega (arith, inside (goal.at.overflow_add-row c).In-loop-j
 pub overflow_mul-row : goal.overflow_mul-row
 overflow_mul-row c = omega (arith, inside (goal.at.overflow_mul-row c).In-loop-j)
 
-pub offset_bounds-links-first : goal.offset_bounds-links-first
-offset_bounds-links-first c = let l : link_width * (c.args.first + c.loop-j.j) < length c.args.links.now = omega (arith, inside (goal.at.offset_bounds-links-first c).In-loop-j) in search rules
+pub offset_bounds-rows-first : goal.offset_bounds-rows-first
+offset_bounds-rows-first c = let l : link_width * (c.args.first + c.loop-j.j) < length c.args.rows.links.now = omega (arith, inside (goal.at.offset_bounds-rows-first c).In-loop-j) in search rules
 
-pub bounds-links-first : goal.bounds-links-first
-bounds-links-first c = omega (arith, inside (goal.at.bounds-links-first c).In-loop-j)
+pub bounds-rows-first : goal.bounds-rows-first
+bounds-rows-first c = omega (arith, inside (goal.at.bounds-rows-first c).In-loop-j)
 
 pub hear_row-known-requires : goal.hear_row-known-requires
 hear_row-known-requires c =

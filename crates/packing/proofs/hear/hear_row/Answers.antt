@@ -9,7 +9,8 @@ use Rattle.grammar.specs.Naming.{height}
 use Rattle.grammar.specs.Rows.{Rows}
 use Rattle.foreign.specs.Check.{link_count}
 use Rattle.parts.specs.Spoken.{Word, Part, row, parts_of, spoken}
-use Rattle.packing.specs.Roles.{rows, numbers_parts}
+use Rattle.packing.specs.Seen.{seen}
+use Rattle.packing.specs.Roles.{numbers_parts}
 use Rattle.packing.specs.Stack.{source, stacked, Pushed}
 use Rattle.packing.proofs.Knowing.{room_left}
 use Rattle.packing.proofs.Slots.{parts_all, stood}
@@ -20,7 +21,7 @@ use Rattle.packing.proofs.hear.hear_row.Goals.{Start, After-push-top, In-loop-to
 
 -- the start; a turn of the loop, and what is known there: the walk, with one that waits, and that it is within the room
 abbrev rows_at : In-loop-top → Rows
-rows_at c = rows c.args.nodes.now c.args.links.now
+rows_at c = seen c.args.rows
 
 abbrev goal_at : In-loop-top → List Word
 goal_at c = spoken (rows_at c) (height (rows_at c)) c.args.row
@@ -45,11 +46,11 @@ taken : (c : In-loop-top) {p : Part} → p ≡ source (rows_at c) (get_or c.loop
 taken c e = popped _ _ _ _ e
 
 -- what a row holds, number by number
-held : (c : In-loop-top) {i : ℕ} → Popped c (row i) → numbers_parts c.args.nodes.now c.args.links.now i 0 9 ≡ parts_of (rows_at c) i
+held : (c : In-loop-top) {i : ℕ} → Popped c (row i) → numbers_parts c.args.rows.nodes.now c.args.rows.links.now i 0 9 ≡ parts_of (rows_at c) i
 held c {i} e = parts_all (rows_at c) i (stood c.requires.0.good (row_there c.requires.0.good (tour c) e))
 
 -- the row that the walk begins at waits
-entered : (c : After-push-top) → Pushed (rows c.args.nodes.now c.args.links.now) c.args.s 0 (row c.args.row ∷ []) c.args.scratch.now c.push-top.new.stack c.push-top.result
+entered : (c : After-push-top) → Pushed (seen c.args.rows) c.args.s 0 (row c.args.row ∷ []) c.args.scratch.now c.push-top.new.stack c.push-top.result
 entered c =
     let g = c.requires.0.good in
     pushed_one _ _ _ _ _ (omega (arith, c.requires.0.room, g.checked.rooted.some)) (row_waits _ (λ e. omega (arith, g.short, c.requires.1))) c.push-top.ensures
@@ -130,4 +131,4 @@ loop-top-preserved c =
     (word_taken t.requires.0.good (tour t) (taken t c.in-Said.ensures) (numbers t) c.hear-known.ensures c.hear-known.auto.scratch, c.hear-known.auto.symbols ∙ t.loop-top.invariant.1)
 
 pub returns : goal.returns
-returns c = hears_both [] (spoken (rows c.args.nodes.now c.args.links.now) (height (rows c.args.nodes.now c.args.links.now)) c.args.row) (hears_low (entered (goal.at.returns c).After-push-top).low) (ended c.requires.0.good (omega arith) c.loop-top.invariant.0)
+returns c = hears_both [] (spoken (seen c.args.rows) (height (seen c.args.rows)) c.args.row) (hears_low (entered (goal.at.returns c).After-push-top).low) (ended c.requires.0.good (omega arith) c.loop-top.invariant.0)

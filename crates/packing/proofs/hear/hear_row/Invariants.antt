@@ -3,12 +3,12 @@ use mathlib.Core.Path.{◌≡◌}
 use lib.ListN.{length}
 use Rattle.grammar.specs.Naming.{height}
 use Rattle.parts.specs.Spoken.{spoken}
-use Rattle.packing.specs.Roles.{rows}
+use Rattle.packing.specs.Seen.{seen}
 use Rattle.packing.proofs.Touring.{Tour, left_steps}
 use Rattle.packing.proofs.hear.hear_row.Given as goal
 
 abbrev pub invariant-loop-top : goal.invariant-loop-top
-invariant-loop-top l = Tour l.s (rows l.nodes l.links) (spoken (rows l.nodes l.links) (height (rows l.nodes l.links)) l.row) l.initial.symbols l.initial.scratch l.count l.symbols l.scratch l.known l.top × (length l.symbols ≡ length l.initial.symbols)
+invariant-loop-top l = Tour l.s (seen l.rows) (spoken (seen l.rows) (height (seen l.rows)) l.row) l.initial.symbols l.initial.scratch l.count l.symbols l.scratch l.known l.top × (length l.symbols ≡ length l.initial.symbols)
 
 abbrev pub decreases-loop-top : goal.decreases-loop-top
-decreases-loop-top l = left_steps l.s (rows l.nodes l.links) l.scratch l.top
+decreases-loop-top l = left_steps l.s (seen l.rows) l.scratch l.top

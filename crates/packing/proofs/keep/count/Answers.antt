@@ -4,18 +4,18 @@ use native.Mathlib.Omega.{arith}
 use mathlib.Core.Path.{◌≡◌}
 use lib.ListN.{length}
 use Rattle.parts.specs.Packed.{root_row}
-use Rattle.packing.specs.Roles.{rows}
+use Rattle.packing.specs.Seen.{seen}
 use Rattle.packing.proofs.Keeping.{none_counted, mark_small, row_counted, root_counted, root_low}
 use Rattle.packing.proofs.keep.count.Goals as goal
 use Rattle.packing.proofs.keep.count.Goals.{In-loop-i, After-loop-i}
 
-under : (c : In-loop-i) → c.loop-i.i < root_row (rows c.args.nodes.now c.args.links.now)
+under : (c : In-loop-i) → c.loop-i.i < root_row (seen c.args.rows)
 under c = omega (arith, c.requires.2, c.loop-i-test.true)
 
 inside : (c : In-loop-i) → c.args.base + c.loop-i.i < length c.loop-i.scratch
 inside c = omega (arith, under c, c.requires.1, c.loop-i.invariant.size)
 
-at_root : (c : After-loop-i) → c.loop-i.i ≡ root_row (rows c.args.nodes.now c.args.links.now)
+at_root : (c : After-loop-i) → c.loop-i.i ≡ root_row (seen c.args.rows)
 at_root c = omega (arith, c.requires.2, c.loop-i-test.false, c.loop-i.invariant.most)
 
 root_inside : (c : After-loop-i) → c.args.base + c.args.root < length c.loop-i.scratch

@@ -1,7 +1,7 @@
 -- `count` meets its contract: rows so far have their place, those from there on are still marked.
-use Rattle.packing.specs.Roles.{rows}
+use Rattle.packing.specs.Seen.{seen}
 use Rattle.packing.proofs.Keeping.{Counting}
 use Rattle.packing.proofs.keep.count.Given as goal
 
 abbrev pub invariant-loop-i : goal.invariant-loop-i
-invariant-loop-i l = Counting (rows l.nodes l.links) l.choice l.base l.i l.before l.initial.scratch l.scratch
+invariant-loop-i l = Counting (seen l.rows) l.choice l.base l.i l.before l.initial.scratch l.scratch

@@ -4,7 +4,7 @@ use native.Mathlib.Omega.{arith}
 use mathlib.Core.Path.{◌≡◌, sym}
 use lib.ListN.{length, get_or}
 use Rattle.grammar.specs.Room.{link_width}
-use Rattle.packing.specs.Roles.{rows}
+use Rattle.packing.specs.Seen.{seen}
 use Rattle.packing.proofs.Keeping.{low_on, low_written, none_marked, row_below, link_there, statement_marked, statement_passed}
 use Rattle.packing.proofs.keep.mark.Goals as goal
 use Rattle.packing.proofs.keep.mark.Goals.{In-loop-j, then-kept-ne0, else-kept-ne0}
@@ -13,10 +13,10 @@ use Rattle.packing.proofs.keep.mark.Goals.{In-loop-j, then-kept-ne0, else-kept-n
 abbrev link : In-loop-j → ℕ
 link c = link_width * (c.args.first + c.loop-j.j)
 
-there : (c : In-loop-j) → link c < length c.args.links.now
+there : (c : In-loop-j) → link c < length c.args.rows.links.now
 there c = link_there c.requires (sym c.zero.ensures.size) c.loop-j.invariant c.loop-j-test.true
 
-inside : (c : In-loop-j) → c.args.base + get_or c.args.links.now (link c) 0 < length c.loop-j.scratch
+inside : (c : In-loop-j) → c.args.base + get_or c.args.rows.links.now (link c) 0 < length c.loop-j.scratch
 inside c =
     let p = c.requires in
     omega (arith, row_below p (sym c.zero.ensures.size) c.loop-j.invariant c.loop-j-test.true, p.room, c.loop-j.invariant.size, c.zero.ensures.size)
@@ -28,7 +28,7 @@ pub zero-requires : goal.zero-requires
 zero-requires c = (omega arith, c.requires.room)
 
 pub loop-j-init : goal.loop-j-init
-loop-j-init c = let a = c.args in none_marked (rows a.nodes.now a.links.now) a.choice.now a.base a.n (omega (arith, c.requires.room)) c.zero.ensures
+loop-j-init c = let a = c.args in none_marked (seen a.rows) a.choice.now a.base a.n (omega (arith, c.requires.room)) c.zero.ensures
 
 pub overflow_add-row : goal.overflow_add-row
 overflow_add-row c = omega (arith, there (goal.at.overflow_add-row c).In-loop-j)
@@ -36,11 +36,11 @@ overflow_add-row c = omega (arith, there (goal.at.overflow_add-row c).In-loop-j)
 pub overflow_mul-row : goal.overflow_mul-row
 overflow_mul-row c = omega (arith, there (goal.at.overflow_mul-row c).In-loop-j)
 
-pub offset_bounds-links-first : goal.offset_bounds-links-first
-offset_bounds-links-first c = omega (arith, there (goal.at.offset_bounds-links-first c).In-loop-j)
+pub offset_bounds-rows-first : goal.offset_bounds-rows-first
+offset_bounds-rows-first c = omega (arith, there (goal.at.offset_bounds-rows-first c).In-loop-j)
 
-pub bounds-links-first : goal.bounds-links-first
-bounds-links-first c = there (goal.at.bounds-links-first c).In-loop-j
+pub bounds-rows-first : goal.bounds-rows-first
+bounds-rows-first c = there (goal.at.bounds-rows-first c).In-loop-j
 
 pub overflow_add-scratch : goal.overflow_add-scratch
 overflow_add-scratch c = omega (arith, inside (goal.at.overflow_add-scratch c).In-loop-j)

@@ -12,11 +12,11 @@ use Rattle.packing.proofs.keep.spread.Goals.{In-loop-i}
 abbrev place : In-loop-i → ℕ
 place c = node_width * (c.loop-i.i - 1) + own_width
 
-there : (c : In-loop-i) → place c < length c.args.nodes.now
+there : (c : In-loop-i) → place c < length c.args.rows.nodes.now
 there c = parent_there c.requires.0 c.loop-i.invariant c.loop-i-test.true
 
 -- the row and its parent have a number in the room
-inside : (c : In-loop-i) → c.args.base + get_or c.args.nodes.now (place c) 0 < length c.loop-i.scratch
+inside : (c : In-loop-i) → c.args.base + get_or c.args.rows.nodes.now (place c) 0 < length c.loop-i.scratch
 inside c =
     let p = c.requires.0 in
     omega (arith, parent_below p c.loop-i.invariant c.loop-i-test.true, p.room, c.loop-i.invariant.size, p.sound.good.checked.rooted.some)
@@ -33,11 +33,11 @@ overflow_mul-parent c = omega (arith, there c)
 pub overflow_add-parent : goal.overflow_add-parent
 overflow_add-parent c = omega (arith, there c)
 
-pub offset_bounds-nodes-i : goal.offset_bounds-nodes-i
-offset_bounds-nodes-i c = omega (arith, there c)
+pub offset_bounds-rows-i : goal.offset_bounds-rows-i
+offset_bounds-rows-i c = omega (arith, there c)
 
-pub bounds-nodes-i : goal.bounds-nodes-i
-bounds-nodes-i c = there (goal.at.bounds-nodes-i c).In-loop-i
+pub bounds-rows-i : goal.bounds-rows-i
+bounds-rows-i c = there (goal.at.bounds-rows-i c).In-loop-i
 
 pub overflow_add-scratch : goal.overflow_add-scratch
 overflow_add-scratch c = omega (arith, inside (goal.at.overflow_add-scratch c).In-loop-i)

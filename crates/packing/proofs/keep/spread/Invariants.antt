@@ -1,7 +1,7 @@
 -- `spread` meets its contract: from the last row to the first, each is marked as it stays.
-use Rattle.packing.specs.Roles.{rows}
+use Rattle.packing.specs.Seen.{seen}
 use Rattle.packing.proofs.Keeping.{Spreading}
 use Rattle.packing.proofs.keep.spread.Given as goal
 
 abbrev pub invariant-loop-i : goal.invariant-loop-i
-invariant-loop-i l = Spreading (rows l.nodes l.links) l.choice l.base l.i l.initial.scratch l.scratch
+invariant-loop-i l = Spreading (seen l.rows) l.choice l.base l.i l.initial.scratch l.scratch

@@ -15,7 +15,7 @@ one_more : (sort : ℕ) (ls : List ℕ) (from count left k : ℕ) → k ≡ left
 one_more sort ls from count left k e h = omega (arith, list_rest sort ls from count left (count - left) (omega arith), ap (λ ps. length (present ps)) (list_more sort ls from count left k e h), present_both (link_parts sort ls (from + left)) (list_parts sort ls (from + k) (count - k)))
 
 pub loop-left-init : goal.loop-left-init
-loop-left-init c = let a = c.args in (rw (none_left (digit a.role) a.links.now a.from a.count a.count refl) (pushed_none _ _ _ _ none_present), omega arith, refl)
+loop-left-init c = let a = c.args in (rw (none_left (digit a.role) a.rows.links.now a.from a.count a.count refl) (pushed_none _ _ _ _ none_present), omega arith, refl)
 
 pub push_link-above-requires : goal.push_link-above-requires
 push_link-above-requires c =
@@ -23,17 +23,17 @@ push_link-above-requires c =
     let s = c in
     let a = s.args in
     let (p, q, r) = l.invariant in
-    (omega (arith, s.requires.0), omega (arith, s.requires.2, p.many, r, one_more (digit a.role) a.links.now a.from a.count (l.left - 1) l.left (omega arith) q))
+    (omega (arith, s.requires.0), omega (arith, s.requires.2, p.many, r, one_more (digit a.role) a.rows.links.now a.from a.count (l.left - 1) l.left (omega arith) q))
 
 pub loop-left-preserved : goal.loop-left-preserved
 loop-left-preserved c =
     let l = c.loop-left in
     let a = c.args in
     let (p, q, r) = l.invariant in
-    (rw (list_more (digit a.role) a.links.now a.from a.count (l.left - 1) l.left (omega arith) q) (pushed_both _ _ p c.push_link-above.ensures), omega arith, c.push_link-above.auto.stack ∙ r)
+    (rw (list_more (digit a.role) a.rows.links.now a.from a.count (l.left - 1) l.left (omega arith) q) (pushed_both _ _ p c.push_link-above.ensures), omega arith, c.push_link-above.auto.stack ∙ r)
 
 pub returns : goal.returns
 returns c =
     let l = c.loop-left in
     let a = c.args in
-    rw (list_all (digit a.role) a.links.now a.from a.count l.left (omega arith)) at l.invariant.0
+    rw (list_all (digit a.role) a.rows.links.now a.from a.count l.left (omega arith)) at l.invariant.0

@@ -24,7 +24,7 @@ kind_is : (ns : List ℕ) (i j : ℕ) → role (get_or ns (node_width * i) 0) j 
 kind_is ns i j = rw (add_zero (node_width * i)) refl
 
 pub loop-j-init : goal.loop-j-init
-loop-j-init c = let a = c.args in (pushed_none _ _ _ _ (rw (none_after a.nodes.now a.links.now a.row 9) none_present), omega arith, refl)
+loop-j-init c = let a = c.args in (pushed_none _ _ _ _ (rw (none_after a.rows.nodes.now a.rows.links.now a.row 9) none_present), omega arith, refl)
 
 pub at-requires : goal.at-requires
 at-requires c =
@@ -39,16 +39,16 @@ push_number-above-requires c =
     let s = c in
     let a = s.args in
     let (p, q, r) = l.invariant in
-    let e = c.at.ensures ∙ kind_is a.nodes.now a.row (l.j - 1) in
-    rw e (holds s.requires.0 s.requires.1 (l.j - 1) (omega arith), omega (arith, s.requires.2, p.many, r, one_more a.nodes.now a.links.now a.row (l.j - 1) l.j (omega arith) q))
+    let e = c.at.ensures ∙ kind_is a.rows.nodes.now a.row (l.j - 1) in
+    rw e (holds s.requires.0 s.requires.1 (l.j - 1) (omega arith), omega (arith, s.requires.2, p.many, r, one_more a.rows.nodes.now a.rows.links.now a.row (l.j - 1) l.j (omega arith) q))
 
 pub loop-j-preserved : goal.loop-j-preserved
 loop-j-preserved c =
     let l = c.loop-j in
     let a = c.args in
     let (p, q, r) = l.invariant in
-    let e = c.at.ensures ∙ kind_is a.nodes.now a.row (l.j - 1) in
-    (rw (number_more a.nodes.now a.links.now a.row (l.j - 1) l.j (omega arith) q) (pushed_both _ _ p (rw e at c.push_number-above.ensures)), omega arith, c.push_number-above.auto.stack ∙ r)
+    let e = c.at.ensures ∙ kind_is a.rows.nodes.now a.row (l.j - 1) in
+    (rw (number_more a.rows.nodes.now a.rows.links.now a.row (l.j - 1) l.j (omega arith) q) (pushed_both _ _ p (rw e at c.push_number-above.ensures)), omega arith, c.push_number-above.auto.stack ∙ r)
 
 pub returns : goal.returns
 returns c = let z : c.loop-j.j ≡ 0 = omega arith in rw z at c.loop-j.invariant.0
