@@ -23,8 +23,7 @@ use Rattle.parts.proofs.Sizes.{parent_most}
 use Rattle.packing.specs.Good.{Good}
 use Rattle.packing.specs.Known.{numbered}
 use Rattle.packing.specs.Roles.{role, at, role_at, linked, link_moved, list_moved, number_moved, numbers_moved, lists_moved, lists_size, StandsRow}
-use Rattle.packing.specs.Rows.{moving, Mapped, MovesLists, MovesRow}
-use Rattle.packing.specs.declared.maps.Maps.{Maps}
+use Rattle.packing.specs.Rows.{Maps, moving, Mapped, MovesLists, MovesRow}
 use Rattle.packing.proofs.Moving.{plain_moved, node_moved, first_moved, symbol_moved}
 use Rattle.packing.proofs.Numbers.{row_names, row_ranges}
 use Rattle.packing.proofs.Slots.{role_known, last_role, row_moved, lists_all, stood}

@@ -15,9 +15,8 @@ use Rattle.ast.proofs.Rooms.{unwritten, stored, joined, said}
 use Rattle.parts.specs.Moved.{Move, moved_node}
 use Rattle.parts.specs.Packed.{keeps}
 use Rattle.packing.specs.Roles.{role, at, role_at, linked, link_moved, list_moved, number_moved, numbers_moved, lists_moved, lists_size, StandsRow}
-use Rattle.packing.specs.Rows.{MovesList, MovesLists, chosen, chosen_count}
+use Rattle.packing.specs.Rows.{Maps, MovesList, MovesLists, chosen, chosen_count}
 use Rattle.packing.proofs.Slots.{none_sized, size_plain, size_list, numbers_none, numbers_suc}
-use Rattle.packing.specs.declared.maps.Maps.{Maps}
 
 -- a number by its role
 module _ (m : Move) {r : ℕ} (x : ℕ) where

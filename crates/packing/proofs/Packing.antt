@@ -18,8 +18,7 @@ use Rattle.parts.specs.Moved.{row_links}
 use Rattle.parts.specs.Packed.{root_row, stays, rows_kept, links_kept, links_before, packed_nodes, packed_links}
 use Rattle.parts.proofs.Sizes.{rows_kept_most, links_kept_most, rows_kept_next, rows_kept_same, links_kept_next, links_kept_same, links_before_rises, all_links}
 use Rattle.packing.specs.Roles.{lists_moved, lists_size, numbers_moved, StandsRow}
-use Rattle.packing.specs.Rows.{moving, Mapped, MovesLists, MovesRow, PackedUpto, Packable}
-use Rattle.packing.specs.declared.maps.Maps.{Maps}
+use Rattle.packing.specs.Rows.{Maps, moving, Mapped, MovesLists, MovesRow, PackedUpto, Packable}
 use Rattle.packing.proofs.Agreeing.{AsWas, as_was, stands_was, sizes_was, moves_row, moves_lists, row_agrees, links_agree, packing_agrees}
 use Rattle.packing.proofs.Slots.{sizes_all, stood}
 

@@ -13,11 +13,17 @@ use Rattle.packing.specs.Good.{Good}
 use Rattle.packing.specs.Kept.{Placing}
 use Rattle.packing.specs.Known.{numbered}
 use Rattle.packing.specs.Roles.{at, role_at, linked, lists_size, StandsRow}
-use Rattle.packing.specs.declared.maps.Maps.{Maps}
 
 -- a symbol's new number: those that are not known come after all that are
 abbrev pub known_as : (scratch : List ℕ) (count x : ℕ) → ℕ
 known_as sc count x = cond (eqb (get_or sc x 0) 0) count (get_or sc x 0 - 1)
+
+-- where the rows' numbers begin in the room, how many symbols are left, and from which link a row's lists go to which
+pub record Maps : Type 0 where
+  pub base : ℕ
+  pub symbols : ℕ
+  pub from : ℕ
+  pub to : ℕ
 
 -- where rows, lists and symbols go
 abbrev pub moving : (scratch : List ℕ) → Maps → Move

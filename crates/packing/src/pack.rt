@@ -1,51 +1,15 @@
 // Rows and links moved to the front, in place: each goes to its own place or before it, so what is still to be moved is not yet overwritten.
-ghost use Rattle.std.specs.Prelude.{◌+◌, ◌*◌, ◌≤◌, [], ◌∷◌, cond, ◌≡◌, eqb, length};
+ghost use Rattle.std.specs.Prelude.{◌+◌, ◌*◌, ◌≤◌, [], ◌∷◌, ◌≡◌, length};
 ghost use Rattle.grammar.specs.Room.{node_width, link_width};
 ghost use Rattle.ast.specs.Written.{Written};
-ghost use Rattle.parts.specs.Moved.{moved_node};
 ghost use Rattle.packing.specs.Digits.{digit};
-ghost use Rattle.packing.specs.Roles.{rows, StandsRow, number_moved, list_moved, numbers_moved, lists_moved, lists_size};
-ghost use Rattle.packing.specs.Rows.{moving, MovesNumber, MovesLink, MovesList, MovesRow, MovesLists, Packable, PacksRows, Listable, Lists, root_numbers, PackableAll, PacksAll};
+ghost use Rattle.packing.specs.Roles.{rows, StandsRow, list_moved, numbers_moved, lists_moved, lists_size};
+ghost use Rattle.packing.specs.Rows.{MovesList, MovesRow, MovesLists, Packable, PacksRows, Listable, Lists, root_numbers, PackableAll, PacksAll};
+ghost use Rattle.packing.specs.Seen.{maps_of, moves_of};
 
-use crate::maps::{Maps, row_to, symbol_to};
+use crate::maps::Maps;
 use crate::roles::Role;
 use ast::{ABSENT, LINK_WIDTH, NODE_WIDTH, PARENT, kinds};
-
-// A number of a row, by its role.
-// Ruled out: a list's old place; a row's old number.
-fn number(scratch: &[u32], m: Maps, role: Role, x: u32) -> u32
-    requires { MovesNumber scratch.now m (digit role) x }
-    ensures { result ≡ number_moved (moving scratch.now m) (digit role) x }
-{
-    match role {
-        Role::Plain => x,
-        Role::Child => row_to(scratch, m.base, x),
-        Role::Letters | Role::Name => symbol_to(scratch, m.symbols, x),
-        Role::Nodes | Role::Names | Role::Entries => (x as usize - m.from + m.to) as u32,
-    }
-}
-
-// The first number of a link row: a name's symbol, or a row.
-fn link_first(scratch: &[u32], m: Maps, role: Role, x: u32) -> u32
-    requires { MovesLink scratch.now m (digit role) x }
-    ensures { result ≡ cond (eqb (digit role) 5) ((moving scratch.now m).symbol x) (moved_node (moving scratch.now m) x) }
-{
-    match role {
-        Role::Names => symbol_to(scratch, m.symbols, x),
-        _ => row_to(scratch, m.base, x),
-    }
-}
-
-// And the second: a value's row, or a number that stays.
-fn link_second(scratch: &[u32], m: Maps, role: Role, y: u32) -> u32
-    requires { digit role ≡ 6 → MovesLink scratch.now m 6 y }
-    ensures { result ≡ cond (eqb (digit role) 6) (moved_node (moving scratch.now m) y) y }
-{
-    match role {
-        Role::Entries => row_to(scratch, m.base, y),
-        _ => y,
-    }
-}
 
 // The three numbers of a link row.
 // Ruled out: the numbers of the row before; a fourth number that changes.
@@ -59,22 +23,14 @@ fn put_link(links: &mut [u32], k: usize, x: u32, y: u32, z: u32)
 
 // The links of a list, to a place at or before theirs.
 // Ruled out: the last link left behind; a name's place moved.
-fn move_list(
-    links: &mut [u32],
-    scratch: &[u32],
-    m: Maps,
-    role: Role,
-    from: usize,
-    to: usize,
-    count: usize,
-)
-    requires { MovesList scratch.now m (digit role) links.old from to count }
-    ensures { Written (link_width * to) (link_width * (to + count)) (list_moved (moving scratch.now m) (digit role) links.old from count) links.old links.new }
+fn move_list(links: &mut [u32], m: Maps, role: Role, from: usize, to: usize, count: usize)
+    requires { MovesList m.scratch.now (maps_of m) (digit role) links.old from to count }
+    ensures { Written (link_width * to) (link_width * (to + count)) (list_moved (moves_of m.entry) (digit role) links.old from count) links.old links.new }
 {
     for k in 0..count {
         let i = LINK_WIDTH * (from + k);
-        let x = link_first(scratch, m, role, links[i]);
-        let y = link_second(scratch, m, role, links[i + 1]);
+        let x = m.link_first(role, links[i]);
+        let y = m.link_second(role, links[i + 1]);
         let z = links[i + 2];
         put_link(links, to + k, x, y, z);
     }
@@ -82,9 +38,9 @@ fn move_list(
 
 // The links of all lists of a row, to where m says.
 // Ruled out: an import's second list before its first.
-fn move_lists(nodes: &[u32], links: &mut [u32], scratch: &[u32], m: Maps, row: usize)
-    requires { MovesLists scratch.now m nodes.now links.old row }
-    ensures { Written (link_width * m.to) (link_width * (m.to + lists_size nodes.now row 9)) (lists_moved (moving scratch.now m) nodes.now links.old row 9) links.old links.new }
+fn move_lists(nodes: &[u32], links: &mut [u32], m: Maps, row: usize)
+    requires { MovesLists m.scratch.now (maps_of m) nodes.now links.old row }
+    ensures { Written (link_width * m.entry.to) (link_width * (m.entry.to + lists_size nodes.now row 9)) (lists_moved (moves_of m.entry) nodes.now links.old row 9) links.old links.new }
 {
     let base = NODE_WIDTH * row;
     let kind = nodes[base];
@@ -93,7 +49,7 @@ fn move_lists(nodes: &[u32], links: &mut [u32], scratch: &[u32], m: Maps, row: u
         let role = Role::at(kind, j);
         if role.is_list() {
             let count = nodes[base + j + 1] as usize;
-            move_list(links, scratch, m, role, nodes[base + j] as usize, to, count);
+            move_list(links, m, role, nodes[base + j] as usize, to, count);
             to += count;
         }
     }
@@ -118,14 +74,14 @@ fn row_links(nodes: &[u32], row: usize) -> usize
 
 // A row, number by number, to a place at or before its own.
 // Ruled out: a parent that stays where it was.
-fn move_row(nodes: &mut [u32], scratch: &[u32], m: Maps, row: usize, to: usize)
-    requires { MovesRow scratch.now m nodes.old row to }
-    ensures { Written (node_width * to) (node_width * to + node_width) (numbers_moved (moving scratch.now m) nodes.old row 10) nodes.old nodes.new }
+fn move_row(nodes: &mut [u32], m: Maps, row: usize, to: usize)
+    requires { MovesRow m.scratch.now (maps_of m) nodes.old row to }
+    ensures { Written (node_width * to) (node_width * to + node_width) (numbers_moved (moves_of m.entry) nodes.old row 10) nodes.old nodes.new }
 {
     let from = NODE_WIDTH * row;
     let kind = nodes[from];
     for j in 0..NODE_WIDTH {
-        nodes[NODE_WIDTH * to + j] = number(scratch, m, Role::at(kind, j), nodes[from + j]);
+        nodes[NODE_WIDTH * to + j] = m.number(Role::at(kind, j), nodes[from + j]);
     }
 }
 
@@ -149,13 +105,14 @@ pub(crate) fn pack_rows(
         let size = row_links(nodes, i);
         if scratch[base + i + 1] != place {
             let m = Maps {
+                scratch,
                 base,
                 symbols,
                 from,
                 to,
             };
-            move_lists(nodes, links, scratch, m, i);
-            move_row(nodes, scratch, m, i, place as usize);
+            move_lists(nodes, links, m, i);
+            move_row(nodes, m, i, place as usize);
             to += size;
         }
         from += size;

@@ -3,12 +3,12 @@ use Prim.Native.Nat.{◌+◌}
 use native.Mathlib.Omega.{arith}
 use mathlib.Core.Path.{◌≡◌}
 use Rattle.packing.specs.Digits.{digit}
-use Rattle.packing.specs.Rows.{moving}
+use Rattle.packing.specs.Seen.{moves_of}
 use Rattle.packing.proofs.Moving.{none_listed, still_first, still_second, link_turn}
 use Rattle.packing.proofs.pack.move_list.Goals as goal
 
 pub loop-k-init : goal.loop-k-init
-loop-k-init c = let a = c.args in (none_listed (moving a.scratch.now a.m) (digit a.role) a.links.now a.from a.to, omega arith)
+loop-k-init c = let a = c.args in (none_listed (moves_of a.m) (digit a.role) a.links.now a.from a.to, omega arith)
 
 pub link_first-x-requires : goal.link_first-x-requires
 link_first-x-requires c =

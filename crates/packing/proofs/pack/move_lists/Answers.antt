@@ -5,7 +5,8 @@ use mathlib.Core.Path.{◌≡◌, refl}
 use Rattle.grammar.specs.Room.{node_width}
 use lib.ListN.{get_or}
 use Rattle.packing.specs.Digits.{digit}
-use Rattle.packing.specs.Rows.{moving, MovesList}
+use Rattle.packing.specs.Rows.{MovesList}
+use Rattle.packing.specs.Seen.{maps_of, moves_of}
 use Rattle.packing.proofs.Digits.{no_list}
 use Rattle.packing.proofs.Moving.{next_read, kind_of_row, none_done, moves_next, list_skipped, list_done}
 use Rattle.packing.proofs.pack.move_lists.Goals as goal
@@ -16,11 +17,11 @@ abbrev place : Then-is_list → ℕ
 place c = node_width * c.args.row + c.loop-j.j
 
 -- the list's links can be moved
-movable : (c : Then-is_list) → MovesList c.args.scratch.now c.args.m (digit c.at-role.result) c.loop-j.links (get_or c.args.nodes.now (place c) 0) c.loop-j.to (get_or c.args.nodes.now (place c + 1) 0)
+movable : (c : Then-is_list) → MovesList c.args.m.scratch.now (maps_of c.args.m) (digit c.at-role.result) c.loop-j.links (get_or c.args.nodes.now (place c) 0) c.loop-j.to (get_or c.args.nodes.now (place c + 1) 0)
 movable c = moves_next c.loop-j.invariant c.at-role.ensures (omega arith) c.requires refl (c.is_list.ensures.0 c.if-is_list.true)
 
 pub loop-j-init : goal.loop-j-init
-loop-j-init c = let a = c.args in none_done (moving a.scratch.now a.m) a.nodes.now a.links.now a.row a.m.to
+loop-j-init c = let a = c.args in none_done (moves_of a.m) a.nodes.now a.links.now a.row a.m.to
 
 pub at-role-requires : goal.at-role-requires
 at-role-requires c = let k = kind_of_row c.requires.stands in (k.least, k.most, omega arith)

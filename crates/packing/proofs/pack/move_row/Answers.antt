@@ -1,12 +1,12 @@
 -- `move_row` meets its contract: the numbers so far are moved, and those from the one that is read on are as they were.
 use native.Mathlib.Omega.{arith}
 use mathlib.Core.Path.{◌≡◌, ◌∙◌}
-use Rattle.packing.specs.Rows.{moving}
+use Rattle.packing.specs.Seen.{moves_of}
 use Rattle.packing.proofs.Moving.{role_read, kind_of_row, none_rowed, still_number, number_turn}
 use Rattle.packing.proofs.pack.move_row.Goals as goal
 
 pub loop-j-init : goal.loop-j-init
-loop-j-init c = let a = c.args in none_rowed (moving a.scratch.now a.m) a.nodes.now a.row a.to
+loop-j-init c = let a = c.args in none_rowed (moves_of a.m) a.nodes.now a.row a.to
 
 pub at-requires : goal.at-requires
 at-requires c = let k = kind_of_row c.requires.stands in (k.least, k.most, omega arith)
