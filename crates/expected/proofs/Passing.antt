@@ -19,8 +19,11 @@ use Rattle.grammar.proofs.Stopping.{marks, under_mark}
 use Rattle.grammar.proofs.Tests.{within}
 use Rattle.grammar.proofs.Verdicts.{Verdict, takes, passes, refuses, unknown, Sees, look}
 use Rattle.expected.specs.Cells.{states, cell, joined, list, opens_of, entry, taken, passed, barred, plain, barred_by, only_marks, decoded, sound, Sound, more, Acts, Pushed}
-use Rattle.expected.specs.Steps.{TooDeep, Fills, Taken, Ends, Bars, Admits}
+use Rattle.expected.specs.Steps.{TooDeep, Fills, Taken, Ends, Bars, Deepens, Passing, Above, StopsAt, StopCase, Stops, Admits}
+use Rattle.expected.specs.declared.stack.Stop.{Stop}
 use Rattle.expected.proofs.Laws.{opens_right}
+use native.Mathlib.Decide.{dec_lt}
+use Rattle.std.specs.Prelude.{Some, None}
 
 -- an opening passes the limit before P and K: what comes of it, by what P is seen to do
 deep_comes : {e : Edition} {x c limit : ℕ} {kind : ℕ → ℕ} {q : Refused} {M : Stack Table Label} (P K : Stack Table Label) → TooDeep e x c kind limit q M (P ++ K) → Comes e kind limit c K q M (look e x c 40 P).verdict
@@ -29,10 +32,6 @@ deep_comes {e} {x} {c} {limit} {kind} {q} {M} P K d = subst (λ y. Comes e kind 
 -- that two numbers are the same which are not
 apart : {A : Type 0} → ◌≡◌ {A = ℕ} 0 1 → A
 apart z = absurd (omega (arith, z))
-
--- where an opening passes the limit with K left, it does with J left
-pub record Deepens (e : Edition) (x c : ℕ) (K J : Stack Table Label) : Type 0 where
-  pub deeper : {limit : ℕ} {kind : ℕ → ℕ} {q : Refused} {M : Stack Table Label} → TooDeep e x c kind limit q M K → TooDeep e x c kind limit q M J
 
 -- what a verdict means, once the code and the marks alone are kept of what bars: the items P take the kind, pass it on or bar it
 module _ (e : Edition) (x c : ℕ) (P : Stack Table Label) where
@@ -134,15 +133,6 @@ no_marks (mark k o ∷ P) t = absurd t
 pub state_unmarked : (v : ℕ) → v < 64 → marks (get_or states v []) ≡ 0
 unfolding states unmarked
 state_unmarked v h = no_marks (get_or states v []) (within (λ v. unmarked (get_or states v [])) 0 64 v tt (omega arith) h)
-
--- the cells above t are left behind
-pub record Passing (e : Edition) (x c top : ℕ) (before room : List ℕ) (t : ℕ) : Type 0 where
-  pub same : room ≡ before
-  pub past : top ≤ t
-  pub upto : t ≤ length room
-  pub sounds : Sound (drop t room)
-  pub on : (r : Result Table Label) → Goes (kaori e) x c (decoded (drop t room)) r → Goes (kaori e) x c (decoded (drop top before)) r
-  pub deepens : Deepens e x c (decoded (drop top before)) (decoded (drop t room))
 
 heads : {v : ℕ} {vs : List ℕ} → Sound (v ∷ vs) → T (sound v) × Sound vs
 heads (more h s) = (h, s)
@@ -271,14 +261,40 @@ finished {e} {x} {c} {top} {before} {room} {t} p h =
     none : {limit : ℕ} {kind : ℕ → ℕ} {q : Refused} {M : Stack Table Label} → TooDeep e x c kind limit q M [] → ⊥
     none d = let m = d.meets in elim m [ ]
 
--- wherever the token is
-module _ {e : Edition} {x top : ℕ} {before room : List ℕ} {t : ℕ} (p : (c : ℕ) → Passing e x c top before room t) where
-  pub admits_over : length room ≤ t → Admits e x (decoded (drop top before)) true
-  admits_over h = record { result = λ c. over; goes = λ c. (finished (p c) h).goes; yes = λ t c. tt; no = λ c t. tt }
+-- nothing is left behind, and one cell more: a state that passes the kind on, and a mark
+pub none_above : {e : Edition} {x top : ℕ} {room : List ℕ} → top ≤ length room → Sound (drop top room) → Above e x top room top 0
+none_above h s = record { passing = λ c. record { same = refl; past = omega arith; upto = h; sounds = s; on = λ r g. g; deepens = record { deeper = λ d. d } }; counted = omega arith; few = omega arith }
 
-  module _ (h : t < length room) (l : get_or room t 0 < 64) {a : ℕ} (k : Acts e (get_or room t 0) x a) where
-    pub admits_not : a < 5 → Admits e x (decoded (drop top before)) false
-    admits_not i = record { result = λ c. bars ((bar (p c) h l k i refl).stands ++ decoded (drop (suc t) room)); goes = λ c. (bar (p c) h l k i refl).goes; yes = λ t c. absurd t; no = λ c t. t }
+module _ {e : Edition} {x top : ℕ} {room : List ℕ} {t n : ℕ} (p : Above e x top room t n) (h : t < length room) where
+  pub one_state : (l : get_or room t 0 < 64) {a : ℕ} → Acts e (get_or room t 0) x a → a ≡ 5 → Above e x top room (t + 1) n
+  one_state l k i = record { passing = λ c. pass_state (p.passing c) h l k i; counted = omega (arith, p.counted, state_next (p.passing 0) h l); few = omega (arith, p.few) }
 
-    pub admits_so : 5 < a → Admits e x (decoded (drop top before)) true
-    admits_so i = record { result = λ c. took (joined c (list (a - 6)) ++ decoded (drop (suc t) room)); goes = λ c. goes_on (p c) h l k i; yes = λ t c. tt; no = λ c t. tt }
+  pub one_mark : 64 ≤ get_or room t 0 → Above e x top room (t + 1) (n + 1)
+  one_mark l = record { passing = λ c. pass_mark (p.passing c) h l; counted = omega (arith, p.counted, mark_less (p.passing 0) h l); few = omega (arith, p.few) }
+
+-- what the first stop says
+pub as_stop : {e : Edition} {x top : ℕ} {room : List ℕ} {s : Stop} → Stops e x top room (Some s) → StopsAt e x top room s
+unfolding StopCase
+as_stop s = s.says
+
+pub as_nowhere : {e : Edition} {x top : ℕ} {room : List ℕ} → Stops e x top room None → (c : ℕ) → Passing e x c top room room (length room)
+unfolding StopCase
+as_nowhere s = s.says
+
+-- wherever the token is: the kind stands before nothing, and before a cell that takes it
+module _ {e : Edition} {x top : ℕ} {room : List ℕ} where
+  pub admits_over : ((c : ℕ) → Passing e x c top room room (length room)) → Admits e x (decoded (drop top room)) true
+  admits_over p = record { result = λ c. over; goes = λ c. (finished (p c) (omega arith)).goes; yes = λ t c. tt; no = λ c t. tt }
+
+  pub admits_stopped : {s : Stop} → StopsAt e x top room s → Admits e x (decoded (drop top room)) (ltb 5 s.number)
+  admits_stopped {s} w = elim (dec_lt 5 s.number) [
+    | yes i ↦ rw (lt-ltb 5 s.number i) (record { result = λ c. took (joined c (list (s.number - 6)) ++ decoded (drop (suc s.at) room)); goes = λ c. goes_on (p c) w.inside w.state w.acts i; yes = λ t c. tt; no = λ c t. tt })
+    | no i ↦
+        let l : s.number < 5 = omega (arith, w.stops) in
+        let b : (c : ℕ) → Bars e x c top room room s.at (marks (decoded (drop s.at room))) s.number = λ c. bar (p c) w.inside w.state w.acts l refl in
+        let k : s.number ≤ 5 = omega arith in
+        rw (le-ltb 5 s.number k) (record { result = λ c. bars ((b c).stands ++ decoded (drop (suc s.at) room)); goes = λ c. (b c).goes; yes = λ t c. absurd t; no = λ c t. t })
+  ]
+    where
+      p : (c : ℕ) → Passing e x c top room room s.at
+      p = w.above.passing

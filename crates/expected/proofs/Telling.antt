@@ -31,11 +31,11 @@ use Rattle.expected.specs.Parts.{Inner, Inside, lowest_of, Filled, Nothing, code
 use Rattle.expected.specs.Steps.{TooDeep, Taken, Ends, Bars, Case, Stepped, Admits, Gathers}
 use Rattle.expected.specs.Tells.{Tells}
 use Rattle.expected.specs.declared.Chain.{Chain}
-use Rattle.expected.specs.declared.Rest.{Rest}
 use Rattle.expected.specs.declared.Told.{Told}
 use Rattle.expected.specs.declared.stack.Step.{Step}
 use Rattle.expected.proofs.Chaining.{extended, count_length}
 use Rattle.expected.proofs.Counting.{count_right, lowest_right}
+use Rattle.std.specs.Prelude.{Some, None}
 use Rattle.expected.proofs.Passing.{marks_append}
 
 -- the empty set
@@ -332,11 +332,10 @@ module _ {e : Edition} {x c top : ℕ} {before after : List ℕ} where
 
 -- and what is left before the place
 module _ {n : ℕ} {ts : List ℕ} {limit place : ℕ} {room : List ℕ} where
-  pub as_reached : {top depth : ℕ} (r : Rest) → r ≡ Rest.At top depth → LeftAt n ts limit place room r → Reached (edition n) ts limit place room top depth
+  pub as_reached : {top depth : ℕ} → LeftAt n ts limit place room (Some (top, depth)) → Reached (edition n) ts limit place room top depth
   unfolding ComesTo
-  as_reached r k l = (subst (LeftAt n ts limit place room) k l).says
+  as_reached l = l.says
 
-  pub as_gone : (r : Rest) → ((top depth : ℕ) → r ≡ Rest.At top depth → ⊥) → LeftAt n ts limit place room r → (code : ℕ) → 8 ≤ code → Met n ts limit code place → ⊥
+  pub as_gone : LeftAt n ts limit place room None → (code : ℕ) → 8 ≤ code → Met n ts limit code place → ⊥
   unfolding ComesTo
-  as_gone (Rest.At top depth) f l = absurd (f top depth refl)
-  as_gone Rest.Gone f l = l.says
+  as_gone l = l.says

@@ -1,5 +1,5 @@
 -- What is left to read at a place, if the tokens before it are taken within the limit.
-use Rattle.std.specs.Prelude.{ℕ, ◌/◌, ◌≤◌, ◌<◌, Bool, true, false, List, [], ◌∷◌, ◌≡◌, length, drop}
+use Rattle.std.specs.Prelude.{ℕ, ◌/◌, ◌≤◌, ◌<◌, Bool, true, false, List, [], ◌∷◌, ◌≡◌, Option, Some, None, length, drop}
 use Rattle.grammar.specs.Door.{RightEdition, RightList, Whole}
 use Rattle.grammar.specs.Edition.{Edition, edition}
 use Rattle.grammar.specs.Expected.{Met}
@@ -10,7 +10,6 @@ use Rattle.grammar.proofs.Fares.{Within}
 use Rattle.grammar.proofs.Stack.{want}
 use Rattle.grammar.proofs.Stopping.{marks}
 use Rattle.expected.specs.Cells.{decoded, Sound}
-use Rattle.expected.specs.declared.Rest.{Rest}
 
 -- something may be told of this code: in a list of so many numbers, an edition and a limit that the door lets in, and at a token of the list
 pub record AskedOf (numbers n limit code place : ℕ) : Type 0 where
@@ -42,9 +41,9 @@ pub record Reached (e : Edition) (ts : List ℕ) (limit place : ℕ) (room : Lis
   pub whole_room : length room ≡ 1024
 
 -- or reading is not refused at the place
-unfoldable pub ComesTo : (n : ℕ) (ts : List ℕ) (limit place : ℕ) (room : List ℕ) → Rest → Type 0
-ComesTo n ts limit place room (Rest.At top depth) = Reached (edition n) ts limit place room top depth
-ComesTo n ts limit place room Rest.Gone = (code : ℕ) → 8 ≤ code → Met n ts limit code place → ⊥
+unfoldable pub ComesTo : (n : ℕ) (ts : List ℕ) (limit place : ℕ) (room : List ℕ) → Option (ℕ × ℕ) → Type 0
+ComesTo n ts limit place room (Some (top, depth)) = Reached (edition n) ts limit place room top depth
+ComesTo n ts limit place room None = (code : ℕ) → 8 ≤ code → Met n ts limit code place → ⊥
 
-pub record LeftAt (n : ℕ) (ts : List ℕ) (limit place : ℕ) (room : List ℕ) (r : Rest) : Type 0 where
+pub record LeftAt (n : ℕ) (ts : List ℕ) (limit place : ℕ) (room : List ℕ) (r : Option (ℕ × ℕ)) : Type 0 where
   pub says : ComesTo n ts limit place room r

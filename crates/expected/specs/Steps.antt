@@ -1,5 +1,5 @@
 -- What comes of a kind before the cells of a stack.
-use Rattle.std.specs.Prelude.{ℕ, suc, ◌+◌, ◌≤◌, ◌<◌, Bool, List, ◌++◌, ◌≡◌, T, length, drop}
+use Rattle.std.specs.Prelude.{ℕ, suc, ◌+◌, ◌≤◌, ◌<◌, Bool, List, ◌++◌, ◌≡◌, Option, Some, None, T, length, get_or, drop}
 use Rattle.grammar.specs.Edition.{Edition}
 use Rattle.grammar.specs.Expected.{gathered}
 use Rattle.grammar.specs.Kaori.{Table, kaori}
@@ -10,8 +10,9 @@ use Rattle.grammar.proofs.Expected.{Stands}
 use Rattle.grammar.proofs.Overflow.{Overflows}
 use Rattle.grammar.proofs.Places.{place_of}
 use Rattle.grammar.proofs.Stopping.{marks, Opens, Meets}
-use Rattle.expected.specs.Cells.{decoded, barred, barred_by, entry, only_marks, Sound}
+use Rattle.expected.specs.Cells.{decoded, barred, barred_by, entry, only_marks, Sound, Acts}
 use Rattle.expected.specs.declared.stack.Step.{Step}
+use Rattle.expected.specs.declared.stack.Stop.{Stop}
 
 -- with K left before token c, of kind x, an opening passes the limit there
 pub record TooDeep (e : Edition) (x c : ℕ) (kind : ℕ → ℕ) (limit : ℕ) (q : Refused) (M K : Stack Table Label) : Type 0 where
@@ -60,6 +61,40 @@ Case e x c top before after (Step.Barred t d a) = Bars e x c top before after t 
 pub record Stepped (e : Edition) (x c top : ℕ) (before after : List ℕ) (r : Step) : Type 0 where
   pub says : Case e x c top before after r
   pub same_length : length after ≡ length before
+
+-- where an opening passes the limit with K left, it does with J left
+pub record Deepens (e : Edition) (x c : ℕ) (K J : Stack Table Label) : Type 0 where
+  pub deeper : {limit : ℕ} {kind : ℕ → ℕ} {q : Refused} {M : Stack Table Label} → TooDeep e x c kind limit q M K → TooDeep e x c kind limit q M J
+
+-- the cells above t are left behind
+pub record Passing (e : Edition) (x c top : ℕ) (before room : List ℕ) (t : ℕ) : Type 0 where
+  pub same : room ≡ before
+  pub past : top ≤ t
+  pub upto : t ≤ length room
+  pub sounds : Sound (drop t room)
+  pub on : (r : Result Table Label) → Goes (kaori e) x c (decoded (drop t room)) r → Goes (kaori e) x c (decoded (drop top before)) r
+  pub deepens : Deepens e x c (decoded (drop top before)) (decoded (drop t room))
+
+-- the cells above a place are left behind: what comes of the kind before those from there on comes of it before all, wherever the token is; and so many of them are marks
+pub record Above (e : Edition) (x top : ℕ) (room : List ℕ) (t n : ℕ) : Type 0 where
+  pub passing : (c : ℕ) → Passing e x c top room room t
+  pub counted : marks (decoded (drop top room)) ≡ n + marks (decoded (drop t room))
+  pub few : n ≤ t
+
+-- the cell there stops the kind: the number says how
+pub record StopsAt (e : Edition) (x top : ℕ) (room : List ℕ) (s : Stop) : Type 0 where
+  pub above : Above e x top room s.at s.marks
+  pub inside : s.at < length room
+  pub state : get_or room s.at 0 < 64
+  pub acts : Acts e (get_or room s.at 0) x s.number
+  pub stops : s.number ≡ 5 → ⊥
+
+unfoldable pub StopCase : (e : Edition) (x top : ℕ) (room : List ℕ) → Option Stop → Type 0
+StopCase e x top room (Some s) = StopsAt e x top room s
+StopCase e x top room None = (c : ℕ) → Passing e x c top room room (length room)
+
+pub record Stops (e : Edition) (x top : ℕ) (room : List ℕ) (r : Option Stop) : Type 0 where
+  pub says : StopCase e x top room r
 
 -- whether a kind could stand before what is left: it is not barred, wherever the token is
 pub record Admits (e : Edition) (x : ℕ) (K : Stack Table Label) (b : Bool) : Type 0 where

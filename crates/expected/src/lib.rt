@@ -5,20 +5,18 @@ pub mod sorts;
 mod stack;
 mod tables;
 
-ghost use Rattle.std.specs.Prelude.{◌+◌, ◌≤◌, ◌<◌, cond, [], ◌≡◌, length, drop, take};
-ghost use Rattle.std.specs.Int.Count.{ones};
+ghost use Rattle.std.specs.Prelude.{◌+◌, ◌≤◌, ◌<◌, [], ◌≡◌, length, drop, take};
 ghost use Rattle.grammar.specs.Edition.{edition as the-edition};
 ghost use Rattle.grammar.proofs.Stopping.{opened, marks};
 ghost use Rattle.expected.specs.Cells.{decoded, Sound};
 ghost use Rattle.expected.specs.Steps.{Gathers};
 ghost use Rattle.expected.specs.Chains.{Chained};
-ghost use Rattle.expected.specs.Tables.{tables};
 ghost use Rattle.expected.specs.Left.{AskedOf, Asks, Asked, Reached, LeftAt};
 ghost use Rattle.expected.specs.Tells.{Tells};
 ghost use Rattle.expected.specs.Parts.{Extends, Inside, lowest_of, Filled, Nothing, code_of, opened_by};
 
-use crate::stack::{Step, admits, advance, size};
-use crate::tables::{MARK, NO_BLOCK, NO_FOR, NO_OPERAND, NO_OPERAND_OPENED, made};
+use crate::stack::{Step, admits, advance};
+use crate::tables::{MARK, NO_BLOCK, NO_FOR, NO_OPERAND, NO_OPERAND_OPENED};
 use token::editions;
 use token::kinds::EOF;
 use token::list::kind_at;
@@ -31,6 +29,7 @@ pub struct Opening {
 }
 
 // The open constructs, outermost first; entries past the count are 0.
+// An array and a count, as the project's rules name it: fixed memory, and the C interface writes all of the entries (station's `kaori_expected`).
 #[derive(Clone, Copy)]
 pub struct Chain {
     pub entries: [Opening; 64],
@@ -38,6 +37,7 @@ pub struct Chain {
 }
 
 // The kinds that could have stood at a token, one binary digit each, how many they are and the lowest numbered one (255 where there is none); and what was open there.
+// Numbers, and no Option: the C interface writes them as they stand (station's `kaori_expected`; `Tells`).
 #[derive(Clone, Copy)]
 pub struct Told {
     pub kinds: u64,
@@ -76,16 +76,15 @@ fn empty_chain() -> Chain
     }
 }
 
-// A chain with one more construct.
-fn with(c: Chain, sort: u32, at: u32) -> Chain
-    requires { c.count < 64 }
-    ensures { Extends c sort at result }
-{
-    let n = c.count;
-    let mut d = c;
-    d.entries[n] = Opening { sort, at };
-    d.count = n + 1;
-    d
+impl Chain {
+    // One more construct is open.
+    fn push(&mut self, sort: u32, at: u32)
+        requires { self.old.count < 64 }
+        ensures { Extends self.old sort at self.new }
+    {
+        self.entries[self.count] = Opening { sort, at };
+        self.count += 1;
+    }
 }
 
 // The outermost marks of a stack whose top is here, from the bottom up: so many at most. A mark's cell is four times its token and its sort, from MARK on.
@@ -96,123 +95,87 @@ fn open(room: &[u32], top: usize, most: usize) -> Chain
     ensures { Chained (take most (opened (decoded (drop top room.now)))) result }
 {
     let mut c = empty_chain();
-    let mut i = room.len();
-    while top < i {
-        i = i - 1;
+    for i in (top..room.len()).rev() {
         let v = room[i];
-        if MARK <= v {
-            let n = c.count;
-            if most <= n {
+        if v >= MARK {
+            if c.count >= most {
                 return c;
             }
-            c.entries[n] = Opening {
-                sort: v % 4,
-                at: v / 4 - 16,
-            };
-            c.count = n + 1;
+            c.push(v % 4, v / 4 - 16);
         }
     }
     c
 }
 
 // A chain with what the number of the table's says was opened at this token.
-fn inside(c: Chain, number: usize, at: u32) -> Chain
+fn inside(mut c: Chain, number: usize, at: u32) -> Chain
     requires number_bound { number < 5 }
     requires count_bound { 3 ≤ number → c.count < 64 }
     ensures { Inside c number at result }
 {
-    if number == NO_OPERAND_OPENED {
-        return with(c, sorts::EXPRESSION, at);
-    }
-    if number == NO_BLOCK {
-        return with(c, sorts::BLOCK, at);
+    match number {
+        NO_OPERAND_OPENED => c.push(sorts::EXPRESSION, at),
+        NO_BLOCK => c.push(sorts::BLOCK, at),
+        _ => {}
     }
     c
 }
 
-// A number, or 0.
-fn chosen(b: bool, bit: u64) -> u64
-    ensures { result ≡ cond b bit 0 }
-{
-    if b { bit } else { 0 }
-}
-
 // The kinds that a stack whose top is here does not bar, as one set.
-fn kinds(table: &[u8], room: &[u32], top: usize, edition: u32) -> u64
-    requires table_value { table.now ≡ tables }
+fn kinds(room: &[u32], top: usize, edition: u32) -> u64
     requires top_in_bounds { top ≤ length room.now }
     requires sound { Sound (drop top room.now) }
     ensures { Gathers (the-edition edition) (decoded (drop top room.now)) 45 result }
 {
-    let mut set = 0u64;
-    let mut bit = 1u64;
-    let mut kind = 0u32;
-    while kind < KINDS {
-        set = set + chosen(admits(table, room, top, edition, kind), bit);
-        bit = bit * 2;
-        kind = kind + 1;
+    let mut set = 0;
+    for kind in 0..KINDS {
+        if admits(room, top, edition, kind) {
+            set += 1 << kind;
+        }
     }
     set
 }
 
-// The tokens before a place are taken within the limit: the stack's top, and how many constructs are open. Or they are not.
-#[derive(Drop)]
-enum Rest {
-    At(usize, usize),
-    Gone,
-}
-
-fn narrow(x: usize) -> u32
-    requires { x < 4096 }
-    ensures { result ≡ x }
-{
-    x as u32
-}
-
-// What is left to read after the tokens before a place.
-fn left(table: &[u8], tokens: &[u32], edition: u32, limit: u32, at: usize, room: &mut [u32]) -> Rest
-    requires table_value { table.now ≡ tables }
+// What is left to read after the tokens before a place: the stack's top, and how many constructs are open. Nothing, if they are not all taken within the limit.
+fn left(
+    tokens: &[u32],
+    edition: u32,
+    limit: u32,
+    at: usize,
+    room: &mut [u32],
+) -> Option<(usize, usize)>
     requires asked { Asked tokens.now limit at }
     requires room_len { length room.old ≡ 1024 }
     ensures { LeftAt edition tokens.now limit at room.new result }
 {
     room[ROOM - 1] = 0;
     let mut top = ROOM - 1;
-    let mut depth = 0usize;
-    let mut i = 0usize;
-    while i < at {
+    let mut depth = 0;
+    for i in 0..at {
         let kind = kind_at(tokens, i);
-        if EOF < kind {
-            return Rest::Gone;
+        if kind > EOF {
+            return None;
         }
-        let step = advance(table, room, top, depth, edition, kind, narrow(i));
-        let Step::Took(t, d) = step else {
-            return Rest::Gone;
+        let Step::Took(t, d) = advance(room, top, depth, edition, kind, i as u32) else {
+            return None;
         };
-        if size(limit) < d {
-            return Rest::Gone;
+        if d > limit as usize {
+            return None;
         }
         top = t;
         depth = d;
-        i = i + 1;
     }
-    Rest::At(top, depth)
+    Some((top, depth))
 }
 
-// The lowest kind of a set, and how many it has.
+// The lowest kind of a set.
 fn lowest(kinds: u64) -> u32
     ensures { result ≡ lowest_of kinds }
 {
     if kinds == 0 {
         return NO_KIND;
     }
-    u64::trailing_zeros(kinds)
-}
-
-fn count(kinds: u64) -> u32
-    ensures { result ≡ ones kinds }
-{
-    u64::count_ones(kinds)
+    kinds.trailing_zeros()
 }
 
 // A set and a chain.
@@ -220,10 +183,10 @@ fn fill(kinds: u64, chain: Chain) -> Told
     ensures { Filled kinds chain result }
 {
     Told {
-        kinds: kinds,
-        count: count(kinds),
+        kinds,
+        count: kinds.count_ones(),
         lowest: lowest(kinds),
-        chain: chain,
+        chain,
     }
 }
 
@@ -238,28 +201,12 @@ fn nothing() -> Told
 fn asks(length: usize, edition: u32, limit: u32, code: u32, at: usize) -> bool
     ensures { Asks length edition limit code at result }
 {
-    if code < REQUIRED {
-        return false;
-    }
-    if DEEP < code {
-        return false;
-    }
-    if limit == 0 {
-        return false;
-    }
-    if MOST_DEPTH < limit {
-        return false;
-    }
-    if length % 3 != 0 {
-        return false;
-    }
-    if 3 * MOST_TOKENS < length {
-        return false;
-    }
-    match edition {
-        editions::FIRST | editions::SECOND => at < length / 3,
-        _ => false,
-    }
+    matches!(code, REQUIRED..=DEEP)
+        && matches!(limit, 1..=MOST_DEPTH)
+        && length % 3 == 0
+        && length <= 3 * MOST_TOKENS
+        && matches!(edition, editions::FIRST | editions::SECOND)
+        && at < length / 3
 }
 
 // The refusal that a number of the table's stands for.
@@ -268,9 +215,8 @@ fn code_of(number: usize) -> u32
     ensures { result ≡ code_of number }
 {
     match number {
-        NO_OPERAND => OPERAND,
+        NO_OPERAND | NO_OPERAND_OPENED => OPERAND,
         NO_FOR => FOR,
-        NO_OPERAND_OPENED => OPERAND,
         _ => REQUIRED,
     }
 }
@@ -289,7 +235,6 @@ fn opened_by(number: usize) -> usize
 // What is told at a token up to which all tokens are taken within the limit: the cells from the top on are left, with so many constructs open. The kind there is taken,
 // and only an opening that passes the limit is a refusal; or nothing is left; or it is barred, by the code that the table says.
 fn tell(
-    table: &[u8],
     tokens: &[u32],
     edition: u32,
     limit: u32,
@@ -299,23 +244,18 @@ fn tell(
     top: usize,
     depth: usize,
 ) -> Told
-    requires table_value { table.now ≡ tables }
     requires asked_of { AskedOf (length tokens.now) edition limit code at }
     requires reached { Reached (the-edition edition) tokens.now limit at room.old top depth }
     ensures { Tells tokens.now edition limit code at result }
 {
-    let kind = kind_at(tokens, size(at));
-    if EOF < kind {
+    let kind = kind_at(tokens, at as usize);
+    if kind > EOF {
         return nothing();
     }
-    let most = size(limit);
-    let step = advance(table, room, top, depth, edition, kind, at);
-    match step {
+    let most = limit as usize;
+    match advance(room, top, depth, edition, kind, at) {
         Step::Took(t, d) => {
-            if code != DEEP {
-                return nothing();
-            }
-            if d <= most {
+            if code != DEEP || d <= most {
                 return nothing();
             }
             fill(0, open(room, t, most))
@@ -332,7 +272,7 @@ fn tell(
                 return nothing();
             }
             let outer = open(room, t + 1, most);
-            fill(kinds(table, room, top, edition), inside(outer, number, at))
+            fill(kinds(room, top, edition), inside(outer, number, at))
         }
     }
 }
@@ -344,17 +284,13 @@ fn tell(
 pub fn expected(tokens: &[u32], edition: u32, limit: u32, code: u32, at: u32) -> Told
     ensures { Tells tokens.now edition limit code at result }
 {
-    let place = size(at);
+    let place = at as usize;
     if !asks(tokens.len(), edition, limit, code, place) {
         return nothing();
     }
-    let table = made();
-    let mut room = [0u32; ROOM];
-    let left = left(&table, tokens, edition, limit, place, &mut room);
-    let Rest::At(top, depth) = left else {
+    let mut room = [0; ROOM];
+    let Some((top, depth)) = left(tokens, edition, limit, place, &mut room) else {
         return nothing();
     };
-    tell(
-        &table, tokens, edition, limit, code, at, &mut room, top, depth,
-    )
+    tell(tokens, edition, limit, code, at, &mut room, top, depth)
 }

@@ -3,8 +3,7 @@ ghost use Rattle.std.specs.Prelude.{◌≤◌, ◌<◌, ◌≡◌, length, drop}
 ghost use Rattle.grammar.specs.Edition.{edition as the-edition};
 ghost use Rattle.grammar.proofs.Stopping.{marks};
 ghost use Rattle.expected.specs.Cells.{decoded, Sound};
-ghost use Rattle.expected.specs.Steps.{Stepped, Admits};
-ghost use Rattle.expected.specs.Tables.{tables};
+ghost use Rattle.expected.specs.Steps.{Stepped, Stops, Admits};
 
 use crate::tables::{MARK, PASSES, TAKES, action, opens, push};
 
@@ -17,15 +16,38 @@ pub(crate) enum Step {
     Barred(usize, usize, usize),
 }
 
-pub(crate) fn size(x: u32) -> usize
-    ensures { result ≡ x }
+// The first cell that doesn't pass a kind on, how many marks stand above it, and the table's number for it.
+#[derive(Drop)]
+struct Stop {
+    at: usize,
+    marks: usize,
+    number: usize,
+}
+
+// Where a stack whose top is here stops a kind; nowhere, where all of its cells pass it on.
+fn first_stop(room: &[u32], top: usize, edition: u32, kind: u32) -> Option<Stop>
+    requires kind_bound { kind < 45 }
+    requires top_in_bounds { top ≤ length room.now }
+    requires sound { Sound (drop top room.now) }
+    ensures { Stops (the-edition edition) kind top room.now result }
 {
-    x as usize
+    let mut marks = 0;
+    for at in top..room.len() {
+        let v = room[at];
+        if v >= MARK {
+            marks += 1;
+            continue;
+        }
+        let number = action(edition, v as usize, kind);
+        if number != PASSES {
+            return Some(Stop { at, marks, number });
+        }
+    }
+    None
 }
 
 // What comes of a kind before a stack whose top is here, with so many constructs open.
 pub(crate) fn advance(
-    table: &[u8],
     room: &mut [u32],
     top: usize,
     depth: usize,
@@ -33,7 +55,6 @@ pub(crate) fn advance(
     kind: u32,
     at: u32,
 ) -> Step
-    requires table_value { table.now ≡ tables }
     requires kind_bound { kind < 45 }
     requires at_bound { at < 4096 }
     requires le_top { 8 ≤ top }
@@ -43,52 +64,27 @@ pub(crate) fn advance(
     requires depth_bound { depth ≤ 64 }
     ensures { Stepped (the-edition edition) kind at top room.old room.new result }
 {
-    let mut t = top;
-    let mut d = depth;
-    while t < room.len() {
-        let v = room[t];
-        if v < MARK {
-            let a = action(table, edition, size(v), kind);
-            if a < PASSES {
-                return Step::Barred(t, d, a);
-            }
-            if PASSES < a {
-                let list = a - TAKES;
-                let r = push(table, room, t + 1, list, at);
-                return Step::Took(r, d + opens(list));
-            }
-            t = t + 1;
-        } else {
-            d = d - 1;
-            t = t + 1;
-        }
+    let Some(stop) = first_stop(room, top, edition, kind) else {
+        return Step::Over;
+    };
+    let left = depth - stop.marks;
+    if stop.number < PASSES {
+        return Step::Barred(stop.at, left, stop.number);
     }
-    Step::Over
+    let list = stop.number - TAKES;
+    let below = push(room, stop.at + 1, list, at);
+    Step::Took(below, left + opens(list))
 }
 
 // Whether a kind is not barred before a stack whose top is here.
-pub(crate) fn admits(table: &[u8], room: &[u32], top: usize, edition: u32, kind: u32) -> bool
-    requires table_value { table.now ≡ tables }
+pub(crate) fn admits(room: &[u32], top: usize, edition: u32, kind: u32) -> bool
     requires kind_bound { kind < 45 }
     requires top_in_bounds { top ≤ length room.now }
     requires sound { Sound (drop top room.now) }
     ensures { Admits (the-edition edition) kind (decoded (drop top room.now)) result }
 {
-    let mut t = top;
-    while t < room.len() {
-        let v = room[t];
-        if v < MARK {
-            let a = action(table, edition, size(v), kind);
-            if a < PASSES {
-                return false;
-            }
-            if PASSES < a {
-                return true;
-            }
-            t = t + 1;
-        } else {
-            t = t + 1;
-        }
+    match first_stop(room, top, edition, kind) {
+        Some(stop) => stop.number > PASSES,
+        None => true,
     }
-    true
 }

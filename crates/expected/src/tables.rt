@@ -1,6 +1,6 @@
 // What is left to read, as numbers: between two tokens there are 54 states (specs/Cells.antt), and a table says what comes of each before each kind. Its rule is one
-// computation (proofs/Numbering.antt). To name a constant array copies it, so the tables are made once and lent.
-ghost use Rattle.std.specs.Prelude.{◌≤◌, ◌<◌, ◌≡◌, length};
+// computation (proofs/Numbering.antt).
+ghost use Rattle.std.specs.Prelude.{◌≤◌, ◌<◌, ◌≡◌, length, slice_index};
 ghost use Rattle.grammar.specs.Edition.{edition as the-edition};
 ghost use Rattle.expected.specs.Cells.{column_of, Acts, opens_of, Celled, Pushed};
 ghost use Rattle.expected.specs.Tables.{tables};
@@ -36,7 +36,7 @@ const RIGHT_BRACE_SECOND: usize = 48;
 
 // The tables, one after the other: a line for each state; how many numbers each list has; and the lists, each with zeros up to eight: states, and from 60 on marks of a
 // sort. Lists that open nothing come first, then those that open one construct, and two.
-const TABLES: [u8; 4185] = *b"\
+static TABLES: [u8; 4185] = *b"\
     \x03\x96\x96\x03\x96\x03\x03\x03\x03\x03\x03\x03\x03\x03\x03\x03\x3c\x3d\x03\x3e\x3f\x03\x03\x03\x40\x06\x06\x06\x07\x02\x08\x09\x09\x41\x03\x0a\x0b\x42\x42\x42\x42\x03\x42\x43\x05\x96\x8b\x03\x03\
     \x01\x44\x44\x01\x44\x01\x01\x01\x01\x01\x01\x01\x01\x01\x01\x01\x0c\x0d\x01\x0e\x45\x01\x01\x01\x0f\x01\x01\x01\x01\x01\x01\x01\x01\x46\x01\x01\x01\x10\x10\x10\x10\x01\x10\x11\x01\x44\x3a\x01\x01\
     \x05\x12\x12\x13\x05\x13\x13\x14\x14\x15\x15\x15\x15\x05\x05\x05\x05\x05\x05\x05\x05\x05\x16\x17\x05\x05\x05\x05\x05\x05\x05\x05\x05\x05\x05\x05\x05\x05\x05\x05\x05\x05\x05\x05\x05\x05\x05\x05\x05\
@@ -142,23 +142,12 @@ const OPENING_ONE: usize = 54;
 
 const OPENING_TWO: usize = 144;
 
-fn wide(x: u8) -> u32
-    ensures { result ≡ x }
+// A number of the tables. It asks that they have it.
+fn number(i: usize) -> u8
+    requires { i < 4185 }
+    ensures { result ≡ slice_index tables i }
 {
-    x as u32
-}
-
-fn wider(x: u8) -> usize
-    ensures { result ≡ x }
-{
-    x as usize
-}
-
-// The tables, for a caller to make once and to lend.
-pub(crate) fn made() -> [u8; 4185]
-    ensures { result ≡ tables }
-{
-    TABLES
+    TABLES[i]
 }
 
 // The column of a kind.
@@ -177,14 +166,13 @@ fn column(edition: u32, kind: u32) -> usize
     }
 }
 
-// What the table has for a state before a kind. It asks for the tables.
-pub(crate) fn action(table: &[u8], edition: u32, state: usize, kind: u32) -> usize
-    requires table_value { table.now ≡ tables }
+// What the table has for a state before a kind.
+pub(crate) fn action(edition: u32, state: usize, kind: u32) -> usize
     requires state_bound { state < 54 }
     requires kind_bound { kind < 45 }
     ensures { Acts (the-edition edition) state kind result }
 {
-    wider(table[state * COLUMNS + column(edition, kind)])
+    usize::from(number(state * COLUMNS + column(edition, kind)))
 }
 
 // How many constructs a list opens.
@@ -218,9 +206,8 @@ fn cell(v: u32, at: u32) -> u32
     at * 4 + v + (MARK - MARKS)
 }
 
-// A list, put on a stack whose top is here: its cells stand from the top on. It asks for the tables.
-pub(crate) fn push(table: &[u8], room: &mut [u32], top: usize, list: usize, at: u32) -> usize
-    requires table_value { table.now ≡ tables }
+// A list, put on a stack whose top is here: its cells stand from the top on.
+pub(crate) fn push(room: &mut [u32], top: usize, list: usize, at: u32) -> usize
     requires list_bound { list < 171 }
     requires le_top { 8 ≤ top }
     requires top_in_bounds { top ≤ length room.old }
@@ -228,13 +215,11 @@ pub(crate) fn push(table: &[u8], room: &mut [u32], top: usize, list: usize, at: 
     ensures { Pushed list at top room.old room.new result }
 {
     let from = WIDTH * list;
-    let mut i = from + wider(table[LENGTHS + list]);
+    let length = usize::from(number(LENGTHS + list));
     let mut t = top;
-    while from < i {
-        i = i - 1;
-        t = t - 1;
-        let v = wide(table[LISTS + i]);
-        room[t] = cell(v, at);
+    for i in (from..from + length).rev() {
+        t -= 1;
+        room[t] = cell(u32::from(number(LISTS + i)), at);
     }
     t
 }

@@ -1,5 +1,6 @@
 -- `code_of` meets its contract.
 use Prim.Native.Nat.{ℕ, zero, suc}
+use mathlib.Core.Logic.{inl, inr}
 use mathlib.Core.Path.{◌≡◌, refl}
 use native.Mathlib.Omega.{arith}
 use Rattle.expected.specs.Parts.{code_of}
@@ -15,15 +16,11 @@ other (suc (suc (suc (suc n)))) a b d = refl
 
 pub returns-in-1 : goal.returns-in-1
 unfolding code_of
-returns-in-1 c = rw c.in-1.is
+returns-in-1 c = elim c.in-1.is [ inl e ↦ rw e | inr e ↦ rw e ]
 
 pub returns-in-2 : goal.returns-in-2
 unfolding code_of
 returns-in-2 c = rw c.in-2.is
 
-pub returns-in-3 : goal.returns-in-3
-unfolding code_of
-returns-in-3 c = rw c.in-3.is
-
 pub returns-in_default : goal.returns-in_default
-returns-in_default c = other c.args.number (omega arith) (omega arith) (omega arith)
+returns-in_default c = other c.args.number (grind arith) (grind arith) (grind arith)

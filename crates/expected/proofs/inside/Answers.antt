@@ -15,13 +15,13 @@ none d (suc (suc (suc zero))) at h i j = absurd (i refl)
 none d (suc (suc (suc (suc zero)))) at h i j = absurd (j refl)
 none d (suc (suc (suc (suc (suc n))))) at h i j = absurd (omega arith)
 
-pub returns-then-number-eq-NO_OPERAND_OPENED : goal.returns-then-number-eq-NO_OPERAND_OPENED
+pub returns-in-3 : goal.returns-in-3
 unfolding Inner
-returns-then-number-eq-NO_OPERAND_OPENED c = let a = c.args in subst (λ n. Inside a.c n a.at c.with.result) (sym c.if-number-eq-NO_OPERAND_OPENED.true) (record { says = c.with.ensures })
+returns-in-3 c = let a = c.args in subst (λ n. Inside a.c n a.at c.push.new.self) (sym c.in-3.is) (record { says = c.push.ensures })
 
-pub returns-then-number-eq-NO_BLOCK : goal.returns-then-number-eq-NO_BLOCK
+pub returns-in-4 : goal.returns-in-4
 unfolding Inner
-returns-then-number-eq-NO_BLOCK c = let a = c.args in subst (λ n. Inside a.c n a.at c.with-then-number-eq-NO_BLOCK.result) (sym c.if-number-eq-NO_BLOCK.true) (record { says = c.with-then-number-eq-NO_BLOCK.ensures })
+returns-in-4 c = let a = c.args in subst (λ n. Inside a.c n a.at c.push-in-4.new.self) (sym c.in-4.is) (record { says = c.push-in-4.ensures })
 
-pub returns : goal.returns
-returns c = let a = c.args in none a.c a.number a.at c.requires.number_bound c.if-number-eq-NO_OPERAND_OPENED.false c.if-number-eq-NO_BLOCK.false
+pub returns-in_default : goal.returns-in_default
+returns-in_default c = let a = c.args in none a.c a.number a.at c.requires.number_bound (omega arith) (omega arith)

@@ -1,5 +1,4 @@
 -- `kinds` meets its contract: after n turns it is the set of the kinds under n.
-use Prim.Native.Nat.{◌-◌}
 use lib.ListN.{drop}
 use Rattle.grammar.specs.Edition.{edition as the-edition}
 use Rattle.expected.specs.Cells.{decoded}
@@ -7,7 +6,4 @@ use Rattle.expected.proofs.Gathering.{Gathering}
 use Rattle.expected.proofs.kinds.Given as goal
 
 abbrev pub invariant-loop-kind : goal.invariant-loop-kind
-invariant-loop-kind l = Gathering (the-edition l.edition) (decoded (drop l.top l.room)) l.kind l.set l.bit
-
-abbrev pub decreases-loop-kind : goal.decreases-loop-kind
-decreases-loop-kind l = 45 - l.kind
+invariant-loop-kind l = Gathering (the-edition l.edition) (decoded (drop l.top l.room)) l.kind l.set
