@@ -1,6 +1,4 @@
 // The arguments that the program was started with.
-ghost use Rattle.std.specs.Io.{WritesAtMost};
-
 use std::env::{Env, FillError};
 use std::io::Error;
 
@@ -9,12 +7,10 @@ const EINVAL: i32 = 22;
 
 const ENAMETOOLONG: i32 = 36;
 
-// Puts argument i at the start of a room, and answers its length.
-pub(crate) fn read(rt: &HostRuntime, i: usize, room: &mut [u8]) -> Result<usize, Error>
-    ensures { WritesAtMost result room.new }
-{
+// Argument i, put at the start of a room.
+pub(crate) fn read<'a>(rt: &HostRuntime, i: usize, room: &'a mut [u8]) -> Result<&'a [u8], Error> {
     match rt.arg(i, room) {
-        Ok(n) => Ok(n),
+        Ok(n) => Ok(&room[..n]),
         Err(FillError::NotPresent) => Err(Error::from_raw_os_error(EINVAL)),
         Err(FillError::TooLong) => Err(Error::from_raw_os_error(ENAMETOOLONG)),
     }

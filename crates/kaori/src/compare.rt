@@ -2,130 +2,79 @@
 // whole expression after it in edition 1 and the next operand in edition 2. So a script is read in both, and each `not` that takes another part of the text is shown.
 ghost use Rattle.std.specs.Prelude.{◌≤◌, length};
 
-use crate::script::{symbol_room, ten_each, three_each};
+use crate::builtin::Names;
+use crate::rooms::Rooms;
+use crate::status::Status;
 use ast::kinds::LOGICAL_NOT;
-use children::node;
 use diagnostics::line::{place, writing_end};
-use page::source::{line_start, put_place, put_under, put_where, show_written};
-use page::visible::put_path;
-use page::words::least;
-use page::{end_line, put, put_number};
-use reader::read_with;
-use showing::cover::{cover, noted, part_of};
+use page::Line;
+use page::source::line_start;
+use showing::Tree;
 use syntax::Numbers;
-use telling::{DEPTH, tell};
+use telling::tell;
 use token::{editions, kinds};
 
 // Where the part of the text ends that the `not` at an offset covers; 0 where no row is a `not` there.
-fn end_of(nodes: &[u32], covers: &[u32], rows: u32, start: u32) -> u32 {
-    let mut row: u32 = 0;
-    while row < rows {
-        if node(nodes, row, 0) == LOGICAL_NOT {
-            if node(nodes, row, 1) == start {
-                return part_of(covers, row).end;
-            }
+fn end_of(tree: &Tree, start: u32) -> u32 {
+    for row in 0..tree.rows {
+        if tree.node(row, 0) == LOGICAL_NOT && tree.node(row, 1) == start {
+            return tree.part_of(row).end;
         }
-        row += 1;
     }
     0
 }
 
-// Notes these ends for the tokens of a list, one a token; 0 for a token that is no `not`.
-fn note_ends(
-    list: &[u32; 12288],
-    nodes: &[u32],
-    covers: &[u32],
-    rows: u32,
-    ends: &mut [u32; 4096],
-) {
-    let mut i = 0;
-    while i < 4096 {
+// Where the part of each `not` ends, one a token of a list; 0 for a token that is no `not`.
+fn ends_of(list: &[u32; 12288], tree: &Tree) -> [u32; 4096] {
+    let mut ends = [0; 4096];
+    for i in 0..4096 {
         if list[3 * i] == kinds::NOT {
-            ends[i] = end_of(nodes, covers, rows, list[3 * i + 1]);
+            ends[i] = end_of(tree, list[3 * i + 1]);
         }
-        i += 1;
     }
+    ends
 }
 
-// Reads a text in an edition, and notes where what each `not` covers ends; nothing for a script that is refused.
-fn read_ends(
-    names: &[u8],
-    rows: &[u32],
-    edition: u32,
-    text: &[u8],
-    list: &mut [u32; 12288],
-    ends: &mut [u32; 4096],
-) -> Numbers {
-    let mut nodes = ten_each();
-    let mut links = three_each();
-    let mut symbols = symbol_room();
-    let mut scratch = three_each();
-    let a = read_with(
-        names,
-        rows,
-        text,
-        list,
-        edition,
-        DEPTH,
-        &mut nodes,
-        &mut links,
-        &mut symbols,
-        &mut scratch,
-    );
-    if a.code == 0 {
-        let mut covers = noted();
-        cover(list, &nodes, &links, a.nodes, &mut covers);
-        note_ends(list, &nodes, &covers, a.nodes, ends);
+// Reads a text in an edition into rooms, and answers where what each `not` covers ends; zeros for a script that is refused.
+fn read_ends(names: Names, edition: u32, text: &[u8], rooms: &mut Rooms) -> (Numbers, [u32; 4096]) {
+    let a = rooms.read(names, edition, text);
+    if a.code != 0 {
+        return (a, [0; 4096]);
     }
-    a
+    let tree = rooms.tree(names, text, a.nodes);
+    (a, ends_of(&rooms.list, &tree))
 }
 
-// What follows the marks of a part that ends at `end`: where its last byte stands, if that is past what is written on the line.
-fn put_past(text: &[u8], written: usize, end: u32, out: &mut [u8; 4096], at: usize) -> usize
-    requires { at ≤ 4096 }
-    ensures { result ≤ 4096 }
-{
-    if written >= end as usize {
-        return at;
-    }
-    let gap = put(b" .. to ", out, at);
-    put_place(text, end - 1, out, gap)
-}
-
-// A line of marks below the line that starts at `start`: what the `not` at `offset` covers in an edition, up to `end`.
-fn show_marks(
-    text: &[u8],
-    start: usize,
-    offset: usize,
-    end: u32,
-    edition: u32,
-    out: &mut [u8; 4096],
-)
+// A line of marks below the line that starts at `start`: what the `not` at `offset` covers in an edition, up to `end`; and where its last byte stands, if that is past what is
+// written on the line.
+fn show_marks(text: &[u8], start: usize, offset: usize, end: u32, edition: u32, line: &mut Line)
     requires { (start ≤ offset) × (offset ≤ length text.now) }
 {
     let written = writing_end(text, offset);
-    let under = put_under(text, start, offset, b' ', out, 0);
-    let marked = put_under(text, offset, least(written, end as usize), b'^', out, under);
-    let past = put_past(text, written, end, out, marked);
-    let told = put(b" in edition ", out, past);
-    let all = put_number(edition, out, told);
-    end_line(out, all);
+    line.put_under(text, start, offset, b' ');
+    line.put_under(text, offset, written.min(end as usize), b'^');
+    if written < end as usize {
+        line.put(b" .. to ");
+        line.put_place(text, end - 1);
+    }
+    line.put(b" in edition ");
+    line.put_number(edition);
+    line.end();
 }
 
 // A `not`: its place, its line, and what it covers in each edition.
-fn show_not(path: &[u8], text: &[u8], start: u32, first: u32, second: u32, out: &mut [u8; 4096]) {
+fn show_not(path: &[u8], text: &[u8], start: u32, first: u32, second: u32, line: &mut Line) {
     let offset = start as usize;
     let here = place(text, offset);
-    let led = put_where(path, here, out);
-    let all = put(b"`not` takes less in edition 2", out, led);
-    end_line(out, all);
+    line.put_where(path, here);
+    line.put_line(b"`not` takes less in edition 2");
     if offset > text.len() {
         return;
     }
-    let line = line_start(offset, here.column);
-    show_written(text, line, out);
-    show_marks(text, line, offset, first, editions::FIRST, out);
-    show_marks(text, line, offset, second, editions::SECOND, out);
+    let from = line_start(offset, here.column);
+    line.show_written(text, from);
+    show_marks(text, from, offset, first, editions::FIRST, line);
+    show_marks(text, from, offset, second, editions::SECOND, line);
 }
 
 // Shows every `not` whose part ends elsewhere in edition 2. The answer is how many there are.
@@ -135,90 +84,64 @@ fn show_nots(
     list: &[u32; 12288],
     first: &[u32; 4096],
     second: &[u32; 4096],
-    out: &mut [u8; 4096],
+    line: &mut Line,
 ) -> u32 {
-    let mut shown: u32 = 0;
-    let mut i = 0;
-    while i < 4096 {
+    let mut shown = 0;
+    for i in 0..4096 {
         if first[i] != second[i] {
-            show_not(path, text, list[3 * i + 1], first[i], second[i], out);
+            show_not(path, text, list[3 * i + 1], first[i], second[i], line);
             shown += 1;
         }
-        i += 1;
     }
     shown
 }
 
 // The last line of a comparison.
-fn conclude(path: &[u8], what: &[u8], out: &mut [u8; 4096]) {
-    let named = put_path(path, out, 0);
-    let all = put(what, out, named);
-    end_line(out, all);
+fn conclude(path: &[u8], what: &[u8], line: &mut Line) {
+    line.put_path(path);
+    line.put_line(what);
 }
 
 // What is shown of a script that edition 1 refuses; `code` is what edition 2 answers.
-fn show_refused(
-    path: &[u8],
-    text: &[u8],
-    list: &[u32; 12288],
-    a: Numbers,
-    code: u32,
-    out: &mut [u8; 4096],
-) {
-    tell(editions::FIRST, path, text, list, a, out);
+fn show_refused(path: &[u8], text: &[u8], list: &[u32], a: Numbers, code: u32, line: &mut Line) {
+    tell(editions::FIRST, path, text, list, a, line);
     if code != 0 {
-        conclude(path, b": refused in both editions", out);
-        return;
+        conclude(path, b": refused in both editions", line);
+    } else {
+        conclude(path, b": refused in edition 1, accepted in edition 2", line);
     }
-    conclude(path, b": refused in edition 1, accepted in edition 2", out);
 }
 
-// The word for so many differences.
-fn put_differences(shown: u32, out: &mut [u8; 4096], at: usize) -> usize
-    requires { at ≤ 4096 }
-    ensures { result ≤ 4096 }
-{
-    if shown == 1 {
-        return put(b" difference", out, at);
+// The last line where there are so many differences.
+fn conclude_many(path: &[u8], shown: u32, line: &mut Line) {
+    line.put_path(path);
+    line.put(b": ");
+    line.put_number(shown);
+    match shown {
+        1 => line.put(b" difference"),
+        _ => line.put(b" differences"),
     }
-    put(b" differences", out, at)
+    line.put_line(b" between the editions");
 }
 
-// The last line where there are differences.
-fn conclude_many(path: &[u8], shown: u32, out: &mut [u8; 4096]) {
-    let named = put_path(path, out, 0);
-    let gap = put(b": ", out, named);
-    let counted = put_number(shown, out, gap);
-    let told = put_differences(shown, out, counted);
-    let all = put(b" between the editions", out, told);
-    end_line(out, all);
-}
-
-// Reads a text in both editions beside built-in names, and shows what they group differently. The answer is the status: 0 for a script that both group alike, 1 for any
-// other, and for one that edition 1 refuses.
-pub(crate) fn compare(
-    names: &[u8],
-    rows: &[u32],
-    path: &[u8],
-    text: &[u8],
-    out: &mut [u8; 4096],
-) -> u32
-    ensures { result ≤ 2 }
-{
-    let mut list = three_each();
-    let mut first: [u32; 4096] = [0; 4096];
-    let mut second: [u32; 4096] = [0; 4096];
-    let a = read_ends(names, rows, editions::FIRST, text, &mut list, &mut first);
-    let b = read_ends(names, rows, editions::SECOND, text, &mut list, &mut second);
+// Reads a text in both editions beside built-in names, and shows what they group differently: nothing of a script that both group alike, which is good.
+pub(crate) fn compare(names: Names, path: &[u8], text: &[u8], line: &mut Line) -> Status {
+    let mut rooms = Rooms::new();
+    let (a, first) = read_ends(names, editions::FIRST, text, &mut rooms);
+    let mut rooms = Rooms::new();
+    let (b, second) = read_ends(names, editions::SECOND, text, &mut rooms);
     if a.code != 0 {
-        show_refused(path, text, &list, a, b.code, out);
-        return 1;
+        show_refused(path, text, &rooms.list, a, b.code, line);
+        return Status::Refused;
     }
-    let shown = show_nots(path, text, &list, &first, &second, out);
-    if shown == 0 {
-        conclude(path, b": both editions group it alike", out);
-        return 0;
+    match show_nots(path, text, &rooms.list, &first, &second, line) {
+        0 => {
+            conclude(path, b": both editions group it alike", line);
+            Status::Good
+        }
+        shown => {
+            conclude_many(path, shown, line);
+            Status::Refused
+        }
     }
-    conclude_many(path, shown, out);
-    1
 }

@@ -1,14 +1,10 @@
 // The number that an argument writes.
 use listed::digits::number;
 
-// The number below 1,000,000,000 that a word writes in decimal; 0 for any other word.
-pub(crate) fn decimal(word: &[u8]) -> u32 {
-    let all = number(word, 0);
-    if all.next != word.len() {
-        return 0;
+// The number from 1 to 999,999,999 that a word writes in decimal; none for any other word.
+pub(crate) fn decimal(word: &[u8]) -> Option<u32> {
+    match number(word) {
+        Some((value @ 1..=999999999, [])) => Some(value),
+        _ => None,
     }
-    if all.value > 999999999 {
-        return 0;
-    }
-    all.value
 }

@@ -1,228 +1,128 @@
 // One file: its text is read, then its tokens and rows are made, and what the command asks for is shown.
-ghost use Rattle.std.specs.Prelude.{◌≤◌};
-
-use crate::load::{end_error, put_error};
-use builtins::NAME_WIDTH;
+use crate::builtin::Names;
+use crate::load::error;
+use crate::rooms::Rooms;
+use crate::status::Status;
+use crate::wish::{Command, Spot, Wish};
 use diagnostics::line::offset;
-use page::visible::put_path;
-use page::{end_line, put, put_byte, put_number};
-use reader::read_with;
-use showing::at::show_at;
-use showing::json::show_json;
+use page::Line;
+use showing::Tree;
 use showing::listing::{list_refusal, list_rows};
-use showing::statements::show_statements;
 use syntax::Numbers;
-use telling::{DEPTH, tell, tell_json};
+use telling::{tell, tell_json};
 use warning::warn;
 
-// What is asked for: the edition; the report of a refusal, the statements with their trees, the rows; the names of files above them; both editions side by side; guards and no
-// files; listings and no scripts; all of it for a program to read; that a warning counts; and what stands at a line and a column, unless the line is 0.
-#[derive(Clone, Copy)]
-pub struct Wish {
-    pub edition: u32,
-    pub report: bool,
-    pub tree: bool,
-    pub rows: bool,
-    pub heads: bool,
-    pub compare: bool,
-    pub guard: bool,
-    pub listing: bool,
-    pub json: bool,
-    pub strict: bool,
-    pub line: u32,
-    pub column: u32,
-}
-
 // The name of a file above what is shown of it, where there are several.
-fn show_name(wish: Wish, path: &[u8], out: &mut [u8; 4096]) {
+fn show_name(wish: Wish, path: &[u8], line: &mut Line) {
     if wish.heads {
-        let led = put(b"== ", out, 0);
-        let all = put_path(path, out, led);
-        end_line(out, all);
+        line.put(b"== ");
+        line.put_path(path);
+        line.end();
     }
 }
 
 // One line on standard error: a file has no such place.
-fn lacks(path: &[u8], line: u32, column: u32) {
-    let mut out = io::buffer();
-    let named = put_error(path, &mut out);
-    let led = put(b": no place ", &mut out, named);
-    let first = put_number(line, &mut out, led);
-    let colon = put_byte(b':', &mut out, first);
-    let second = put_number(column, &mut out, colon);
-    let all = put(b" in it", &mut out, second);
-    end_error(&mut out, all);
+fn lacks(path: &[u8], spot: Spot) {
+    let mut line = error(path);
+    line.put(b": no place ");
+    line.put_number(spot.line);
+    line.put_byte(b':');
+    line.put_number(spot.column);
+    line.put_line(b" in it");
 }
 
-// What stands at the place that is asked for. The answer is the status.
-fn show_place(
-    wish: Wish,
-    path: &[u8],
-    text: &[u8],
-    list: &[u32],
-    nodes: &[u32],
-    links: &[u32],
-    rows: u32,
-    built: usize,
-    out: &mut [u8; 4096],
-) -> u32
-    ensures { result ≤ 2 }
-{
-    let here = offset(text, wish.line, wish.column);
-    if here > text.len() {
-        lacks(path, wish.line, wish.column);
-        return 2;
+// What stands at a place, if the file has it.
+fn show_spot(path: &[u8], tree: &Tree, spot: Spot, line: &mut Line) -> Status {
+    let here = offset(tree.text, spot.line, spot.column);
+    if here > tree.text.len() {
+        lacks(path, spot);
+        return Status::Undone;
     }
-    show_at(text, list, nodes, links, rows, built, out, here);
-    0
+    tree.show_at(here, line);
+    Status::Good
 }
 
 // What is shown of a script that is refused: a report, and its numbers as the listing has them.
-fn show_refused(
-    wish: Wish,
-    path: &[u8],
-    text: &[u8],
-    list: &[u32],
-    a: Numbers,
-    out: &mut [u8; 4096],
-) {
+fn show_refused(wish: Wish, path: &[u8], text: &[u8], list: &[u32], a: Numbers, line: &mut Line) {
     if wish.json {
-        tell_json(wish.edition, path, text, list, a, out);
+        tell_json(wish.edition, path, text, list, a, line);
         return;
     }
-    show_name(wish, path, out);
-    if wish.report {
-        tell(wish.edition, path, text, list, a, out);
+    show_name(wish, path, line);
+    if wish.command != Command::Rows {
+        tell(wish.edition, path, text, list, a, line);
     }
-    if wish.rows {
-        list_refusal(list, a.code, a.at, a.start, a.end, a.expected);
+    if wish.command.lists_rows() {
+        list_refusal(list, a.code, a.at, a.start, a.end, a.expected, line);
     }
 }
 
-// Whether anything is shown of a script that has so many rows: there are no statements where the root is the only one.
-fn is_shown(wish: Wish, rows: u32) -> bool {
-    if wish.rows {
-        return true;
+// The warnings of a script that is read. Where they count, it is refused for one.
+fn show_warnings(wish: Wish, path: &[u8], tree: &Tree, line: &mut Line) -> Status {
+    if warn(tree, path, wish.json, line) && wish.strict {
+        return Status::Refused;
     }
-    rows > 1
+    Status::Good
 }
 
-// Whether a script is only checked.
-fn is_check(wish: Wish) -> bool {
-    if wish.tree {
-        return false;
+// The statements with their trees, and the rows, of which the command shows either or both. There are no statements where the root is the only row.
+fn show_rows(wish: Wish, path: &[u8], rooms: &Rooms, a: Numbers, tree: &Tree, line: &mut Line) {
+    if wish.command.lists_rows() || a.nodes > 1 {
+        show_name(wish, path, line);
     }
-    !wish.rows
+    if wish.command.shows_tree() {
+        tree.show_statements(line);
+    }
+    if wish.command.lists_rows() {
+        list_rows(
+            &rooms.nodes,
+            &rooms.links,
+            &rooms.symbols,
+            a.nodes,
+            a.links,
+            a.symbols,
+            line,
+        );
+    }
 }
 
-// The warnings of a script that is read. The answer is the status: 1 where there are some and they count.
-fn show_warnings(
-    wish: Wish,
-    path: &[u8],
-    text: &[u8],
-    list: &[u32],
-    nodes: &[u32],
-    links: &[u32],
-    rows: u32,
-    out: &mut [u8; 4096],
-) -> u32
-    ensures { result ≤ 2 }
-{
-    let some = warn(path, text, list, nodes, links, rows, wish.json, out);
-    if some {
-        if wish.strict {
-            return 1;
-        }
-    }
-    0
-}
-
-// What is shown of a script that is read. The answer is the status.
+// What is shown of a script that is read.
 fn show_read(
     wish: Wish,
     path: &[u8],
-    text: &[u8],
-    list: &[u32],
-    nodes: &[u32],
-    links: &[u32],
-    symbols: &[u32],
+    rooms: &Rooms,
     a: Numbers,
-    built: usize,
-    out: &mut [u8; 4096],
-) -> u32
-    ensures { result ≤ 2 }
-{
-    if wish.line != 0 {
-        return show_place(wish, path, text, list, nodes, links, a.nodes, built, out);
+    tree: &Tree,
+    line: &mut Line,
+) -> Status {
+    if let Some(spot) = wish.spot {
+        return show_spot(path, tree, spot, line);
     }
-    if is_check(wish) {
-        return show_warnings(wish, path, text, list, nodes, links, a.nodes, out);
+    if wish.command == Command::Check {
+        return show_warnings(wish, path, tree, line);
     }
     if wish.json {
-        show_json(path, text, list, nodes, links, a.nodes, built, out);
-        return 0;
+        tree.show_json(path, line);
+    } else {
+        show_rows(wish, path, rooms, a, tree, line);
     }
-    if is_shown(wish, a.nodes) {
-        show_name(wish, path, out);
-    }
-    if wish.tree {
-        show_statements(text, list, nodes, links, a.nodes, built, out);
-    }
-    if wish.rows {
-        list_rows(nodes, links, symbols, a.nodes, a.links, a.symbols);
-    }
-    0
+    Status::Good
 }
 
-// Rooms of 4,096 rows, zero throughout, with so many numbers a row.
-pub(crate) fn three_each() -> [u32; 12288] {
-    [0; 12288]
-}
-
-pub(crate) fn ten_each() -> [u32; 40960] {
-    [0; 40960]
-}
-
-// The symbol room has 64 rows more, for built-in names.
-pub(crate) fn symbol_room() -> [u32; 8320] {
-    [0; 8320]
-}
-
-// Reads a text beside built-in names, and shows what is asked for. The answer is the status: 0 for a good script, 1 for one that is refused, 2 for a place that it
-// does not have.
+// Reads a text beside built-in names, and shows what is asked for.
 pub(crate) fn script(
-    names: &[u8],
-    rows: &[u32],
+    names: Names,
     wish: Wish,
     path: &[u8],
     text: &[u8],
-    out: &mut [u8; 4096],
-) -> u32
-    ensures { result ≤ 2 }
-{
-    let mut list = three_each();
-    let mut nodes = ten_each();
-    let mut links = three_each();
-    let mut symbols = symbol_room();
-    let mut scratch = three_each();
-    let a = read_with(
-        names,
-        rows,
-        text,
-        &mut list,
-        wish.edition,
-        DEPTH,
-        &mut nodes,
-        &mut links,
-        &mut symbols,
-        &mut scratch,
-    );
+    line: &mut Line,
+) -> Status {
+    let mut rooms = Rooms::new();
+    let a = rooms.read(names, wish.edition, text);
     if a.code != 0 {
-        show_refused(wish, path, text, &list, a, out);
-        return 1;
+        show_refused(wish, path, text, &rooms.list, a, line);
+        return Status::Refused;
     }
-    let built = rows.len() / NAME_WIDTH;
-    show_read(
-        wish, path, text, &list, &nodes, &links, &symbols, a, built, out,
-    )
+    let tree = rooms.tree(names, text, a.nodes);
+    show_read(wish, path, &rooms, a, &tree, line)
 }

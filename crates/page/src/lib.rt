@@ -11,24 +11,38 @@ ghost use Rattle.std.specs.Prelude.{◌≤◌};
 
 use diagnostics::line::NEWLINE;
 
-// The descriptor of standard output.
+// The descriptors of standard output and of standard error.
 const STDOUT_FILENO: i32 = 1;
 
-// What is not written yet of a line: the first bytes of a room.
+const STDERR_FILENO: i32 = 2;
+
+// What is not written yet of a line: the first bytes of a room. It is written to a descriptor.
 #[derive(Drop)]
 pub struct Line {
     room: [u8; 4096],
     at: usize,
+    to: i32,
     ghost fits: { at ≤ 4096 },
 }
 
 impl Line {
-    // An empty line.
-    pub fn new() -> Self {
+    // An empty line of a descriptor.
+    fn empty(to: i32) -> Self {
         Line {
             room: [0; 4096],
             at: 0,
+            to,
         }
+    }
+
+    // An empty line of standard output.
+    pub fn new() -> Self {
+        Self::empty(STDOUT_FILENO)
+    }
+
+    // An empty line of standard error.
+    pub fn error() -> Self {
+        Self::empty(STDERR_FILENO)
     }
 
     // What is not written yet.
@@ -78,7 +92,7 @@ impl Line {
 
     // Writes what is not written yet.
     pub fn write(&mut self) {
-        io::write_all(STDOUT_FILENO, &self.room[..self.at]);
+        io::write_all(self.to, &self.room[..self.at]);
         self.at = 0;
     }
 
