@@ -7,19 +7,19 @@ use mathlib.Core.Bool.{Bool, true, false}
 use mathlib.Core.List.{List}
 use mathlib.Core.Path.{◌≡◌, refl, sym, ◌∙◌}
 use lib.ListN.{length, get_or, length-replicate, get_or-replicate}
+use Rattle.std.specs.Prelude.{Option, IfSome}
 use Rattle.grammar.specs.Builtin.{Builtins, built, RightNames}
 use Rattle.grammar.specs.Kind.{Identifier}
 use Rattle.grammar.specs.Lexeme.{Fits}
-use Rattle.grammar.specs.Symbol.{seek}
 use Rattle.grammar.specs.Table.{Part, Row, Holds, Table, start_of, end_of, word}
 use Rattle.grammar.proofs.Symbols.{seek_whole}
 use Rattle.interner.specs.Index.{bucket, linked}
 use Rattle.interner.specs.Interns.{used}
 use Rattle.interner.specs.Search.{Sought}
 use Rattle.interner.proofs.Grown.{empty_table, empty_index, next_linked}
-use Rattle.interner.proofs.Search.{used_length, row_of, word_is, part_is}
+use Rattle.interner.proofs.Search.{used_length, row_of, row_below, word_is, part_is}
 use Rattle.interner.proofs.Seek.{sought_is}
-use Rattle.builtins.specs.Known.{most, blank_index, Named, Before, Next, Known, Checked}
+use Rattle.builtins.specs.Known.{most, blank_index, Named, Before, Next, Known, Checked, FoundIn}
 
 unlike : {A : Type 0} → false ≡ true → A
 unlike e = absurd (let z : ◌≡◌ {A = ℕ} 0 1 = cc in omega arith)
@@ -93,9 +93,15 @@ module _ {names : Builtins} where
     not_right h = record { right = unlike; known = unlike; wrong = λ e. h }
 
 -- a search answers the grammar's
-pub known_sought : {names : Builtins} {index x : List ℕ} {r : ℕ} → Known names index → Sought names.text x (used (built names) names.rows) (built names) r →
-    r ≡ seek names.text x names.rows
-known_sought {names} {x = x} k s = sought_is k.indexed.table (used_length names.rows (built names) k.indexed.stands) s ∙ seek_whole names.text x names.rows
+pub known_sought : {names : Builtins} {index x : List ℕ} {r : Option ℕ} → Known names index → Sought names.text x (used (built names) names.rows) r → FoundIn names x r
+known_sought {names} {x = x} k s = record {
+  is = sought_is (built names) k.indexed.table (used_length names.rows (built names) k.indexed.stands) s ∙ seek_whole names.text x names.rows;
+  there = below s;
+}
+  where
+    below : {r : Option ℕ} → Sought names.text x (used (built names) names.rows) r → IfSome r (λ i. i < built names)
+    below (Sought.found {i = i} h) = row_below names.rows (built names) k.indexed.stands i h.row
+    below (Sought.missing n) = tt
 
 -- two answers are equal
 pub one_right : {names : Builtins} {ix iy : List ℕ} {r s : Bool} → Checked names ix r → Checked names iy s → r ≡ s

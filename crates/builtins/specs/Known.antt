@@ -1,8 +1,9 @@
 -- What is known of built-in names that were checked, and what the check of one more asks and answers. Document 02, L10.
-use Rattle.std.specs.Prelude.{ℕ, ◌+◌, ◌*◌, ◌<◌, Bool, true, false, List, ◌≡◌, replicate}
+use Rattle.std.specs.Prelude.{ℕ, ◌+◌, ◌*◌, ◌<◌, Bool, true, false, List, ◌≡◌, replicate, Option, unwrap_or, IfSome}
 use Rattle.grammar.specs.Builtin.{Builtins, built, RightNames}
 use Rattle.grammar.specs.Kind.{Identifier}
 use Rattle.grammar.specs.Lexeme.{Fits}
+use Rattle.grammar.specs.Symbol.{seek}
 use Rattle.grammar.specs.Table.{word}
 use Rattle.interner.specs.Interns.{Indexed}
 
@@ -38,3 +39,8 @@ pub record Checked (names : Builtins) (index : List ℕ) (r : Bool) : Type 0 whe
   pub right : r ≡ true → RightNames names
   pub known : r ≡ true → Known names index
   pub wrong : r ≡ false → RightNames names → ⊥
+
+-- the name that has these bytes is the grammar's `seek`, and there is none where that is how many there are
+pub record FoundIn (names : Builtins) (bytes : List ℕ) (r : Option ℕ) : Type 0 where
+  pub is : unwrap_or r (built names) ≡ seek names.text bytes names.rows
+  pub there : IfSome r (λ i. i < built names)

@@ -2,11 +2,8 @@
 // Built-in names: whether they are right (document 02, L10, refusal 18), and which of them a word is. Beside them stands their index, as of a symbol table.
 ghost use Rattle.std.specs.Prelude.{◌≡◌};
 ghost use Rattle.grammar.specs.Builtin.{builtins as names_in};
-ghost use Rattle.grammar.specs.Symbol.{seek};
-ghost use Rattle.grammar.specs.Table.{Part};
-ghost use Rattle.grammar.specs.Token.{lexeme};
 ghost use Rattle.spelling.specs.Words.{table};
-ghost use Rattle.builtins.specs.Known.{blank_index, Before, Known, Next, Checked};
+ghost use Rattle.builtins.specs.Known.{blank_index, Before, Known, Next, Checked, FoundIn};
 
 use interner::{bucket, link};
 use lexeme::fits;
@@ -39,9 +36,9 @@ fn enter(words: &[u8], names: &[u8], rows: &[u32], index: &mut [u32], i: usize) 
     if !fits(words, kinds::IDENTIFIER, names, start, end) {
         return false;
     }
-    let place = bucket(names, start, end, MOST);
-    let same = interner::find(names, rows, index, i, names, start, end, place);
-    if same < i {
+    let name = &names[start..end];
+    let place = bucket(name, MOST);
+    if interner::find(names, rows, index, i, name, place).is_some() {
         return false;
     }
     link(index, i, place);
@@ -65,30 +62,21 @@ pub fn right(names: &[u8], rows: &[u32], index: &mut [u32]) -> bool
         return true;
     }
     let table = words();
-    let mut i = 0;
-    while i < count {
+    for i in 0..count {
         if !enter(&table, names, rows, index, i) {
             return false;
         }
-        i += 1;
     }
     true
 }
 
-// The built-in name with the bytes of the text from `start` up to `end`, or how many there are. It asks that `index` is that of the names, and for a part of the text.
-// Ruled out: a name that starts like them; how many there are where the last one has them.
-pub fn find(
-    names: &[u8],
-    rows: &[u32],
-    index: &[u32],
-    text: &[u8],
-    start: usize,
-    end: usize,
-) -> usize
-    requires { Known (names_in names.now rows.now) index.now × Part text.now start end }
-    ensures { result ≡ seek names.now (lexeme text.now start end) rows.now }
+// The built-in name that a word is. It asks that `index` is that of the names.
+// Ruled out: a name that the word only starts like; None where the last one is it.
+pub fn find(names: &[u8], rows: &[u32], index: &[u32], word: &[u8]) -> Option<usize>
+    requires { Known (names_in names.now rows.now) index.now }
+    ensures { FoundIn (names_in names.now rows.now) word.now result }
 {
     let count = rows.len() / NAME_WIDTH;
-    let place = bucket(text, start, end, MOST);
-    interner::find(names, rows, index, count, text, start, end, place)
+    let place = bucket(word, MOST);
+    interner::find(names, rows, index, count, word, place)
 }

@@ -1,18 +1,16 @@
 -- The bucket of a part of the text, read off it; the newest row of a bucket; and a search, which goes from a row to the next older one of its bucket.
-use Prim.Native.Nat.{ℕ, zero, suc, ◌+◌, ◌-◌, ◌*◌, ◌/◌, ◌≤◌, ◌<◌}
+use Prim.Native.Nat.{ℕ, zero, suc, ◌-◌, ◌*◌, ◌/◌, ◌≤◌, ◌<◌}
 use native.Mathlib.Decide.{ℕ_discrete, dec_lt}
 use native.Mathlib.Nat.{mul-lt-mul_of_pos_right, div-lt_iff_lt-mul}
 use native.Mathlib.Omega.{arith}
 use borrow.Author.Tests.{eqb-true, eqb-false}
 use mathlib.Core.Bool.{Bool, true, false, cond}
-use mathlib.Core.List.{List}
+use mathlib.Core.List.{List, [], ◌∷◌}
 use mathlib.Core.Path.{◌≡◌, refl, ap, ◌∙◌}
 use lib.Dec.{eqb}
 use lib.ListN.{length, get_or}
 use Rattle.grammar.specs.Table.{Holds, word}
-use Rattle.grammar.specs.Token.{lexeme}
-use Rattle.grammar.proofs.Lexemes.{lexeme_none, lexeme_length, part_at}
-use Rattle.interner.specs.Index.{mix, mixed, bucket, newest, Index}
+use Rattle.interner.specs.Index.{mixed, bucket, newest, Index}
 
 -- a bucket is one of the `size` numbers from `size` on
 mixed_low : (bytes : List ℕ) → mixed bytes < 65536
@@ -30,21 +28,10 @@ pub bucket_inside : {size n : ℕ} (bytes : List ℕ) → 0 < size → 2 * size 
 bucket_inside {size} bytes h k = omega (arith, in_bucket size bytes h)
 
 -- no bytes
-pub bucket_none : (text : List ℕ) (s e size : ℕ) → s ≡ e → size ≡ bucket size (lexeme text s e)
+pub bucket_none : (bytes : List ℕ) (size : ℕ) → length bytes ≡ 0 → size ≡ bucket size bytes
 unfolding bucket
-bucket_none text s e size h = rw (lexeme_none text s e h) (omega arith)
-
--- the four bytes, as the code reads them
-pub bucket_some : (text : List ℕ) (s e size : ℕ) → s < e → e ≤ length text →
-    let n = e - s in
-    size + mix (get_or text (s + n / 4) 0) (get_or text (s + n / 2) 0) (get_or text (e - 1 - n / 4) 0) (get_or text (e - 1) 0) n * size / 65536 ≡ bucket size (lexeme text s e)
-unfolding bucket
-bucket_some text s e size h k =
-    let n = e - s in
-    let l = lexeme_length text s e (omega arith) k in
-    let c : s + (n - 1 - n / 4) ≡ e - 1 - n / 4 = omega arith in
-    let d : s + (n - 1) ≡ e - 1 = omega arith in
-    rw (l, part_at text s n (n / 4) (omega arith), part_at text s n (n / 2) (omega arith), part_at text s n (n - 1 - n / 4) (omega arith), part_at text s n (n - 1) (omega arith), c, d)
+bucket_none [] size h = omega arith
+bucket_none (x ∷ xs) size h = absurd (omega arith)
 
 module _ (text : List ℕ) (size : ℕ) where
   module _ (table : List ℕ) (b : ℕ) where

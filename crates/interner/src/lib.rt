@@ -4,14 +4,10 @@
 // first, since scripts repeat the name that they have just used.
 ghost use Rattle.std.specs.Prelude.{◌<◌, ◌≡◌};
 ghost use Rattle.grammar.specs.Handle.{absent};
-ghost use Rattle.grammar.specs.Table.{Part, Row, start_of, end_of, word};
-ghost use Rattle.grammar.specs.Token.{lexeme};
+ghost use Rattle.grammar.specs.Table.{Part, Row, start_of, end_of, word as word-of};
 ghost use Rattle.interner.specs.Index.{mix as mix-of, bucket as bucket-of, Linkable, linked};
 ghost use Rattle.interner.specs.Interns.{used, Ready, Enters};
 ghost use Rattle.interner.specs.Search.{Compared, Wanted, Sought};
-
-// No symbol: the room has no row for it.
-pub const NO_SYMBOL: u32 = 4294967295;
 
 // Numbers a row.
 const WIDTH: usize = 2;
@@ -26,26 +22,6 @@ pub struct Interned {
     pub count: usize,
 }
 
-// Whether the text from `from` up to `upto` and the other text from `start` up to `end` are the same: lengths first, then bytes, the last one first, since names often
-// start alike.
-fn same(text: &[u8], from: usize, upto: usize, other: &[u8], start: usize, end: usize) -> bool
-    requires { Part text.now from upto × Part other.now start end }
-    ensures { Compared (lexeme text.now from upto) (lexeme other.now start end) result }
-{
-    let n = end - start;
-    if upto - from != n {
-        return false;
-    }
-    let mut i = n;
-    while 0 < i {
-        i -= 1;
-        if text[from + i] != other[start + i] {
-            return false;
-        }
-    }
-    true
-}
-
 // Four bytes and a length, mixed.
 fn mix(a: u8, b: u8, c: u8, d: u8, n: usize) -> usize
     ensures { result ≡ mix-of a b c d n }
@@ -54,60 +30,60 @@ fn mix(a: u8, b: u8, c: u8, d: u8, n: usize) -> usize
     (bytes + 55381 * (n % 256)) % MIXED
 }
 
-// The bucket of the text from `start` up to `end`, by four of its bytes and its length: a place of the index, one of `size` from `size` on. It asks that this is a part
-// of the text, and for a size from 1 on that a u32 has.
+// The bucket of a word, by four of its bytes and its length: a place of the index, one of `size` from `size` on. It asks for a size from 1 on that a u32 has.
 // Ruled out: a place below `size`; two places for the same bytes.
-pub fn bucket(text: &[u8], start: usize, end: usize, size: usize) -> usize
-    requires { Part text.now start end × (0 < size) × (size < absent) }
-    ensures { result ≡ bucket-of size (lexeme text.now start end) }
+pub fn bucket(word: &[u8], size: usize) -> usize
+    requires { (0 < size) × (size < absent) }
+    ensures { result ≡ bucket-of size word.now }
 {
-    if start == end {
+    let n = word.len();
+    if n == 0 {
         return size;
     }
-    let n = end - start;
     let quarter = n / 4;
-    let a = text[start + quarter];
-    let b = text[start + n / 2];
-    let c = text[end - 1 - quarter];
-    let d = text[end - 1];
-    size + mix(a, b, c, d, n) * size / MIXED
+    size + mix(
+        word[quarter],
+        word[n / 2],
+        word[n - 1 - quarter],
+        word[n - 1],
+        n,
+    ) * size
+        / MIXED
 }
 
-// Whether row `i` has the bytes of the other text from `start` up to `end`.
-fn holds(text: &[u8], symbols: &[u32], i: usize, other: &[u8], start: usize, end: usize) -> bool
-    requires { Row symbols.now i × Part text.now (start_of symbols.now i) (end_of symbols.now i) × Part other.now start end }
-    ensures { Compared (word text.now symbols.now i) (lexeme other.now start end) result }
+// Whether row `i` has the bytes of a word.
+fn holds(text: &[u8], symbols: &[u32], i: usize, word: &[u8]) -> bool
+    requires { Row symbols.now i × Part text.now (start_of symbols.now i) (end_of symbols.now i) }
+    ensures { Compared (word-of text.now symbols.now i) word.now result }
 {
     let from = symbols[WIDTH * i] as usize;
     let upto = symbols[WIDTH * i + 1] as usize;
-    same(text, from, upto, other, start, end)
+    &text[from..upto] == word
 }
 
-// The row of the text that has the bytes of the other text from `start` up to `end`, whose bucket is `place`, or `count`. The newest row of the bucket is looked at
-// first. It asks that this is a part of the other text, that the rows in use are parts of theirs with different bytes, and that `index` is theirs (`Wanted`).
-// Ruled out: a row whose bytes are others; `count` where an older row of the bucket has the bytes.
+// The row of the text that has the bytes of a word, whose bucket is `place`. The newest row of the bucket is looked at first. It asks that the rows in use are parts of
+// their text with different bytes, and that `index` is theirs (`Wanted`).
+// Ruled out: a row whose bytes are others; None where an older row of the bucket has the bytes.
 pub fn find(
     text: &[u8],
     symbols: &[u32],
     index: &[u32],
     count: usize,
-    other: &[u8],
-    start: usize,
-    end: usize,
+    word: &[u8],
     place: usize,
-) -> usize
-    requires { Wanted text.now other.now start end count place symbols.now index.now }
-    ensures { Sought text.now (lexeme other.now start end) (used count symbols.now) count result }
+) -> Option<usize>
+    requires { Wanted text.now word.now count place symbols.now index.now }
+    ensures { Sought text.now word.now (used count symbols.now) result }
 {
     let mut next = index[place] as usize;
     while 0 < next {
         let i = next - 1;
-        if holds(text, symbols, i, other, start, end) {
-            return i;
+        if holds(text, symbols, i, word) {
+            return Some(i);
         }
         next = index[i] as usize;
     }
-    count
+    None
 }
 
 // Row `count` becomes the newest of the bucket `place`. It asks that the index has both, and that a u32 has the number of rows then (`Linkable`).
@@ -121,9 +97,8 @@ pub fn link(index: &mut [u32], count: usize, place: usize)
     index[place] = count as u32 + 1;
 }
 
-// The symbol of the text from `start` up to `end`: `first` and the number of the row that has its bytes, or of a new last row; or NO_SYMBOL, where it would be a new
-// one and the room has none. It
-// asks that this is a part of the text, that the rows in use are parts with different bytes, that `index` is theirs, and for room for one row more there (`Ready`).
+// The symbol of the text from `start` up to `end`: `first` and the number of the row that has its bytes, or of a new last row; or None, where it would be a new one and
+// the room has none. It asks that this is a part of the text, that the rows in use are parts with different bytes, that `index` is theirs, and for room for one row more there (`Ready`).
 // Ruled out: a row whose text has the same length and other bytes; a second row for a text that has one; a new row that the index does not have; a symbol without a row.
 pub fn get_or_intern(
     text: &[u8],
@@ -134,31 +109,24 @@ pub fn get_or_intern(
     count: usize,
     start: u32,
     end: u32,
-) -> Interned
+) -> Option<Interned>
     requires { Ready text.now start end first size count symbols.old index.old }
     ensures { Enters text.now start end first size count symbols.old symbols.new index.old index.new result }
 {
-    let from = start as usize;
-    let upto = end as usize;
-    let place = bucket(text, from, upto, size);
-    let i = find(text, symbols, index, count, text, from, upto, place);
-    if i < count {
-        return Interned {
-            symbol: first + i as u32,
-            count: count,
-        };
+    let word = &text[start as usize..end as usize];
+    let place = bucket(word, size);
+    if let Some(i) = find(text, symbols, index, count, word, place) {
+        let symbol = first + i as u32;
+        return Some(Interned { symbol, count });
     }
     if symbols.len() < WIDTH * count + WIDTH {
-        return Interned {
-            symbol: NO_SYMBOL,
-            count: count,
-        };
+        return None;
     }
     link(index, count, place);
     symbols[WIDTH * count] = start;
     symbols[WIDTH * count + 1] = end;
-    Interned {
+    Some(Interned {
         symbol: first + count as u32,
         count: count + 1,
-    }
+    })
 }

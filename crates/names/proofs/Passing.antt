@@ -8,8 +8,8 @@ use mathlib.Core.List.{List, ◌++◌, append-nil}
 use mathlib.Core.Path.{◌≡◌, refl, sym, ap, ◌∙◌}
 use lib.ListN.{length, take, set, replicate, length-set, length-append}
 use lib.Seq.{get_or-set_same, get_or-set_other, take-append-add, take-append-le}
+use Rattle.std.specs.Prelude.{Some, None}
 use Rattle.grammar.specs.Builtin.{Builtins, built, built_rows}
-use Rattle.grammar.specs.Handle.{absent}
 use Rattle.grammar.specs.Symbol.{symbol_rows, symbol_in}
 use Rattle.grammar.specs.Token.{count}
 use Rattle.grammar.proofs.Symbols.{built_length, rows_grow}
@@ -61,11 +61,11 @@ module _ {names : Builtins} {index text ts scratch after : List ℕ} (o : Open n
       record { rows = λ fit. x.rows; stands = x.indexed.stands; numbers = x.numbers; own_size = x.own_size; scratch_size = x.scratch_size ∙ w.size }
 
   -- or a word's row does not fit, and from there on none is
-  module _ {n known : ℕ} {own own₁ scratch₁ own₂ scratch₂ scratch₃ : List ℕ} {r : Interned}
-      (h : n < count ts) (p : Passed names text ts n own after own₁ scratch₁ known) (z : Named names text ts (count ts) n own₁ own₂ scratch₁ scratch₂ r) (a : r.symbol ≡ absent)
+  module _ {n known : ℕ} {own own₁ scratch₁ own₂ scratch₂ scratch₃ : List ℕ}
+      (h : n < count ts) (p : Passed names text ts n own after own₁ scratch₁ known) (z : Named names text ts (count ts) n known own₁ own₂ scratch₁ scratch₂ None)
       (l : LeftOut ts n (count ts) scratch₂ scratch₃) where
     lack : room_of names own < length (symbol_rows names text ts (suc n))
-    lack = rw p.own_size at (row_lacks names text ts n (room_of names own₁) o.whole o.built_in.indexed.few (sym z.number ∙ a))
+    lack = rw p.own_size at (row_lacks names text ts n (room_of names own₁) o.whole o.built_in.indexed.few (sym z.number))
 
     left_out : (i : ℕ) → i < count ts → number_at ts scratch₃ i ≡ symbol_in names text ts (room_of names own) i
     left_out i k = elim (dec_lt i n) [
@@ -101,12 +101,12 @@ module _ {names : Builtins} {index text ts : List ℕ} {n known : ℕ} {own₀ s
   place_inside = omega (arith, o.scratch_room, p.scratch_size)
 
   -- one token more has its symbol, which is stored beyond the index
-  module _ {own' scratch' : List ℕ} {w : Interned} (z : Named names text ts (count ts) n own own' scratch scratch' w) (s : w.symbol ≡ absent → ⊥) where
+  module _ {own' scratch' : List ℕ} {w : Interned} (z : Named names text ts (count ts) n known own own' scratch scratch' (Some w)) where
     abbrev stored : List ℕ
     stored = set scratch' (2 * count ts + n) w.symbol
 
     fit : length (symbol_rows names text ts (suc n)) ≤ room_of names own
-    fit = row_fits names text ts n (room_of names own) (omega (arith, ap length p.rows, rows_length names known own p.indexed.stands, p.indexed.stands)) (λ e. s (z.number ∙ e))
+    fit = row_fits names text ts n (room_of names own) (omega (arith, ap length p.rows, rows_length names known own p.indexed.stands, p.indexed.stands)) (λ e. let s = z.there in omega (arith, z.number, e))
 
     number : (i : ℕ) → i < n + 1 → number_at ts stored i ≡ symbol_in names text ts (room_of names own₀) i
     number i k = elim (ℕ_discrete i n) [

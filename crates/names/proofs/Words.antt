@@ -13,7 +13,9 @@ use Rattle.grammar.specs.Symbol.{interned, is_name, quote, word_start, word_end,
 use Rattle.grammar.specs.Token.{kind, count}
 use Rattle.grammar.proofs.Quotes.{word_part}
 use Rattle.grammar.proofs.Symbols.{InRoom, in_room, rows_same, rows_few}
+use Rattle.interner.specs.Interns.{symbol_of}
 use Rattle.interner.specs.declared.Interned.{Interned}
+use Rattle.std.specs.Prelude.{Option, Some}
 use Rattle.names.specs.Resolved.{rows_of, room_of, Free, LookedUp, Before, Named}
 use Rattle.names.proofs.Fitting.{wordless_in}
 use Rattle.names.proofs.Looking.{rows_length}
@@ -49,21 +51,22 @@ module _ {names : Builtins} {index text ts own scratch : List ℕ} {built-count 
       }
 
   -- a word is looked up: the token has its symbol, and where its row fits that row
-  module _ {own₁ scratch₁ : List ℕ} {r : Interned} (t : is_name ts n ≡ true) (l : LookedUp names text (word_start ts n) (word_end ts n) size known own own₁ scratch scratch₁ r) where
+  module _ {own₁ scratch₁ : List ℕ} {r : Option Interned} (t : is_name ts n ≡ true) (l : LookedUp names text (word_start ts n) (word_end ts n) size known own own₁ scratch scratch₁ r) where
     one_more : symbol_rows names text ts (suc n) ≡ interned names text (word_start ts n) (word_end ts n) (rows_of names known own)
     unfolding symbol_rows
     one_more = rw (t, b.rows)
 
-    number : {x : ℕ} → InRoom names text ts (room_of names own) n x → r.symbol ≡ x
+    number : {x : ℕ} → InRoom names text ts (room_of names own) n x → symbol_of r ≡ x
     unfolding symbol
     number (InRoom.there h) = rw (t, ← b.rows) (l.number (rw one_more at (h t)))
     number (InRoom.missing e h) = l.missing (rw one_more at h)
 
-    pub word_named : Named names text ts size n own own₁ scratch scratch₁ r
+    pub word_named : Named names text ts size n known own own₁ scratch scratch₁ r
     word_named =
         let s = b.size_is in
         record {
           number = number (in_room names text ts (room_of names own) n);
+          there = l.there;
           rows = λ fit. l.rows (rw one_more at fit) ∙ sym one_more;
           indexed = l.indexed;
           numbers = λ j. l.beyond (2 * count ts + j) (omega arith);
@@ -72,9 +75,10 @@ module _ {names : Builtins} {index text ts own scratch : List ℕ} {built-count 
         }
 
   -- or there is none
-  pub no_word : is_name ts n ≡ false → Named names text ts size n own own scratch scratch (record { symbol = 0; count = known })
+  pub no_word : is_name ts n ≡ false → Named names text ts size n known own own scratch scratch (Some (record { symbol = 0; count = known }))
   no_word h = record {
     number = sym (wordless_in names text ts n (room_of names own) h);
+    there = omega arith;
     rows = λ fit. b.rows ∙ sym (rows_same names text ts n h);
     indexed = b.indexed;
     numbers = λ j. refl;

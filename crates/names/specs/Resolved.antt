@@ -1,6 +1,6 @@
 -- What is asked of the pass over the tokens that finds the symbols, and what it leaves. Document 01, Rows: 'Symbols: numbered by first appearance, from 0'; document
 -- 02, L10: built-in names 'are symbols 0 onward, and script names follow'.
-use Rattle.std.specs.Prelude.{ℕ, suc, ◌+◌, ◌*◌, ◌≤◌, ◌<◌, cond, List, ◌++◌, ◌≡◌, length, get_or, take, drop}
+use Rattle.std.specs.Prelude.{ℕ, suc, ◌+◌, ◌*◌, ◌≤◌, ◌<◌, cond, List, ◌++◌, ◌≡◌, length, get_or, take, drop, Option, IfSome}
 use Rattle.builtins.specs.Known.{Known}
 use Rattle.grammar.specs.Builtin.{Builtins, built, built_rows}
 use Rattle.grammar.specs.Door.{Whole, Sound, RightSymbols}
@@ -8,7 +8,7 @@ use Rattle.grammar.specs.Handle.{absent}
 use Rattle.grammar.specs.Room.{symbol_width, scratch_width}
 use Rattle.grammar.specs.Symbol.{look_up, interned, is_name, symbol_rows, symbol_in}
 use Rattle.grammar.specs.Token.{count, lexeme}
-use Rattle.interner.specs.Interns.{used, Indexed, Ready}
+use Rattle.interner.specs.Interns.{used, symbol_of, count_of, Indexed, Ready}
 use Rattle.interner.specs.declared.Interned.{Interned}
 
 -- what the door gives: of the built-in names with their index, of the text and the tokens, and of the scratch room
@@ -37,13 +37,14 @@ pub record Free (names : Builtins) (built-count : ℕ) (index text : List ℕ) (
   pub built_in : Known names index
   pub ready : Ready text start end built-count size known own scratch
 
--- a word has its symbol, absent where its row does not fit; where it fits, it has a row. The rows have their index; what is beyond it in the scratch room is as it
+-- a word has its symbol, absent where its row does not fit, and then it is None; where it fits, it has a row. The rows have their index; what is beyond it in the scratch room is as it
 -- was, and the rooms are as long as they were
-pub record LookedUp (names : Builtins) (text : List ℕ) (start end size known : ℕ) (own₀ own scratch₀ scratch : List ℕ) (r : Interned) : Type 0 where
-  pub number : length (interned names text start end (rows_of names known own₀)) ≤ room_of names own₀ → r.symbol ≡ look_up names text (lexeme text start end) (rows_of names known own₀)
-  pub missing : room_of names own₀ < length (interned names text start end (rows_of names known own₀)) → r.symbol ≡ absent
-  pub rows : length (interned names text start end (rows_of names known own₀)) ≤ room_of names own₀ → rows_of names r.count own ≡ interned names text start end (rows_of names known own₀)
-  pub indexed : Indexed text size r.count own scratch
+pub record LookedUp (names : Builtins) (text : List ℕ) (start end size known : ℕ) (own₀ own scratch₀ scratch : List ℕ) (r : Option Interned) : Type 0 where
+  pub number : length (interned names text start end (rows_of names known own₀)) ≤ room_of names own₀ → symbol_of r ≡ look_up names text (lexeme text start end) (rows_of names known own₀)
+  pub missing : room_of names own₀ < length (interned names text start end (rows_of names known own₀)) → symbol_of r ≡ absent
+  pub there : IfSome r (λ w. w.symbol < absent)
+  pub rows : length (interned names text start end (rows_of names known own₀)) ≤ room_of names own₀ → rows_of names (count_of known r) own ≡ interned names text start end (rows_of names known own₀)
+  pub indexed : Indexed text size (count_of known r) own scratch
   pub beyond : (i : ℕ) → 2 * size ≤ i → get_or scratch i 0 ≡ get_or scratch₀ i 0
   pub own_size : length own ≡ length own₀
   pub scratch_size : length scratch ≡ length scratch₀
@@ -64,12 +65,13 @@ pub record Before (names : Builtins) (built-count : ℕ) (index text ts : List �
   pub indexed : Indexed text size known own scratch
   pub scratch_room : scratch_width * count ts ≤ length scratch
 
--- the token has its symbol, absent where its row does not fit; where it fits, its word has a row. The rows have their index; the top third of the scratch room is as
+-- the token has its symbol, absent where its row does not fit, and then it is None; where it fits, its word has a row. The rows have their index; the top third of the scratch room is as
 -- it was, and the rooms are as long as they were
-pub record Named (names : Builtins) (text ts : List ℕ) (size n : ℕ) (own₀ own scratch₀ scratch : List ℕ) (r : Interned) : Type 0 where
-  pub number : r.symbol ≡ symbol_in names text ts (room_of names own₀) n
-  pub rows : length (symbol_rows names text ts (suc n)) ≤ room_of names own₀ → rows_of names r.count own ≡ symbol_rows names text ts (suc n)
-  pub indexed : Indexed text size r.count own scratch
+pub record Named (names : Builtins) (text ts : List ℕ) (size n known : ℕ) (own₀ own scratch₀ scratch : List ℕ) (r : Option Interned) : Type 0 where
+  pub number : symbol_of r ≡ symbol_in names text ts (room_of names own₀) n
+  pub there : IfSome r (λ w. w.symbol < absent)
+  pub rows : length (symbol_rows names text ts (suc n)) ≤ room_of names own₀ → rows_of names (count_of known r) own ≡ symbol_rows names text ts (suc n)
+  pub indexed : Indexed text size (count_of known r) own scratch
   pub numbers : (i : ℕ) → number_at ts scratch i ≡ number_at ts scratch₀ i
   pub own_size : length own ≡ length own₀
   pub scratch_size : length scratch ≡ length scratch₀

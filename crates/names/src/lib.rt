@@ -17,7 +17,7 @@ use token::kinds;
 use token::list::{end_at, kind_at, start_at};
 
 // The symbol of the word from `start` up to `end` of the text, and how many rows of the script's own are in use now: a built-in name's, or that of its row in `own`,
-// the symbol room behind the built-in rows. A word whose row does not fit has the interner's NO_SYMBOL. `built` is the number of built-in names: where there are none,
+// the symbol room behind the built-in rows; None where the row does not fit. `built` is the number of built-in names: where there are none,
 // nothing is looked up among them.
 fn name(
     names: &[u8],
@@ -31,24 +31,25 @@ fn name(
     known: usize,
     start: u32,
     end: u32,
-) -> Interned
+) -> Option<Interned>
     requires { Free (names_in names.now rows.now) built index.now text.now start end size known own.old scratch.old }
     ensures { LookedUp (names_in names.now rows.now) text.now start end size known own.old own.new scratch.old scratch.new result }
 {
     if 0 < built {
-        let i = find(names, rows, index, text, start as usize, end as usize);
-        if i < built {
-            return Interned {
-                symbol: i as u32,
+        let word = &text[start as usize..end as usize];
+        if let Some(i) = find(names, rows, index, word) {
+            let symbol = i as u32;
+            return Some(Interned {
+                symbol,
                 count: known,
-            };
+            });
         }
     }
     get_or_intern(text, own, scratch, built as u32, size, known, start, end)
 }
 
 // The symbol of token `at`, and how many rows of the script's own are in use now. The two kinds that have a word are neighbours: a string's is between its quotes, an
-// identifier's is the whole. A word whose row does not fit has symbol ABSENT, and a token that has none has symbol 0. `built` is the number of built-in names, `size` that
+// identifier's is the whole. It is None where a word's row does not fit, and a token that has no word has symbol 0. `built` is the number of built-in names, `size` that
 // of tokens.
 fn word(
     names: &[u8],
@@ -62,9 +63,9 @@ fn word(
     size: usize,
     known: usize,
     at: usize,
-) -> Interned
+) -> Option<Interned>
     requires { Before (names_in names.now rows.now) built index.now text.now tokens.now size at known own.old scratch.old }
-    ensures { Named (names_in names.now rows.now) text.now tokens.now size at own.old own.new scratch.old scratch.new result }
+    ensures { Named (names_in names.now rows.now) text.now tokens.now size at known own.old own.new scratch.old scratch.new result }
 {
     let kind = kind_at(tokens, at);
     match kind {
@@ -86,10 +87,10 @@ fn word(
                 end - quote,
             )
         }
-        _ => Interned {
+        _ => Some(Interned {
             symbol: 0,
             count: known,
-        },
+        }),
     }
 }
 
@@ -110,10 +111,8 @@ fn leave_out(tokens: &[u32], scratch: &mut [u32], size: usize, from: usize)
     requires { (size ≡ count tokens.now) × (scratch_width * size ≤ length scratch.old) }
     ensures { LeftOut tokens.now from size scratch.old scratch.new }
 {
-    let mut i = from;
-    while i < size {
+    for i in from..size {
         scratch[2 * size + i] = rowless(tokens, i);
-        i += 1;
     }
 }
 
@@ -135,18 +134,15 @@ fn script_names(
     let built = rows.len() / NAME_WIDTH;
     zero(scratch, count, 2 * count);
     let mut known = 0;
-    let mut i = 0;
-    while i < count {
-        let found = word(
+    for i in 0..count {
+        let Some(found) = word(
             names, rows, index, text, tokens, own, scratch, built, count, known, i,
-        );
-        if found.symbol == ABSENT {
+        ) else {
             leave_out(tokens, scratch, count, i);
             return known;
-        }
+        };
         scratch[2 * count + i] = found.symbol;
         known = found.count;
-        i += 1;
     }
     known
 }

@@ -1,10 +1,11 @@
 -- `enter` meets its contract: a name fails one of the four tests, or it is right.
+use mathlib.Core.Path.{sym, ◌∙◌}
 use native.Mathlib.Omega.{arith}
 use Rattle.grammar.specs.Kind.{Identifier}
 use Rattle.grammar.specs.Lexeme.{Fits}
 use Rattle.grammar.specs.Table.{Part, start_of, end_of, word}
 use Rattle.interner.proofs.Grown.{linkable}
-use Rattle.interner.proofs.Search.{sought_row, sought_none}
+use Rattle.interner.proofs.Search.{row_below, sought_some, sought_no}
 use Rattle.spelling.proofs.Deciding.{held, failed}
 use Rattle.builtins.proofs.Naming.{wrong_name, name_there, first_there, right_name}
 use Rattle.builtins.proofs.enter.Goals as goal
@@ -20,10 +21,11 @@ fit c = held (rw c.if-not-fits.false at c.fits.ensures)
 pub returns-then-not-fits : goal.returns-then-not-fits
 returns-then-not-fits c = wrong_name (λ z. failed (rw c.if-not-fits.true at c.fits.ensures) (name_there c.requires.1 z))
 
-pub returns-then-same-i : goal.returns-then-same-i
-returns-then-same-i c =
+pub returns-then-is_some : goal.returns-then-is_some
+returns-then-is_some c =
     let b = c.requires.1 in
-    wrong_name (first_there b c.if-same-i.true (sought_row _ _ c.args.rows.now c.args.i b.named.indexed.stands c.find-same.ensures c.if-same-i.true))
+    let (k, same) = sought_some c.find.ensures (sym c.is_some.ensures ∙ c.if-is_some.true) in
+    wrong_name (first_there b (row_below c.args.rows.now c.args.i b.named.indexed.stands k same.row) same)
 
 pub link-requires : goal.link-requires
 link-requires c = let b = c.requires.1 in rw c.bucket-place.ensures (linkable b.named.indexed b.free (omega arith) _)
@@ -32,5 +34,5 @@ pub returns : goal.returns
 returns c =
     let b = c.requires.1 in
     let fitted = (goal.at.returns c).Else-not-fits in
-    let none = sought_none _ _ c.args.rows.now c.args.i b.named.indexed.stands c.find-same.ensures c.if-same-i.false in
+    let none = sought_no c.find.ensures (sym c.is_some.ensures ∙ c.if-is_some.false) in
     rw (c.link.ensures, c.bucket-place.ensures) (right_name b (part fitted) (fit fitted) none)

@@ -3,4 +3,4 @@ use Rattle.builtins.proofs.Naming.{known_sought}
 use Rattle.builtins.proofs.find.Goals as goal
 
 pub returns : goal.returns
-returns c = known_sought c.requires.0 c.find.ensures
+returns c = known_sought c.requires c.find.ensures

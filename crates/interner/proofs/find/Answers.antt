@@ -29,7 +29,7 @@ pub holds-requires : goal.holds-requires
 holds-requires c =
     let asked = c.requires in
     let row = in_use (goal.at.holds-requires c).In-loop-next in
-    (omega (arith, row, asked.indexed.stands), part_is c.args.symbols.now c.args.count _ row asked.indexed.stands asked.indexed.table, asked.part)
+    (omega (arith, row, asked.indexed.stands), part_is c.args.symbols.now c.args.count _ row asked.indexed.stands asked.indexed.table)
 
 pub returns-then-holds : goal.returns-then-holds
 returns-then-holds c = Sought.found (holds_here _ _ c.args.symbols.now c.args.count c.requires.indexed.stands _ (in_use (goal.at.returns-then-holds c).In-loop-next) (c.holds.ensures.alike c.if-holds.true))
