@@ -6,54 +6,38 @@ use mathlib.Core.Bool.{Bool, true, false, cond, ◌||◌}
 use mathlib.Core.List.{List, [], ◌∷◌, ◌++◌, append-nil}
 use mathlib.Core.Path.{◌≡◌, refl, sym, ap, ◌∙◌}
 use lib.Dec.{eqb}
-use lib.ListN.{length, get_or, set, replicate, length-set}
-use lib.Seq.{get_or-set_same, get_or-set_other, get_or-take}
+use lib.ListN.{length, get_or, set, replicate, length-set, length-replicate, get_or-replicate}
+use lib.Seq.{get_or-set_same, get_or-set_other}
 use borrow.Author.Tests.{eqb-true, eqb-false, ne_eqb}
 use Rattle.grammar.specs.Naming.{height}
 use Rattle.grammar.specs.Pattern.{among}
 use Rattle.grammar.specs.Room.{node_width, own_width, link_width}
 use Rattle.grammar.specs.Rows.{Rows}
-use Rattle.ast.specs.Written.{Written}
-use Rattle.ast.proofs.Rooms.{below, zero_at}
-use Rattle.parts.specs.Packed.{root_row, root_first, statement, keeps, kept, kept_upto, stays, rows_kept}
+use Rattle.parts.specs.Packed.{root_row, statement, keeps, kept, kept_upto, stays, rows_kept}
 use Rattle.parts.proofs.Sizes.{rows_kept_most, parent_later, parent_most, statement_stays, child_stays}
 use Rattle.packing.specs.Good.{Good}
-use Rattle.packing.specs.Kept.{one, Low, Marked, Staying, Placing, Markable}
+use Rattle.packing.specs.Kept.{one, Marked, Staying, Placed, Markable}
 use Rattle.packing.proofs.Rooting.{root_ends, statement_below, statement_is}
 
-pub same_low : (base : ℕ) (xs : List ℕ) → Low base xs xs
-same_low base xs = record { same = λ i h. refl }
-
-pub low_on : {base : ℕ} {xs ys zs : List ℕ} → Low base xs ys → Low base ys zs → Low base xs zs
-low_on a b = record { same = λ i h. b.same i h ∙ a.same i h }
-
-low_set : (base i x : ℕ) (xs : List ℕ) → Low base xs (set xs (base + i) x)
-low_set base i x xs = record { same = λ j h. get_or-set_other xs (base + i) j x 0 (λ e. omega arith) }
-
-pub low_written : {base upto : ℕ} {ys xs zs : List ℕ} → base ≤ upto → base ≤ length xs → Written base upto ys xs zs → Low base xs zs
-low_written {base} {xs = xs} {zs} a b w = record { same = λ i h. sym (get_or-take base zs i 0 h) ∙ ap (λ (l : List ℕ). get_or l i 0) (below base (omega arith) a b w) ∙ get_or-take base xs i 0 h }
-
 -- one number of the room is new, the others stay
-module _ (xs : List ℕ) (base k x : ℕ) where
-  stored_here : base + k < length xs → get_or (set xs (base + k) x) (base + k) 0 ≡ x
-  stored_here h = get_or-set_same xs (base + k) x 0 h
+module _ (xs : List ℕ) (k x : ℕ) where
+  stored_here : k < length xs → get_or (set xs k x) k 0 ≡ x
+  stored_here h = get_or-set_same xs k x 0 h
 
-  stored_there : {i : ℕ} → (i ≡ k → ⊥) → get_or (set xs (base + k) x) (base + i) 0 ≡ get_or xs (base + i) 0
-  stored_there {i} n = get_or-set_other xs (base + k) (base + i) x 0 (λ e. n (omega arith))
+  stored_there : {i : ℕ} → (i ≡ k → ⊥) → get_or (set xs k x) i 0 ≡ get_or xs i 0
+  stored_there {i} n = get_or-set_other xs k i x 0 n
 
 -- the marks so far
-pub record Marking (w : Rows) (choice : List ℕ) (base n j : ℕ) (before sc : List ℕ) : Type 0 where
-  pub marked : Marked (keeps choice) w j base n sc
-  pub low : Low base before sc
-  pub size : length sc ≡ length before
+pub record Marking (w : Rows) (choice : List ℕ) (n j : ℕ) (sc : List ℕ) : Type 0 where
+  pub marked : Marked (keeps choice) w j n sc
+  pub size : length sc ≡ n
   pub most : j ≤ length choice
 
-pub none_marked : (w : Rows) (choice : List ℕ) (base n : ℕ) {before sc : List ℕ} → base ≤ length before → Written base (base + n) (replicate (base + n - base) 0) before sc → Marking w choice base n 0 sc sc
+pub none_marked : (w : Rows) (choice : List ℕ) {n : ℕ} {sc : List ℕ} → sc ≡ replicate n 0 → Marking w choice n 0 sc
 unfolding kept_upto
-none_marked w choice base n h z = record {
-  marked = record { each = λ i l. zero_at h z (base + i) (omega arith) (omega arith) };
-  low = same_low base _;
-  size = refl;
+none_marked w choice {n} e = record {
+  marked = record { each = λ i l. rw e (get_or-replicate n i 0 0 l) };
+  size = rw e (length-replicate n 0);
   most = omega arith;
 }
 
@@ -73,7 +57,7 @@ among_snoc (x ∷ xs) y i = pick (eqb i x) (among_snoc xs y i)
     pick true e = refl
     pick false e = e
 
-module _ {w : Rows} {choice : List ℕ} {first base n : ℕ} {j room : ℕ} {before sc : List ℕ} (p : Markable w choice first base n room) (same-room : room ≡ length before) (d : Marking w choice base n j before sc) (h : j < length choice) where
+module _ {w : Rows} {choice : List ℕ} {first n j : ℕ} {sc : List ℕ} (p : Markable w choice first n) (d : Marking w choice n j sc) (h : j < length choice) where
   abbrev row : ℕ
   row = get_or w.links (link_width * (first + j)) 0
 
@@ -90,11 +74,10 @@ module _ {w : Rows} {choice : List ℕ} {first base n : ℕ} {j room : ℕ} {bef
   unfolding kept_upto
   next = ap (kept_upto (keeps choice) w) (add-one j)
 
-  pub statement_marked : {sc' : List ℕ} → (get_or choice j 0 ≡ 0 → ⊥) → sc' ≡ set sc (base + row) 1 → Marking w choice base n (j + 1) before sc'
+  pub statement_marked : {sc' : List ℕ} → (get_or choice j 0 ≡ 0 → ⊥) → sc' ≡ set sc row 1 → Marking w choice n (j + 1) sc'
   statement_marked {sc'} e q = rw q record {
     marked = record { each = λ i l. pick i l (eqb i (statement w j)) refl };
-    low = low_on d.low (low_set base row 1 sc);
-    size = length-set sc (base + row) 1 ∙ d.size;
+    size = length-set sc row 1 ∙ d.size;
     most = omega arith;
   }
     where
@@ -104,37 +87,35 @@ module _ {w : Rows} {choice : List ℕ} {first base n : ℕ} {j room : ℕ} {bef
       marks : (i : ℕ) (t : Bool) → eqb i (statement w j) ≡ t → among (kept_upto (keeps choice) w (j + 1)) i ≡ (among (kept_upto (keeps choice) w j) i || t)
       marks i t z = ap (λ (xs : List ℕ). among xs i) all ∙ among_snoc (kept_upto (keeps choice) w j) (statement w j) i ∙ ap (λ (b : Bool). among (kept_upto (keeps choice) w j) i || b) z
 
-      pick : (i : ℕ) → i < n → (t : Bool) → eqb i (statement w j) ≡ t → get_or (set sc (base + row) 1) (base + i) 0 ≡ one (among (kept_upto (keeps choice) w (j + 1)) i)
+      pick : (i : ℕ) → i < n → (t : Bool) → eqb i (statement w j) ≡ t → get_or (set sc row 1) i 0 ≡ one (among (kept_upto (keeps choice) w (j + 1)) i)
       pick i l true z =
           let y : i ≡ row = eqb-true i (statement w j) z ∙ sym row_is in
-          ap (λ (x : ℕ). get_or (set sc (base + row) 1) (base + x) 0) y ∙ stored_here sc base row 1 (omega (arith, row_below, p.room, d.size)) ∙ sym (ap one (marks i true z ∙ or_true (among (kept_upto (keeps choice) w j) i)))
-      pick i l false z = stored_there sc base row 1 (λ y. eqb-false i (statement w j) z (y ∙ row_is)) ∙ d.marked.each i l ∙ sym (ap one (marks i false z ∙ or_false (among (kept_upto (keeps choice) w j) i)))
+          ap (λ (x : ℕ). get_or (set sc row 1) x 0) y ∙ stored_here sc row 1 (omega (arith, row_below, d.size)) ∙ sym (ap one (marks i true z ∙ or_true (among (kept_upto (keeps choice) w j) i)))
+      pick i l false z = stored_there sc row 1 (λ y. eqb-false i (statement w j) z (y ∙ row_is)) ∙ d.marked.each i l ∙ sym (ap one (marks i false z ∙ or_false (among (kept_upto (keeps choice) w j) i)))
 
-  pub statement_passed : {sc' : List ℕ} → get_or choice j 0 ≡ 0 → sc' ≡ sc → Marking w choice base n (j + 1) before sc'
+  pub statement_passed : {sc' : List ℕ} → get_or choice j 0 ≡ 0 → sc' ≡ sc → Marking w choice n (j + 1) sc'
   statement_passed e q =
       let f : keeps choice j ≡ false = rw e refl in
       let all : kept_upto (keeps choice) w (j + 1) ≡ kept_upto (keeps choice) w j = next ∙ rw f (append-nil (kept_upto (keeps choice) w j)) in
-      rw q record { marked = record { each = λ i l. rw all (d.marked.each i l) }; low = d.low; size = d.size; most = omega arith }
+      rw q record { marked = record { each = λ i l. rw all (d.marked.each i l) }; size = d.size; most = omega arith }
 
 -- rows from i on are marked as they stay, those before as they are kept
-pub record Spreading (w : Rows) (choice : List ℕ) (base i : ℕ) (before sc : List ℕ) : Type 0 where
-  pub staying : Staying (keeps choice) w base i sc
-  pub marked : (k : ℕ) → k < i → get_or sc (base + k) 0 ≡ one (among (kept (keeps choice) w) k)
-  pub low : Low base before sc
-  pub size : length sc ≡ length before
+pub record Spreading (w : Rows) (choice : List ℕ) (i : ℕ) (sc : List ℕ) : Type 0 where
+  pub staying : Staying (keeps choice) w i sc
+  pub marked : (k : ℕ) → k < i → get_or sc k 0 ≡ one (among (kept (keeps choice) w) k)
+  pub size : length sc ≡ height w
   pub most : i ≤ root_row w
 
-module _ {w : Rows} {choice : List ℕ} {base room : ℕ} {before : List ℕ} (p : Markable w choice (root_first w) base (height w) room) where
-  pub none_spread : {root : ℕ} → root ≡ root_row w → Marked (keeps choice) w (length choice) base (height w) before → Spreading w choice base root before before
-  none_spread e m = rw e record {
+module _ {w : Rows} {choice : List ℕ} {first n : ℕ} (p : Markable w choice first n) where
+  pub none_spread : {root : ℕ} {sc : List ℕ} → root ≡ root_row w → length sc ≡ n → Marked (keeps choice) w (length choice) n sc → Spreading w choice root sc
+  none_spread e l m = rw e record {
     staying = record { each = λ i a b. absurd (omega arith) };
-    marked = λ k h. m.each k (omega arith) ∙ ap (λ (n : ℕ). one (among (kept_upto (keeps choice) w n) k)) p.all;
-    low = same_low base before;
-    size = refl;
+    marked = λ k h. m.each k (omega (arith, p.rows)) ∙ ap (λ (n : ℕ). one (among (kept_upto (keeps choice) w n) k)) p.all;
+    size = l ∙ p.rows;
     most = omega arith;
   }
 
-  module _ {i : ℕ} {sc : List ℕ} (d : Spreading w choice base i before sc) (h : 0 < i) where
+  module _ {i : ℕ} {sc : List ℕ} (d : Spreading w choice i sc) (h : 0 < i) where
     abbrev good : Good p.sound.symbols w
     good = p.sound.good
 
@@ -154,90 +135,79 @@ module _ {w : Rows} {choice : List ℕ} {base room : ℕ} {before : List ℕ} (p
     pub parent_below : parent ≤ root_row w
     parent_below = parent_most good.checked good.short here under
 
-    pub row_spread : {root : ℕ} → root ≡ root_row w → room ≡ length before → (parent ≡ root → ⊥) → Spreading w choice base here before (set sc (base + here) (get_or sc (base + parent) 0))
-    row_spread e r n =
+    pub row_spread : {root : ℕ} → root ≡ root_row w → (parent ≡ root → ⊥) → Spreading w choice here (set sc here (get_or sc parent 0))
+    row_spread e n =
         let l : parent < root_row w = omega (arith, parent_below, n) in
         let later = parent_later good.checked good.short here under in
-        let x = get_or sc (base + parent) 0 in
+        let x = get_or sc parent 0 in
         record {
           staying = record {
             each = λ k a b. pick k a b x (eqb k here) refl (d.staying.each parent (omega (arith, later)) l ∙ ap one (sym (child_stays good.checked good.short (keeps choice) here under l)));
           };
-          marked = λ k a. stored_there sc base here x (λ z. omega arith) ∙ d.marked k (omega arith);
-          low = low_on d.low (low_set base here x sc);
-          size = length-set sc (base + here) x ∙ d.size;
+          marked = λ k a. stored_there sc here x (λ z. omega arith) ∙ d.marked k (omega arith);
+          size = length-set sc here x ∙ d.size;
           most = omega (arith, under);
         }
       where
-        pick : (k : ℕ) → here ≤ k → k < root_row w → (x : ℕ) (t : Bool) → eqb k here ≡ t → x ≡ one (stays (keeps choice) w here) → get_or (set sc (base + here) x) (base + k) 0 ≡ one (stays (keeps choice) w k)
+        pick : (k : ℕ) → here ≤ k → k < root_row w → (x : ℕ) (t : Bool) → eqb k here ≡ t → x ≡ one (stays (keeps choice) w here) → get_or (set sc here x) k 0 ≡ one (stays (keeps choice) w k)
         pick k a b x true z y =
             let f : k ≡ here = eqb-true k here z in
-            rw f (stored_here sc base here x (omega (arith, p.room, r, d.size, under)) ∙ y)
-        pick k a b x false z y = let f = eqb-false k here z in stored_there sc base here x f ∙ d.staying.each k (omega arith) b
+            rw f (stored_here sc here x (omega (arith, d.size, under)) ∙ y)
+        pick k a b x false z y = let f = eqb-false k here z in stored_there sc here x f ∙ d.staying.each k (omega arith) b
 
-    pub row_kept : {root : ℕ} → root ≡ root_row w → parent ≡ root → Spreading w choice base here before sc
+    pub row_kept : {root : ℕ} → root ≡ root_row w → parent ≡ root → Spreading w choice here sc
     row_kept e n = record {
       staying = record { each = λ k a b. pick k a b (eqb k here) refl };
       marked = λ k a. d.marked k (omega arith);
-      low = d.low;
       size = d.size;
       most = omega (arith, under);
     }
       where
-        pick : (k : ℕ) → here ≤ k → k < root_row w → (t : Bool) → eqb k here ≡ t → get_or sc (base + k) 0 ≡ one (stays (keeps choice) w k)
+        pick : (k : ℕ) → here ≤ k → k < root_row w → (t : Bool) → eqb k here ≡ t → get_or sc k 0 ≡ one (stays (keeps choice) w k)
         pick k a b true z =
             let f : k ≡ here = eqb-true k here z in
             rw f (d.marked here (omega arith) ∙ ap one (sym (statement_stays good.checked good.short (keeps choice) here under (n ∙ e))))
         pick k a b false z = let f = eqb-false k here z in d.staying.each k (omega arith) b
 
 -- rows before i have their place, those from i on are marked
-pub record Counting (w : Rows) (choice : List ℕ) (base i many : ℕ) (before sc : List ℕ) : Type 0 where
-  pub placed : (k : ℕ) → k < i → get_or sc (base + k) 0 ≡ rows_kept (keeps choice) w k
-  pub staying : Staying (keeps choice) w base i sc
+pub record Counting (w : Rows) (choice : List ℕ) (i many : ℕ) (sc : List ℕ) : Type 0 where
+  pub placed : (k : ℕ) → k < i → get_or sc k 0 ≡ rows_kept (keeps choice) w k
+  pub staying : Staying (keeps choice) w i sc
   pub count : many ≡ rows_kept (keeps choice) w i
-  pub low : Low base before sc
-  pub size : length sc ≡ length before
+  pub size : length sc ≡ height w
   pub most : i ≤ root_row w
 
-pub none_counted : {w : Rows} {choice : List ℕ} {base : ℕ} {before : List ℕ} → Staying (keeps choice) w base 0 before → Counting w choice base 0 0 before before
+pub none_counted : {w : Rows} {choice : List ℕ} {sc : List ℕ} → length sc ≡ height w → Staying (keeps choice) w 0 sc → Counting w choice 0 0 sc
 unfolding rows_kept
-none_counted {base = base} {before} s = record { placed = λ k h. absurd (omega arith); staying = s; count = refl; low = same_low base before; size = refl; most = omega arith }
+none_counted l s = record { placed = λ k h. absurd (omega arith); staying = s; count = refl; size = l; most = omega arith }
 
 one_most : (t : Bool) → one t ≤ 1
 one_most true = omega arith
 one_most false = omega arith
 
-module _ {w : Rows} {choice : List ℕ} {base i many : ℕ} {before sc : List ℕ} (room : base + height w ≤ length before) (d : Counting w choice base i many before sc) where
+module _ {w : Rows} {choice : List ℕ} {i many : ℕ} {sc : List ℕ} (d : Counting w choice i many sc) where
   rows_next : rows_kept (keeps choice) w (suc i) ≡ rows_kept (keeps choice) w i + one (stays (keeps choice) w i)
   unfolding rows_kept
   rows_next = refl
 
-  pub mark_small : i < root_row w → many + get_or sc (base + i) 0 ≤ i + 1
+  pub mark_small : i < root_row w → many + get_or sc i 0 ≤ i + 1
   mark_small h = omega (arith, d.count, d.staying.each i (omega arith) h, one_most (stays (keeps choice) w i), rows_kept_most (keeps choice) w i)
 
-  placed_next : (x : ℕ) → x ≡ rows_kept (keeps choice) w i → i < height w → (k : ℕ) → k ≤ i → get_or (set sc (base + i) x) (base + k) 0 ≡ rows_kept (keeps choice) w k
+  placed_next : (x : ℕ) → x ≡ rows_kept (keeps choice) w i → i < height w → (k : ℕ) → k ≤ i → get_or (set sc i x) k 0 ≡ rows_kept (keeps choice) w k
   placed_next x e h k l = pick (eqb k i) refl
     where
-      pick : (t : Bool) → eqb k i ≡ t → get_or (set sc (base + i) x) (base + k) 0 ≡ rows_kept (keeps choice) w k
-      pick true z = let f : k ≡ i = eqb-true k i z in rw f (stored_here sc base i x (omega (arith, room, d.size)) ∙ e)
-      pick false z = let f = eqb-false k i z in stored_there sc base i x f ∙ d.placed k (omega arith)
+      pick : (t : Bool) → eqb k i ≡ t → get_or (set sc i x) k 0 ≡ rows_kept (keeps choice) w k
+      pick true z = let f : k ≡ i = eqb-true k i z in rw f (stored_here sc i x (omega (arith, d.size)) ∙ e)
+      pick false z = let f = eqb-false k i z in stored_there sc i x f ∙ d.placed k (omega arith)
 
-  pub row_counted : i < root_row w → Counting w choice base (i + 1) (many + get_or sc (base + i) 0) before (set sc (base + i) many)
+  pub row_counted : i < root_row w → Counting w choice (i + 1) (many + get_or sc i 0) (set sc i many)
   row_counted h = record {
     placed = λ k l. placed_next many d.count (omega arith) k (omega arith);
-    staying = record { each = λ k a b. stored_there sc base i many (λ z. omega arith) ∙ d.staying.each k (omega arith) b };
+    staying = record { each = λ k a b. stored_there sc i many (λ z. omega arith) ∙ d.staying.each k (omega arith) b };
     count = rw (add-one i, rows_next, d.staying.each i (omega arith) h, d.count) refl;
-    low = low_on d.low (low_set base i many sc);
-    size = length-set sc (base + i) many ∙ d.size;
+    size = length-set sc i many ∙ d.size;
     most = omega arith;
   }
 
-  pub root_counted : 0 < height w → i ≡ root_row w → Placing (keeps choice) w base (set sc (base + i) many)
+  pub root_counted : 0 < height w → i ≡ root_row w → Placed (keeps choice) w (set sc i many)
   root_counted s e = record { each = λ k l. placed_next many d.count (omega arith) k (omega arith) }
-
-  pub root_low : Low base before (set sc (base + i) many)
-  root_low = low_on d.low (low_set base i many sc)
-
--- what is asked, said of the rows alone
-pub markable : {w : Rows} {choice : List ℕ} {first base n room room' : ℕ} → Markable w choice first base n room → room' ≡ room → Markable w choice (root_first w) base (height w) room'
-markable p e = record { sound = p.sound; all = p.all; list = refl; rows = refl; room = omega (arith, p.room, p.rows) }

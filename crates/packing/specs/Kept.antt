@@ -1,4 +1,4 @@
--- Which rows stay, and where each goes: a number for each node row, behind those of the symbols.
+-- Which rows stay, and where each goes: a number for each node row. In the lent room they stand behind those of the symbols.
 use Rattle.std.specs.Prelude.{ℕ, ◌+◌, ◌≤◌, ◌<◌, Bool, cond, List, ◌≡◌, length, get_or}
 use Rattle.grammar.specs.Naming.{height}
 use Rattle.grammar.specs.Pattern.{among}
@@ -14,21 +14,23 @@ pub record Low (base : ℕ) (before after : List ℕ) : Type 0 where
   pub same : (i : ℕ) → i < base → get_or after i 0 ≡ get_or before i 0
 
 -- 1 at the rows of the first n statements that are kept, and 0 at others
-pub record Marked (c : ℕ → Bool) (w : Rows) (n base rows : ℕ) (scratch : List ℕ) : Type 0 where
-  pub each : (i : ℕ) → i < rows → get_or scratch (base + i) 0 ≡ one (among (kept_upto c w n) i)
+pub record Marked (c : ℕ → Bool) (w : Rows) (n rows : ℕ) (marks : List ℕ) : Type 0 where
+  pub each : (i : ℕ) → i < rows → get_or marks i 0 ≡ one (among (kept_upto c w n) i)
 
 -- 1 at each row but the root that stays, from one on
-pub record Staying (c : ℕ → Bool) (w : Rows) (base from : ℕ) (scratch : List ℕ) : Type 0 where
-  pub each : (i : ℕ) → from ≤ i → i < root_row w → get_or scratch (base + i) 0 ≡ one (stays c w i)
+pub record Staying (c : ℕ → Bool) (w : Rows) (from : ℕ) (marks : List ℕ) : Type 0 where
+  pub each : (i : ℕ) → from ≤ i → i < root_row w → get_or marks i 0 ≡ one (stays c w i)
 
--- where each row goes
+-- where each row goes, and the same where the numbers stand from `base` on
+pub record Placed (c : ℕ → Bool) (w : Rows) (marks : List ℕ) : Type 0 where
+  pub each : (i : ℕ) → i ≤ root_row w → get_or marks i 0 ≡ rows_kept c w i
+
 pub record Placing (c : ℕ → Bool) (w : Rows) (base : ℕ) (scratch : List ℕ) : Type 0 where
   pub each : (i : ℕ) → i ≤ root_row w → get_or scratch (base + i) 0 ≡ rows_kept c w i
 
--- what is asked: rows that keep the rules, with a choice for each statement, and a number for each row from `base` on
-pub record Markable (w : Rows) (choice : List ℕ) (first base n scratch : ℕ) : Type 0 where
+-- what is asked: rows that keep the rules, with a choice for each statement, and a number for each row
+pub record Markable (w : Rows) (choice : List ℕ) (first numbers : ℕ) : Type 0 where
   pub sound : Sound w
   pub all : length choice ≡ statements w
   pub list : first ≡ root_first w
-  pub rows : n ≡ height w
-  pub room : base + n ≤ scratch
+  pub rows : numbers ≡ height w

@@ -72,7 +72,7 @@ fn settle(
     let base = s as usize;
     let rows = Rows { nodes, links };
     let known = hear_all(rows, symbols, scratch, s, builtins, first, choice);
-    keep(rows, choice, first, scratch, base, n as usize);
+    keep(rows, choice, first, &mut scratch[base..base + n as usize]);
     let high = scratch[base + root] as usize + 1;
     let long = pack(nodes, links, scratch, base, known, choice, first, root);
     clear(nodes, NODE_WIDTH * high);

@@ -4,4 +4,4 @@ use Rattle.packing.proofs.Keeping.{Counting}
 use Rattle.packing.proofs.keep.count.Given as goal
 
 abbrev pub invariant-loop-i : goal.invariant-loop-i
-invariant-loop-i l = Counting (seen l.rows) l.choice l.base l.i l.before l.initial.scratch l.scratch
+invariant-loop-i l = Counting (seen l.fn.rows) l.fn.choice l.i l.before l.marks

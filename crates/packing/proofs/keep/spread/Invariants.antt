@@ -4,4 +4,4 @@ use Rattle.packing.proofs.Keeping.{Spreading}
 use Rattle.packing.proofs.keep.spread.Given as goal
 
 abbrev pub invariant-loop-i : goal.invariant-loop-i
-invariant-loop-i l = Spreading (seen l.rows) l.choice l.base l.i l.initial.scratch l.scratch
+invariant-loop-i l = Spreading (seen l.rows) l.choice l.i l.marks
