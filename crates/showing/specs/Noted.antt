@@ -1,7 +1,7 @@
--- What was noted of a row: the part of the text that it covers, two numbers a row.
-use Rattle.std.specs.Prelude.{ℕ, ◌+◌, ◌*◌, ◌≤◌, ◌<◌, List, ◌≡◌, length, get_or}
+-- What was noted of a row: the part of the text that it covers.
+use Rattle.std.specs.Prelude.{ℕ, ◌≤◌, ◌<◌, List, ◌≡◌, length, slice_get, Some}
 use Rattle.showing.specs.declared.cover.Part.{Part}
 
-pub record Noted (covers : List ℕ) (row : ℕ) (r : Part) : Type 0 where
-  pub known : 2 * row + 1 < length covers → r ≡ record { start = get_or covers (2 * row) 0; end = get_or covers (2 * row + 1) 0 }
-  pub unknown : length covers ≤ 2 * row + 1 → r ≡ record { start = 0; end = 0 }
+pub record Noted (covers : List Part) (row : ℕ) (r : Part) : Type 0 where
+  pub known : row < length covers → slice_get covers row ≡ Some r
+  pub unknown : length covers ≤ row → r ≡ record { start = 0; end = 0 }

@@ -1,12 +1,8 @@
 // The text that a row covers: from the leftmost start to the rightmost end of the row and of all that stands below it, with the parentheses that were
 // opened or closed in between. (A row's own span is less: that of a call starts at its `(`.) Children stand before their parents, so one pass over the rows
 // finds all.
-ghost use Rattle.std.specs.Prelude.{◌+◌, ◌≤◌, ◌<◌};
-ghost use Rattle.showing.specs.Noted.{Noted};
-
-use children::{below, child, node, places};
+use crate::Tree;
 use token::kinds;
-use wire::output::found;
 
 // Offsets in the text.
 #[derive(Clone, Copy)]
@@ -15,203 +11,129 @@ pub struct Part {
     pub end: u32,
 }
 
-// What row `row` covers, where it is known; the empty part at 0 where it is not.
-pub fn part_of(covers: &[u32], row: u32) -> Part
-    ensures { Noted covers.now row result }
-{
-    let at = 2 * (row as usize);
-    if at + 1 < covers.len() {
-        return Part {
-            start: covers[at],
-            end: covers[at + 1],
-        };
-    }
-    Part { start: 0, end: 0 }
-}
+impl Part {
+    // The empty part at 0.
+    pub const NONE: Part = Part { start: 0, end: 0 };
 
-// Notes what row `row` covers.
-fn note(covers: &mut [u32], row: u32, part: Part) {
-    let at = 2 * (row as usize);
-    if at + 1 < covers.len() {
-        covers[at] = part.start;
-        covers[at + 1] = part.end;
+    // What of a text it is.
+    pub(crate) fn of(self, text: &[u8]) -> &[u8] {
+        let start = self.start as usize;
+        let end = text.len().min(self.end as usize);
+        if start <= end { &text[start..end] } else { b"" }
     }
-}
 
-// The least part that holds two.
-fn joined(a: Part, b: Part) -> Part {
-    let mut start = a.start;
-    let mut end = a.end;
-    if b.start < start {
-        start = b.start;
+    // Whether nothing is in it.
+    pub(crate) fn is_empty(self) -> bool {
+        self.start == self.end
     }
-    if b.end > end {
-        end = b.end;
-    }
-    Part {
-        start: start,
-        end: end,
-    }
-}
 
-// A row with all that stands below it.
-fn reach(nodes: &[u32], links: &[u32], covers: &[u32], row: u32) -> Part {
-    let b = below(nodes, row);
-    let n = places(b);
-    let mut part = Part {
-        start: node(nodes, row, 1),
-        end: node(nodes, row, 2),
-    };
-    let mut i = 0;
-    while i < n {
-        let kid = child(links, b, i);
-        if kid < row {
-            part = joined(part, part_of(covers, kid));
+    // Whether it has this offset in it.
+    pub(crate) fn holds(self, offset: usize) -> bool {
+        self.start as usize <= offset && offset < self.end as usize
+    }
+
+    // The least part that holds two.
+    fn joined(self, other: Part) -> Part {
+        Part {
+            start: self.start.min(other.start),
+            end: self.end.max(other.end),
         }
-        i += 1;
     }
-    part
 }
 
 // A part of the text, and how many parentheses in it are without their counterparts: `(` and `)`.
 #[derive(Clone, Copy)]
 struct Stretch {
-    start: u32,
-    end: u32,
+    part: Part,
     open: u32,
     shut: u32,
 }
 
-// No token's kind.
-const NO_KIND: u32 = 255;
+impl Stretch {
+    // Counts a token where it lies in the part. Any kind but those of the parentheses changes nothing.
+    fn count(&mut self, token: [u32; 3]) {
+        let [kind, start, end] = token;
+        if start < self.part.start || end > self.part.end {
+            return;
+        }
+        match kind {
+            kinds::LEFT_PAREN => self.open = self.open.saturating_add(1),
+            kinds::RIGHT_PAREN if self.open > 0 => self.open -= 1,
+            kinds::RIGHT_PAREN => self.shut = self.shut.saturating_add(1),
+            _ => {}
+        }
+    }
 
-// The kind of a token where it lies in a stretch, and no token's kind where it does not.
-fn kind_in(tokens: &[u32], at: u32, s: Stretch) -> u32 {
-    let i = 3 * (at as usize);
-    if i + 2 < tokens.len() {
-        if tokens[i + 1] >= s.start {
-            if tokens[i + 2] <= s.end {
-                return tokens[i];
+    // Goes on up to a token that closes it: the `)` of a `(` in it.
+    fn close(&mut self, token: [u32; 3]) {
+        let [kind, start, end] = token;
+        if self.open > 0 && kind == kinds::RIGHT_PAREN && start >= self.part.end {
+            self.part.end = end;
+            self.open -= 1;
+        }
+    }
+
+    // Begins at a token that opens it: the `(` of a `)` in it.
+    fn begin(&mut self, token: [u32; 3]) {
+        let [kind, start, end] = token;
+        if self.shut > 0 && kind == kinds::LEFT_PAREN && end <= self.part.start {
+            self.part.start = start;
+            self.shut -= 1;
+        }
+    }
+}
+
+// The numbers of the tokens of a list, up to Eof, which is the last.
+pub(crate) fn up_to_end(list: &[u32]) -> &[u32] {
+    let (tokens, _) = list.as_chunks::<3>();
+    match tokens.iter().position(|token| token[0] == kinds::EOF) {
+        Some(k) => &list[..3 * k + 3],
+        None => list,
+    }
+}
+
+impl<'a> Tree<'a> {
+    // The tokens, three numbers each.
+    fn each_token(&self) -> &[[u32; 3]] {
+        let (tokens, _) = self.tokens.as_chunks::<3>();
+        tokens
+    }
+
+    // A row with all that stands below it.
+    fn reach(&self, row: u32) -> Part {
+        let mut part = Part {
+            start: self.node(row, 1),
+            end: self.node(row, 2),
+        };
+        for place in 0..self.places(row) {
+            if let Some(kid) = self.child(row, place) {
+                part = part.joined(self.part_of(kid));
             }
         }
+        part
     }
-    NO_KIND
-}
 
-// Counts one token of a stretch. Any kind but those of the parentheses changes nothing.
-fn counted(s: Stretch, kind: u32) -> Stretch
-    requires { (s.open < 4294967295) × (s.shut < 4294967295) }
-    ensures { (result.open ≤ s.open + 1) × (result.shut ≤ s.shut + 1) }
-{
-    let mut next = s;
-    if kind == kinds::LEFT_PAREN {
-        next.open = s.open + 1;
-        return next;
-    }
-    if kind == kinds::RIGHT_PAREN {
-        if s.open == 0 {
-            next.shut = s.shut + 1;
-            return next;
+    // A part with the counterparts of its lone parentheses: those of `(` are looked for from the left, those of `)` from the right.
+    fn balanced(&self, part: Part) -> Part {
+        let mut s = Stretch {
+            part,
+            open: 0,
+            shut: 0,
+        };
+        for token in self.each_token() {
+            s.count(*token);
         }
-        next.open = s.open - 1;
-        return next;
-    }
-    next
-}
-
-// A part with its lone parentheses counted.
-fn measured(tokens: &[u32], count: u32, part: Part) -> Stretch {
-    let mut s = Stretch {
-        start: part.start,
-        end: part.end,
-        open: 0,
-        shut: 0,
-    };
-    let mut at: u32 = 0;
-    while at < count {
-        s = counted(s, kind_in(tokens, at, s));
-        at += 1;
-    }
-    s
-}
-
-// A stretch up to a token that closes it: the `)` of a `(` in it.
-fn closed_by(tokens: &[u32], at: u32, s: Stretch) -> Stretch {
-    let i = 3 * (at as usize);
-    if s.open == 0 {
-        return s;
-    }
-    if i + 2 < tokens.len() {
-        if tokens[i] == kinds::RIGHT_PAREN {
-            if tokens[i + 1] >= s.end {
-                let mut next = s;
-                next.end = tokens[i + 2];
-                next.open = s.open - 1;
-                return next;
-            }
+        for token in self.each_token() {
+            s.close(*token);
         }
-    }
-    s
-}
-
-// A stretch from a token on that opens it: the `(` of a `)` in it.
-fn opened_by(tokens: &[u32], at: u32, s: Stretch) -> Stretch {
-    let i = 3 * (at as usize);
-    if s.shut == 0 {
-        return s;
-    }
-    if i + 2 < tokens.len() {
-        if tokens[i] == kinds::LEFT_PAREN {
-            if tokens[i + 2] <= s.start {
-                let mut next = s;
-                next.start = tokens[i + 1];
-                next.shut = s.shut - 1;
-                return next;
-            }
+        for token in self.each_token().iter().rev() {
+            s.begin(*token);
         }
+        s.part
     }
-    s
-}
 
-// A part with the counterparts of its lone parentheses: those of `(` are looked for from the left, those of `)` from the right.
-fn balanced(tokens: &[u32], count: u32, part: Part) -> Part {
-    let mut s = measured(tokens, count, part);
-    let mut at: u32 = 0;
-    while at < count {
-        s = closed_by(tokens, at, s);
-        at += 1;
-        s = opened_by(tokens, count - at, s);
-    }
-    Part {
-        start: s.start,
-        end: s.end,
-    }
-}
-
-// How many tokens a list has: up to Eof, which is the last.
-fn count(list: &[u32]) -> u32 {
-    let mut n: u32 = 0;
-    while n < 4096 {
-        if found(list, n) == kinds::EOF {
-            return n + 1;
-        }
-        n += 1;
-    }
-    n
-}
-
-// Room for what is noted of 4,096 rows, zero throughout: two numbers each for what they cover, and behind these one each for a mark.
-pub fn noted() -> [u32; 12288] {
-    [0; 12288]
-}
-
-// Notes what each of the first `rows` rows covers.
-pub fn cover(tokens: &[u32], nodes: &[u32], links: &[u32], rows: u32, covers: &mut [u32]) {
-    let n = count(tokens);
-    let mut row: u32 = 0;
-    while row < rows {
-        let part = reach(nodes, links, covers, row);
-        note(covers, row, balanced(tokens, n, part));
-        row += 1;
+    // What a row covers, where that is noted of all that stands below it.
+    pub(crate) fn whole(&self, row: u32) -> Part {
+        self.balanced(self.reach(row))
     }
 }

@@ -1,234 +1,34 @@
 // A statement once more, as it is read: every operand that is more than a word, a literal or a chain stands in parentheses, but for the left one of two that is read from
 // left to right in any case.
-ghost use Rattle.std.specs.Prelude.{◌≤◌, ◌<◌};
+ghost use Rattle.std.specs.Prelude.{◌<◌};
 
-use crate::words::{DEEPEST, indent, put_sign};
+use crate::Tree;
+use crate::words::{DEEPEST, indent};
 use ast::{ABSENT, kinds};
-use children::{Children, below, child, link, linked, node, places};
-use page::words::put_text;
-use page::{end_line, put, put_byte};
-
-// The name that a row has: symbol, start and end are its numbers from 3 or 4 on.
-fn put_named(
-    text: &[u8],
-    nodes: &[u32],
-    row: u32,
-    start: u32,
-    out: &mut [u8; 4096],
-    at: usize,
-) -> usize
-    requires { (at ≤ 4096) × (start < 9) }
-    ensures { result ≤ 4096 }
-{
-    put_text(
-        text,
-        node(nodes, row, start),
-        node(nodes, row, start + 1),
-        out,
-        at,
-    )
-}
-
-// What stands between two items, before item i.
-fn put_apart(i: u32, between: &[u8], out: &mut [u8; 4096], at: usize) -> usize
-    requires { at ≤ 4096 }
-    ensures { result ≤ 4096 }
-{
-    if i == 0 {
-        return at;
-    }
-    put(between, out, at)
-}
-
-// The names of a list, with a comma or a dot between two.
-fn put_names(
-    text: &[u8],
-    links: &[u32],
-    from: u32,
-    count: u32,
-    between: &[u8],
-    out: &mut [u8; 4096],
-    at: usize,
-) -> usize
-    requires { at ≤ 4096 }
-    ensures { result ≤ 4096 }
-{
-    let mut now = at;
-    let mut i: u32 = 0;
-    while i < count {
-        let apart = put_apart(i, between, out, now);
-        let k = (from as usize) + (i as usize);
-        now = put_text(text, link(links, k, 1), link(links, k, 2), out, apart);
-        i += 1;
-    }
-    now
-}
-
-// `let`, `const` or `ref`, a name, and `=`.
-fn put_binding(
-    lead: &[u8],
-    text: &[u8],
-    nodes: &[u32],
-    row: u32,
-    out: &mut [u8; 4096],
-    at: usize,
-) -> usize
-    requires { at ≤ 4096 }
-    ensures { result ≤ 4096 }
-{
-    let led = put(lead, out, at);
-    let named = put_named(text, nodes, row, 4, out, led);
-    put(b" = ", out, named)
-}
-
-// `fun`, a name, and the names in parentheses.
-fn put_function(
-    text: &[u8],
-    nodes: &[u32],
-    links: &[u32],
-    row: u32,
-    out: &mut [u8; 4096],
-    at: usize,
-) -> usize
-    requires { at ≤ 4096 }
-    ensures { result ≤ 4096 }
-{
-    let led = put(b"fun ", out, at);
-    let named = put_named(text, nodes, row, 4, out, led);
-    let open = put_byte(b'(', out, named);
-    let listed = put_names(
-        text,
-        links,
-        node(nodes, row, 6),
-        node(nodes, row, 7),
-        b", ",
-        out,
-        open,
-    );
-    put(b") ", out, listed)
-}
-
-// The names of a lambda between bars.
-fn put_bars(
-    text: &[u8],
-    nodes: &[u32],
-    links: &[u32],
-    row: u32,
-    out: &mut [u8; 4096],
-    at: usize,
-) -> usize
-    requires { at ≤ 4096 }
-    ensures { result ≤ 4096 }
-{
-    let open = put_byte(b'|', out, at);
-    let listed = put_names(
-        text,
-        links,
-        node(nodes, row, 3),
-        node(nodes, row, 4),
-        b", ",
-        out,
-        open,
-    );
-    put(b"| ", out, listed)
-}
-
-// A whole import: its path, and its bindings where it has some.
-fn put_import(
-    text: &[u8],
-    nodes: &[u32],
-    links: &[u32],
-    row: u32,
-    out: &mut [u8; 4096],
-    at: usize,
-) -> usize
-    requires { at ≤ 4096 }
-    ensures { result ≤ 4096 }
-{
-    let led = put(b"import ", out, at);
-    let path = put_names(
-        text,
-        links,
-        node(nodes, row, 3),
-        node(nodes, row, 4),
-        b".",
-        out,
-        led,
-    );
-    let many = node(nodes, row, 6);
-    if many == 0 {
-        return path;
-    }
-    let colon = put(b": ", out, path);
-    put_names(text, links, node(nodes, row, 5), many, b", ", out, colon)
-}
-
-// `return`, with a blank before its value where it has one.
-fn put_return(value: u32, out: &mut [u8; 4096], at: usize) -> usize
-    requires { at ≤ 4096 }
-    ensures { result ≤ 4096 }
-{
-    if value == ABSENT {
-        return put(b"return", out, at);
-    }
-    put(b"return ", out, at)
-}
-
-// What a row starts with, before its first child; all of a row that has no child.
-fn opening(
-    text: &[u8],
-    nodes: &[u32],
-    links: &[u32],
-    row: u32,
-    out: &mut [u8; 4096],
-    at: usize,
-) -> usize
-    requires { at ≤ 4096 }
-    ensures { result ≤ 4096 }
-{
-    match node(nodes, row, 0) {
-        kinds::LOGICAL_NOT => put(b"not ", out, at),
-        kinds::UNARY => put_sign(kinds::UNARY, node(nodes, row, 3), out, at),
-        kinds::VARIABLE => put_binding(b"let ", text, nodes, row, out, at),
-        kinds::CONSTANT => put_binding(b"const ", text, nodes, row, out, at),
-        kinds::REF => put_binding(b"ref ", text, nodes, row, out, at),
-        kinds::IDENTIFIER..=kinds::NIL | kinds::BREAK..=kinds::CONTINUE => put_named(
-            text, nodes, row, 1, out, at,
-        ),
-        kinds::MAP => put(b"#{", out, at),
-        kinds::FUNCTION => put_function(text, nodes, links, row, out, at),
-        kinds::LAMBDA => put_bars(text, nodes, links, row, out, at),
-        kinds::BLOCK => put_byte(b'{', out, at),
-        kinds::IF => put(b"if ", out, at),
-        kinds::WHILE_LOOP => put(b"while ", out, at),
-        kinds::RETURN => put_return(node(nodes, row, 3), out, at),
-        kinds::IMPORT => put_import(text, nodes, links, row, out, at),
-        _ => at,
-    }
-}
+use children::{Children, link, linked};
+use page::Line;
 
 // Whether a node of this kind takes more than its own token and a chain: an operator, a lambda, a block or an `if`.
 fn is_compound(kind: u32) -> bool {
-    match kind {
-        kinds::BINARY..=kinds::UNARY | kinds::LAMBDA..=kinds::IF => true,
-        _ => false,
-    }
+    matches!(kind, kinds::BINARY..=kinds::UNARY | kinds::LAMBDA..=kinds::IF)
 }
 
 // Whether a node of this kind reaches as far to the right as it can: a lambda, a block or an `if`.
 fn is_open(kind: u32) -> bool {
-    match kind {
-        kinds::LAMBDA..=kinds::IF => true,
-        _ => false,
-    }
+    matches!(kind, kinds::LAMBDA..=kinds::IF)
 }
 
 // Whether a node of this kind is a name or a chain: what a call or a dot follows without parentheses.
 fn is_chain(kind: u32) -> bool {
-    match kind {
-        kinds::IDENTIFIER | kinds::FUNCTION_CALL..=kinds::PROPERTY_ACCESS => true,
-        _ => false,
-    }
+    matches!(
+        kind,
+        kinds::IDENTIFIER | kinds::FUNCTION_CALL..=kinds::PROPERTY_ACCESS
+    )
+}
+
+// Whether a statement of this kind stands without `;`: a function, a block, an `if` or a `while`.
+pub(crate) fn is_closed(kind: u32) -> bool {
+    matches!(kind, kinds::FUNCTION | kinds::BLOCK..=kinds::WHILE_LOOP)
 }
 
 // The level of a Binary's operator, as ops.rs counts operators: the tightest is 1.
@@ -241,151 +41,29 @@ fn level_of(operator: u32) -> u32 {
     }
 }
 
-// The level of a row that joins two operands; 0 for any other row.
-fn level(nodes: &[u32], row: u32) -> u32 {
-    match node(nodes, row, 0) {
-        kinds::BINARY => level_of(node(nodes, row, 3)),
-        kinds::LOGICAL_AND => 5,
-        kinds::LOGICAL_OR => 6,
-        _ => 0,
-    }
-}
-
-// Whether the operand of an operator is put in parentheses. The left one of two is not, where it is of the operator's own level: it is read first in any case.
-fn is_operand_grouped(nodes: &[u32], row: u32, place: usize, kid: u32) -> bool {
-    if is_compound(node(nodes, kid, 0)) {
-        let of = level(nodes, kid);
-        if of == 0 {
-            return true;
-        }
-        if place != 0 {
-            return true;
-        }
-        return of != level(nodes, row);
-    }
-    false
-}
-
-// Whether a child is put in parentheses: the operand of an operator, and the body of a lambda; what a block or `=` follows, where it would not end there; and what a
-// call or a dot follows, where it is no chain.
-fn is_grouped(nodes: &[u32], row: u32, place: usize, kid: u32) -> bool {
-    let sort = node(nodes, kid, 0);
-    match node(nodes, row, 0) {
-        kinds::BINARY..=kinds::UNARY => is_operand_grouped(nodes, row, place, kid),
-        kinds::LAMBDA => {
-            if sort == kinds::BLOCK {
-                return false;
-            }
-            is_compound(sort)
-        }
-        kinds::FUNCTION_CALL..=kinds::PROPERTY_ACCESS => {
-            if place == 0 {
-                return !is_chain(sort);
-            }
-            false
-        }
-        kinds::ASSIGN | kinds::IF..=kinds::WHILE_LOOP => {
-            if place == 0 {
-                return is_open(sort);
-            }
-            false
-        }
-        _ => false,
-    }
-}
-
-// The level of what stands below a row: a block's is one deeper, up to the deepest indent.
-fn deeper(kind: u32, level: u32) -> u32 {
-    if kind == kinds::BLOCK {
-        if level < DEEPEST {
-            return level + 1;
-        }
-    }
-    level
-}
-
 // A new line at a level.
-fn new_line(level: u32, out: &mut [u8; 4096], at: usize) -> usize
-    requires { at ≤ 4096 }
-    ensures { result ≤ 4096 }
-{
-    end_line(out, at);
-    indent(4, level, out, 0)
-}
-
-// A sign between blanks.
-fn put_between(kind: u32, operator: u32, out: &mut [u8; 4096], at: usize) -> usize
-    requires { at ≤ 4096 }
-    ensures { result ≤ 4096 }
-{
-    let gap = put_byte(b' ', out, at);
-    let sign = put_sign(kind, operator, out, gap);
-    put_byte(b' ', out, sign)
+fn new_line(level: u32, line: &mut Line) {
+    line.end();
+    indent(4, level, line);
 }
 
 // What stands before an entry of a map, or before its value.
-fn before_entry(place: usize, out: &mut [u8; 4096], at: usize) -> usize
-    requires { at ≤ 4096 }
-    ensures { result ≤ 4096 }
-{
+fn before_entry(place: usize, line: &mut Line) {
     if place % 2 == 0 {
-        return put(b": ", out, at);
+        line.put(b": ");
+    } else if place == 1 {
+        line.put_byte(b' ');
+    } else {
+        line.put(b", ");
     }
-    if place == 1 {
-        return put_byte(b' ', out, at);
-    }
-    put(b", ", out, at)
 }
 
 // What stands before the block or the `else` of `if` and `while`.
-fn before_block(place: usize, out: &mut [u8; 4096], at: usize) -> usize
-    requires { at ≤ 4096 }
-    ensures { result ≤ 4096 }
-{
+fn before_block(place: usize, line: &mut Line) {
     match place {
-        0 => at,
-        1 => put_byte(b' ', out, at),
-        _ => put(b" else ", out, at),
-    }
-}
-
-// What stands before the child at a place of a row of this kind.
-fn before(
-    kind: u32,
-    operator: u32,
-    place: usize,
-    level: u32,
-    out: &mut [u8; 4096],
-    at: usize,
-) -> usize
-    requires { at ≤ 4096 }
-    ensures { result ≤ 4096 }
-{
-    match kind {
-        kinds::BINARY..=kinds::LOGICAL_OR | kinds::ASSIGN => {
-            if place == 0 {
-                return at;
-            }
-            put_between(kind, operator, out, at)
-        }
-        kinds::FUNCTION_CALL => {
-            if place > 1 {
-                return put(b", ", out, at);
-            }
-            at
-        }
-        kinds::MAP => before_entry(place, out, at),
-        kinds::BLOCK => new_line(deeper(kind, level), out, at),
-        kinds::IF..=kinds::WHILE_LOOP => before_block(place, out, at),
-        _ => at,
-    }
-}
-
-// Whether a statement of this kind stands without `;`: a function, a block, an `if` or a `while`.
-pub(crate) fn is_closed(kind: u32) -> bool {
-    match kind {
-        kinds::FUNCTION | kinds::BLOCK..=kinds::WHILE_LOOP => true,
-        _ => false,
+        0 => {}
+        1 => line.put_byte(b' '),
+        _ => line.put(b" else "),
     }
 }
 
@@ -393,126 +71,216 @@ pub(crate) fn is_closed(kind: u32) -> bool {
 // it would be the tail without.
 fn is_ended(b: Children, place: usize, kid: u32) -> bool {
     let many = linked(b);
-    if place > many {
-        return false;
-    }
-    if is_closed(kid) {
-        if place == many {
-            return b.second == ABSENT;
-        }
-        return false;
-    }
-    true
+    place <= many && (!is_closed(kid) || place == many && b.second == ABSENT)
 }
 
-// What stands after the child at a place of a row.
-fn after(kind: u32, b: Children, place: usize, kid: u32, out: &mut [u8; 4096], at: usize) -> usize
-    requires { at ≤ 4096 }
-    ensures { result ≤ 4096 }
-{
-    match kind {
-        kinds::FUNCTION_CALL => {
-            if place == 0 {
-                return put_byte(b'(', out, at);
+impl<'a> Tree<'a> {
+    // The name that a row has: its start and its end are the row's numbers from `start` on.
+    fn put_named(&self, row: u32, start: u32, line: &mut Line)
+        requires { start < 9 }
+    {
+        line.put_text(self.text, self.node(row, start), self.node(row, start + 1));
+    }
+
+    // The names of a list, with a comma or a dot between two. The row's numbers from `list` on say which links have them.
+    fn put_names(&self, row: u32, list: u32, between: &[u8], line: &mut Line)
+        requires { list < 9 }
+    {
+        let from = self.node(row, list) as usize;
+        for i in 0..self.node(row, list + 1) as usize {
+            if i > 0 {
+                line.put(between);
             }
-            at
+            let k = from + i;
+            line.put_text(self.text, link(self.links, k, 1), link(self.links, k, 2));
         }
-        kinds::BLOCK => {
-            if is_ended(b, place, kid) {
-                return put_byte(b';', out, at);
+    }
+
+    // `let`, `const` or `ref`, a name, and `=`.
+    fn put_binding(&self, lead: &[u8], row: u32, line: &mut Line) {
+        line.put(lead);
+        self.put_named(row, 4, line);
+        line.put(b" = ");
+    }
+
+    // `fun`, a name, and the names in parentheses.
+    fn put_function(&self, row: u32, line: &mut Line) {
+        line.put(b"fun ");
+        self.put_named(row, 4, line);
+        line.put_byte(b'(');
+        self.put_names(row, 6, b", ", line);
+        line.put(b") ");
+    }
+
+    // The names of a lambda between bars.
+    fn put_bars(&self, row: u32, line: &mut Line) {
+        line.put_byte(b'|');
+        self.put_names(row, 3, b", ", line);
+        line.put(b"| ");
+    }
+
+    // A whole import: its path, and its bindings where it has some.
+    fn put_import(&self, row: u32, line: &mut Line) {
+        line.put(b"import ");
+        self.put_names(row, 3, b".", line);
+        if self.node(row, 6) > 0 {
+            line.put(b": ");
+            self.put_names(row, 5, b", ", line);
+        }
+    }
+
+    // `return`, with a blank before its value where it has one.
+    fn put_return(&self, row: u32, line: &mut Line) {
+        line.put(b"return");
+        if self.node(row, 3) != ABSENT {
+            line.put_byte(b' ');
+        }
+    }
+
+    // What a row starts with, before its first child; all of a row that has no child.
+    fn opening(&self, row: u32, line: &mut Line) {
+        match self.kind(row) {
+            kinds::LOGICAL_NOT => line.put(b"not "),
+            kinds::UNARY => self.put_sign(row, line),
+            kinds::VARIABLE => self.put_binding(b"let ", row, line),
+            kinds::CONSTANT => self.put_binding(b"const ", row, line),
+            kinds::REF => self.put_binding(b"ref ", row, line),
+            kinds::IDENTIFIER..=kinds::NIL | kinds::BREAK..=kinds::CONTINUE => {
+                self.put_named(row, 1, line)
             }
-            at
-        }
-        _ => at,
-    }
-}
-
-// The end of a block: its own line, where the block holds something.
-fn close_block(b: Children, level: u32, out: &mut [u8; 4096], at: usize) -> usize
-    requires { at ≤ 4096 }
-    ensures { result ≤ 4096 }
-{
-    if b.count == 0 {
-        if b.second == ABSENT {
-            return put_byte(b'}', out, at);
+            kinds::MAP => line.put(b"#{"),
+            kinds::FUNCTION => self.put_function(row, line),
+            kinds::LAMBDA => self.put_bars(row, line),
+            kinds::BLOCK => line.put_byte(b'{'),
+            kinds::IF => line.put(b"if "),
+            kinds::WHILE_LOOP => line.put(b"while "),
+            kinds::RETURN => self.put_return(row, line),
+            kinds::IMPORT => self.put_import(row, line),
+            _ => {}
         }
     }
-    let next = new_line(level, out, at);
-    put_byte(b'}', out, next)
-}
 
-// What a row ends with, after its last child.
-fn closing(
-    text: &[u8],
-    nodes: &[u32],
-    row: u32,
-    b: Children,
-    level: u32,
-    out: &mut [u8; 4096],
-    at: usize,
-) -> usize
-    requires { at ≤ 4096 }
-    ensures { result ≤ 4096 }
-{
-    match node(nodes, row, 0) {
-        kinds::FUNCTION_CALL => put_byte(b')', out, at),
-        kinds::PROPERTY_ACCESS => {
-            let dot = put_byte(b'.', out, at);
-            put_named(text, nodes, row, 5, out, dot)
+    // The level of a row that joins two operands.
+    fn level(&self, row: u32) -> Option<u32> {
+        match self.kind(row) {
+            kinds::BINARY => Some(level_of(self.node(row, 3))),
+            kinds::LOGICAL_AND => Some(5),
+            kinds::LOGICAL_OR => Some(6),
+            _ => None,
         }
-        kinds::MAP => {
-            if b.count == 0 {
-                return put_byte(b'}', out, at);
+    }
+
+    // Whether the operand of an operator is put in parentheses. The left one of two is not, where it is of the operator's own level: it is read first in any case.
+    fn is_operand_grouped(&self, row: u32, place: usize, kid: u32) -> bool {
+        let same = match self.level(kid) {
+            Some(level) => self.level(row) == Some(level),
+            None => false,
+        };
+        is_compound(self.kind(kid)) && !(place == 0 && same)
+    }
+
+    // Whether a child is put in parentheses: the operand of an operator, and the body of a lambda; what a block or `=` follows, where it would not end there; and what a
+    // call or a dot follows, where it is no chain.
+    fn is_grouped(&self, row: u32, place: usize, kid: u32) -> bool {
+        let sort = self.kind(kid);
+        match self.kind(row) {
+            kinds::BINARY..=kinds::UNARY => self.is_operand_grouped(row, place, kid),
+            kinds::LAMBDA => sort != kinds::BLOCK && is_compound(sort),
+            kinds::FUNCTION_CALL..=kinds::PROPERTY_ACCESS => place == 0 && !is_chain(sort),
+            kinds::ASSIGN | kinds::IF..=kinds::WHILE_LOOP => place == 0 && is_open(sort),
+            _ => false,
+        }
+    }
+
+    // The level of what stands below a row: a block's is one deeper, up to the deepest indent.
+    fn deeper(&self, row: u32, level: u32) -> u32 {
+        if self.kind(row) == kinds::BLOCK && level < DEEPEST {
+            level + 1
+        } else {
+            level
+        }
+    }
+
+    // A row's sign between blanks.
+    fn put_between(&self, row: u32, line: &mut Line) {
+        line.put_byte(b' ');
+        self.put_sign(row, line);
+        line.put_byte(b' ');
+    }
+
+    // What stands before the child at a place of a row.
+    fn before(&self, row: u32, place: usize, level: u32, line: &mut Line) {
+        match self.kind(row) {
+            kinds::BINARY..=kinds::LOGICAL_OR | kinds::ASSIGN if place > 0 => {
+                self.put_between(row, line)
             }
-            put(b" }", out, at)
+            kinds::FUNCTION_CALL if place > 1 => line.put(b", "),
+            kinds::MAP => before_entry(place, line),
+            kinds::BLOCK => new_line(self.deeper(row, level), line),
+            kinds::IF..=kinds::WHILE_LOOP => before_block(place, line),
+            _ => {}
         }
-        kinds::BLOCK => close_block(b, level, out, at),
-        _ => at,
     }
-}
 
-// A parenthesis, where one is wanted.
-fn put_if(wanted: bool, byte: u8, out: &mut [u8; 4096], at: usize) -> usize
-    requires { at ≤ 4096 }
-    ensures { result ≤ 4096 }
-{
-    if wanted {
-        return put_byte(byte, out, at);
-    }
-    at
-}
-
-// A row as it is read. A child has a lower number than its parent, or it is left out: so the walk ends.
-pub(crate) fn say(
-    text: &[u8],
-    nodes: &[u32],
-    links: &[u32],
-    out: &mut [u8; 4096],
-    row: u32,
-    level: u32,
-    at: usize,
-) -> usize
-    requires { at ≤ 4096 }
-    ensures { result ≤ 4096 }
-{
-    let kind = node(nodes, row, 0);
-    let operator = node(nodes, row, 3);
-    let b = below(nodes, row);
-    let n = places(b);
-    let mut now = opening(text, nodes, links, row, out, at);
-    let mut i = 0;
-    while i < n {
-        let kid = child(links, b, i);
-        if kid < row {
-            let sort = node(nodes, kid, 0);
-            let grouped = is_grouped(nodes, row, i, kid);
-            let led = before(kind, operator, i, level, out, now);
-            let open = put_if(grouped, b'(', out, led);
-            let said = say(text, nodes, links, out, kid, deeper(kind, level), open);
-            let shut = put_if(grouped, b')', out, said);
-            now = after(kind, b, i, sort, out, shut);
+    // What stands after the child at a place of a row.
+    fn after(&self, row: u32, place: usize, kid: u32, line: &mut Line) {
+        match self.kind(row) {
+            kinds::FUNCTION_CALL if place == 0 => line.put_byte(b'('),
+            kinds::BLOCK if is_ended(self.below(row), place, self.kind(kid)) => {
+                line.put_byte(b';')
+            }
+            _ => {}
         }
-        i += 1;
     }
-    closing(text, nodes, row, b, level, out, now)
+
+    // The end of a block: its own line, where the block holds something.
+    fn close_block(&self, row: u32, level: u32, line: &mut Line) {
+        let b = self.below(row);
+        if b.count > 0 || b.second != ABSENT {
+            new_line(level, line);
+        }
+        line.put_byte(b'}');
+    }
+
+    // The end of a map.
+    fn close_map(&self, row: u32, line: &mut Line) {
+        if self.below(row).count > 0 {
+            line.put_byte(b' ');
+        }
+        line.put_byte(b'}');
+    }
+
+    // What a row ends with, after its last child.
+    fn closing(&self, row: u32, level: u32, line: &mut Line) {
+        match self.kind(row) {
+            kinds::FUNCTION_CALL => line.put_byte(b')'),
+            kinds::PROPERTY_ACCESS => {
+                line.put_byte(b'.');
+                self.put_named(row, 5, line);
+            }
+            kinds::MAP => self.close_map(row, line),
+            kinds::BLOCK => self.close_block(row, level, line),
+            _ => {}
+        }
+    }
+
+    // A row as it is read. A child has a lower number than its parent: so the walk ends.
+    pub(crate) fn say(&self, row: u32, level: u32, line: &mut Line) {
+        self.opening(row, line);
+        for place in 0..self.places(row) {
+            if let Some(kid) = self.child(row, place) {
+                let grouped = self.is_grouped(row, place, kid);
+                self.before(row, place, level, line);
+                if grouped {
+                    line.put_byte(b'(');
+                }
+                self.say(kid, self.deeper(row, level), line);
+                if grouped {
+                    line.put_byte(b')');
+                }
+                self.after(row, place, kid, line);
+            }
+        }
+        self.closing(row, level, line);
+    }
 }

@@ -1,10 +1,9 @@
 // The names and signs of nodes, the first line of a part of the text, and the indent of a level.
-ghost use Rattle.std.specs.Prelude.{◌≤◌};
-
+use crate::Tree;
+use crate::cover::Part;
 use ast::kinds;
 use diagnostics::line::writing_end;
-use page::words::{least, put_cell, put_excerpt};
-use page::{pad, put};
+use page::Line;
 
 // The names of the kinds of nodes, as ast.rs has them: a cell of 14 bytes for each kind from 0 on, and the last for all others. One table is checked faster than an
 // arm with bytes of its own for each kind.
@@ -25,76 +24,54 @@ const SIGN_CELL: usize = 2;
 
 const OTHER_SIGN: usize = 11;
 
-// The name of a node's kind.
-pub(crate) fn put_name(kind: u32, out: &mut [u8; 4096], at: usize) -> usize
-    requires { at ≤ 4096 }
-    ensures { result ≤ 4096 }
-{
-    let table = NAMES;
-    let from = NAME_CELL * least(kind as usize, OTHER_KIND);
-    put_cell(&table, from, from + NAME_CELL, out, at)
-}
-
-// The sign of a Binary's operator.
-fn put_binary(operator: u32, out: &mut [u8; 4096], at: usize) -> usize
-    requires { at ≤ 4096 }
-    ensures { result ≤ 4096 }
-{
-    let table = SIGNS;
-    let from = SIGN_CELL * least(operator as usize, OTHER_SIGN);
-    put_cell(&table, from, from + SIGN_CELL, out, at)
-}
-
-// The sign of a node of this kind, whose first number is `operator`; nothing where it has none.
-pub(crate) fn put_sign(kind: u32, operator: u32, out: &mut [u8; 4096], at: usize) -> usize
-    requires { at ≤ 4096 }
-    ensures { result ≤ 4096 }
-{
-    match kind {
-        kinds::BINARY => put_binary(operator, out, at),
-        kinds::LOGICAL_AND => put(b"and", out, at),
-        kinds::LOGICAL_OR => put(b"or", out, at),
-        kinds::LOGICAL_NOT => put(b"not", out, at),
-        kinds::UNARY => {
-            if operator == 0 {
-                return put(b"-", out, at);
-            }
-            put(b"^", out, at)
-        }
-        kinds::ASSIGN => put(b"=", out, at),
-        _ => at,
-    }
-}
-
-// The first line of the text from an offset up to another, in the same way.
-pub(crate) fn put_first_line(
-    text: &[u8],
-    start: u32,
-    end: u32,
-    most: usize,
-    out: &mut [u8; 4096],
-    at: usize,
-) -> usize
-    requires { at ≤ 4096 }
-    ensures { result ≤ 4096 }
-{
-    let from = least(start as usize, text.len());
-    let upto = least(writing_end(text, from), end as usize);
-    put_excerpt(text, start, upto as u32, most, out, at)
-}
-
 // The level from which on the indent grows no more.
 pub(crate) const DEEPEST: u32 = 24;
 
-// The indent of a level, two blanks each.
-pub(crate) fn indent(margin: usize, level: u32, out: &mut [u8; 4096], at: usize) -> usize
-    requires { (at ≤ 4096) × (margin ≤ 64) }
-    ensures { result ≤ 4096 }
-{
-    let deep = least(level as usize, DEEPEST as usize);
-    let column = margin + 2 * deep;
-    if column == 0 {
-        return at;
+// The sign of a Binary's operator.
+fn put_binary(operator: u32, line: &mut Line) {
+    let table = SIGNS;
+    let from = SIGN_CELL * OTHER_SIGN.min(operator as usize);
+    line.put_cell(&table[from..from + SIGN_CELL]);
+}
+
+// The sign of a Unary's operator.
+fn put_unary(operator: u32, line: &mut Line) {
+    match operator {
+        0 => line.put_byte(b'-'),
+        _ => line.put_byte(b'^'),
     }
-    pad(column, out, at)
+}
+
+// The indent of a level, two blanks each.
+pub(crate) fn indent(margin: u8, level: u32, line: &mut Line) {
+    line.pad(margin as usize + 2 * level.min(DEEPEST) as usize);
+}
+
+impl<'a> Tree<'a> {
+    // The name of a row's kind.
+    pub(crate) fn put_kind(&self, row: u32, line: &mut Line) {
+        let table = NAMES;
+        let from = NAME_CELL * OTHER_KIND.min(self.kind(row) as usize);
+        line.put_cell(&table[from..from + NAME_CELL]);
+    }
+
+    // The sign of a row's operator; nothing where it has none.
+    pub(crate) fn put_sign(&self, row: u32, line: &mut Line) {
+        match self.kind(row) {
+            kinds::BINARY => put_binary(self.node(row, 3), line),
+            kinds::LOGICAL_AND => line.put(b"and"),
+            kinds::LOGICAL_OR => line.put(b"or"),
+            kinds::LOGICAL_NOT => line.put(b"not"),
+            kinds::UNARY => put_unary(self.node(row, 3), line),
+            kinds::ASSIGN => line.put_byte(b'='),
+            _ => {}
+        }
+    }
+
+    // The first line of a part of the text, on one line.
+    pub(crate) fn put_first_line(&self, part: Part, line: &mut Line) {
+        let from = self.text.len().min(part.start as usize);
+        let upto = writing_end(self.text, from).min(part.end as usize);
+        line.put_excerpt(self.text, part.start, upto as u32, 72);
+    }
 }
