@@ -1,4 +1,5 @@
-// The kinds of node rows by name, in the order of `Node` in ast.rs, for code that is split by them. The functions of lib.rt have the numbers, each beside its contract.
+// The kinds of node rows by name, in the order of `Node` in ast.rs, which say what numbers they are. They stay numbers: a row of the C interface is ten u32, of which the first is its kind
+// (Label.number_of, grammar).
 pub const BINARY: u32 = 1;
 
 pub const LOGICAL_AND: u32 = 2;

@@ -6,7 +6,7 @@
 pub mod kinds;
 pub mod room;
 
-ghost use Rattle.std.specs.Prelude.{◌∷◌, [], ◌<◌};
+ghost use Rattle.std.specs.Prelude.{◌∷◌, [], ◌<◌, ◌≤◌};
 ghost use Rattle.grammar.specs.Handle.{absent};
 ghost use Rattle.grammar.specs.Edition.{Edition};
 ghost use Rattle.grammar.specs.Label.{Node as Form, number_of};
@@ -31,37 +31,32 @@ pub struct Node {
     pub end: u32,
 }
 
-// One row more, of nine numbers and a 0 in the place of its parent, if there is room for it.
+// One row more, of a kind, a span, and as many numbers as a kind has; the rest of its ten numbers are 0, and so is the last one, the place of its parent. It is written if
+// there is room for it.
 // Ruled out: a row that changes another one; a handle without its row's end.
-fn insert(
+fn insert<const N: usize>(
     nodes: &mut [u32],
     n: usize,
     kind: u32,
     start: u32,
     end: u32,
-    a: u32,
-    b: u32,
-    c: u32,
-    d: u32,
-    e: u32,
-    f: u32,
+    fields: [u32; N],
 ) -> Node
-    requires { n < absent }
-    ensures { Tried n kind start end (a ∷ b ∷ c ∷ d ∷ e ∷ f ∷ []) nodes.old nodes.new result }
+    requires { (n < absent) × (N ≤ 6) }
+    ensures { Tried n kind start end fields.entry nodes.old nodes.new result }
 {
     let i = NODE_WIDTH * n;
     let mut node = Node {
         id: ABSENT,
-        start: start,
-        end: end,
+        start,
+        end,
     };
     if nodes.len() < i + NODE_WIDTH {
         return node;
     }
-    room::three(nodes, i, kind, start, end);
-    room::three(nodes, i + 3, a, b, c);
-    room::three(nodes, i + 6, d, e, f);
-    room::one(nodes, i + PARENT, 0);
+    room::put(nodes, i, [kind, start, end]);
+    room::put(nodes, i + 3, fields);
+    room::zero(nodes, i + 3 + N, i + NODE_WIDTH);
     node.id = n as u32;
     node
 }
@@ -78,21 +73,21 @@ pub fn binary(
     requires { n < absent }
     ensures { Tried n (number_of Form.Binary) start end (operator ∷ left ∷ right ∷ []) nodes.old nodes.new result }
 {
-    insert(nodes, n, 1, start, end, operator, left, right, 0, 0, 0)
+    insert(nodes, n, kinds::BINARY, start, end, [operator, left, right])
 }
 
 pub fn logical_and(nodes: &mut [u32], n: usize, left: u32, right: u32, start: u32, end: u32) -> Node
     requires { n < absent }
     ensures { Tried n (number_of Form.LogicalAnd) start end (left ∷ right ∷ []) nodes.old nodes.new result }
 {
-    insert(nodes, n, 2, start, end, left, right, 0, 0, 0, 0)
+    insert(nodes, n, kinds::LOGICAL_AND, start, end, [left, right])
 }
 
 pub fn logical_or(nodes: &mut [u32], n: usize, left: u32, right: u32, start: u32, end: u32) -> Node
     requires { n < absent }
     ensures { Tried n (number_of Form.LogicalOr) start end (left ∷ right ∷ []) nodes.old nodes.new result }
 {
-    insert(nodes, n, 3, start, end, left, right, 0, 0, 0, 0)
+    insert(nodes, n, kinds::LOGICAL_OR, start, end, [left, right])
 }
 
 // Of either edition: the kind is one, and the span is the caller's.
@@ -100,21 +95,21 @@ pub fn logical_not(nodes: &mut [u32], n: usize, expression: u32, start: u32, end
     requires { n < absent }
     ensures { Tried n (number_of (Form.LogicalNot Edition.first)) start end (expression ∷ []) nodes.old nodes.new result }
 {
-    insert(nodes, n, 4, start, end, expression, 0, 0, 0, 0, 0)
+    insert(nodes, n, kinds::LOGICAL_NOT, start, end, [expression])
 }
 
 pub fn unary(nodes: &mut [u32], n: usize, operator: u32, operand: u32, start: u32, end: u32) -> Node
     requires { n < absent }
     ensures { Tried n (number_of Form.Unary) start end (operator ∷ operand ∷ []) nodes.old nodes.new result }
 {
-    insert(nodes, n, 5, start, end, operator, operand, 0, 0, 0, 0)
+    insert(nodes, n, kinds::UNARY, start, end, [operator, operand])
 }
 
 pub fn assign(nodes: &mut [u32], n: usize, left: u32, right: u32, start: u32, end: u32) -> Node
     requires { n < absent }
     ensures { Tried n (number_of Form.Assign) start end (left ∷ right ∷ []) nodes.old nodes.new result }
 {
-    insert(nodes, n, 6, start, end, left, right, 0, 0, 0, 0)
+    insert(nodes, n, kinds::ASSIGN, start, end, [left, right])
 }
 
 pub fn variable(
@@ -130,7 +125,14 @@ pub fn variable(
     requires { n < absent }
     ensures { Tried n (number_of Form.Variable) start end (symbol ∷ from ∷ upto ∷ right ∷ []) nodes.old nodes.new result }
 {
-    insert(nodes, n, 7, start, end, symbol, from, upto, right, 0, 0)
+    insert(
+        nodes,
+        n,
+        kinds::VARIABLE,
+        start,
+        end,
+        [symbol, from, upto, right],
+    )
 }
 
 pub fn constant(
@@ -146,7 +148,14 @@ pub fn constant(
     requires { n < absent }
     ensures { Tried n (number_of Form.Constant) start end (symbol ∷ from ∷ upto ∷ right ∷ []) nodes.old nodes.new result }
 {
-    insert(nodes, n, 8, start, end, symbol, from, upto, right, 0, 0)
+    insert(
+        nodes,
+        n,
+        kinds::CONSTANT,
+        start,
+        end,
+        [symbol, from, upto, right],
+    )
 }
 
 pub fn ref_(
@@ -162,7 +171,14 @@ pub fn ref_(
     requires { n < absent }
     ensures { Tried n (number_of Form.Ref) start end (symbol ∷ from ∷ upto ∷ right ∷ []) nodes.old nodes.new result }
 {
-    insert(nodes, n, 9, start, end, symbol, from, upto, right, 0, 0)
+    insert(
+        nodes,
+        n,
+        kinds::REF,
+        start,
+        end,
+        [symbol, from, upto, right],
+    )
 }
 
 // Its span is its name's place.
@@ -170,14 +186,21 @@ pub fn identifier(nodes: &mut [u32], n: usize, symbol: u32, start: u32, end: u32
     requires { n < absent }
     ensures { Tried n (number_of Form.Identifier) start end (symbol ∷ start ∷ end ∷ []) nodes.old nodes.new result }
 {
-    insert(nodes, n, 10, start, end, symbol, start, end, 0, 0, 0)
+    insert(
+        nodes,
+        n,
+        kinds::IDENTIFIER,
+        start,
+        end,
+        [symbol, start, end],
+    )
 }
 
 pub fn string(nodes: &mut [u32], n: usize, symbol: u32, start: u32, end: u32) -> Node
     requires { n < absent }
     ensures { Tried n (number_of Form.String) start end (symbol ∷ []) nodes.old nodes.new result }
 {
-    insert(nodes, n, 11, start, end, symbol, 0, 0, 0, 0, 0)
+    insert(nodes, n, kinds::STRING, start, end, [symbol])
 }
 
 // Its value stays in the text.
@@ -185,7 +208,7 @@ pub fn number(nodes: &mut [u32], n: usize, start: u32, end: u32) -> Node
     requires { n < absent }
     ensures { Tried n (number_of Form.Number) start end ([]) nodes.old nodes.new result }
 {
-    insert(nodes, n, 12, start, end, 0, 0, 0, 0, 0, 0)
+    insert(nodes, n, kinds::NUMBER, start, end, [])
 }
 
 // Its value is 0 or 1.
@@ -193,14 +216,14 @@ pub fn boolean(nodes: &mut [u32], n: usize, value: u32, start: u32, end: u32) ->
     requires { n < absent }
     ensures { Tried n (number_of Form.Boolean) start end (value ∷ []) nodes.old nodes.new result }
 {
-    insert(nodes, n, 13, start, end, value, 0, 0, 0, 0, 0)
+    insert(nodes, n, kinds::BOOLEAN, start, end, [value])
 }
 
 pub fn nil(nodes: &mut [u32], n: usize, start: u32, end: u32) -> Node
     requires { n < absent }
     ensures { Tried n (number_of Form.Nil) start end ([]) nodes.old nodes.new result }
 {
-    insert(nodes, n, 14, start, end, 0, 0, 0, 0, 0, 0)
+    insert(nodes, n, kinds::NIL, start, end, [])
 }
 
 pub fn function_call(
@@ -215,7 +238,14 @@ pub fn function_call(
     requires { n < absent }
     ensures { Tried n (number_of Form.FunctionCall) start end (callee ∷ first ∷ count ∷ []) nodes.old nodes.new result }
 {
-    insert(nodes, n, 15, start, end, callee, first, count, 0, 0, 0)
+    insert(
+        nodes,
+        n,
+        kinds::FUNCTION_CALL,
+        start,
+        end,
+        [callee, first, count],
+    )
 }
 
 pub fn property_access(
@@ -231,14 +261,21 @@ pub fn property_access(
     requires { n < absent }
     ensures { Tried n (number_of Form.PropertyAccess) start end (object ∷ symbol ∷ from ∷ upto ∷ []) nodes.old nodes.new result }
 {
-    insert(nodes, n, 16, start, end, object, symbol, from, upto, 0, 0)
+    insert(
+        nodes,
+        n,
+        kinds::PROPERTY_ACCESS,
+        start,
+        end,
+        [object, symbol, from, upto],
+    )
 }
 
 pub fn map(nodes: &mut [u32], n: usize, first: u32, count: u32, start: u32, end: u32) -> Node
     requires { n < absent }
     ensures { Tried n (number_of Form.Map) start end (first ∷ count ∷ []) nodes.old nodes.new result }
 {
-    insert(nodes, n, 17, start, end, first, count, 0, 0, 0, 0)
+    insert(nodes, n, kinds::MAP, start, end, [first, count])
 }
 
 pub fn function(
@@ -257,7 +294,12 @@ pub fn function(
     ensures { Tried n (number_of Form.Function) start end (symbol ∷ from ∷ upto ∷ first ∷ count ∷ block ∷ []) nodes.old nodes.new result }
 {
     insert(
-        nodes, n, 18, start, end, symbol, from, upto, first, count, block,
+        nodes,
+        n,
+        kinds::FUNCTION,
+        start,
+        end,
+        [symbol, from, upto, first, count, block],
     )
 }
 
@@ -273,7 +315,7 @@ pub fn lambda(
     requires { n < absent }
     ensures { Tried n (number_of Form.Lambda) start end (first ∷ count ∷ block ∷ []) nodes.old nodes.new result }
 {
-    insert(nodes, n, 19, start, end, first, count, block, 0, 0, 0)
+    insert(nodes, n, kinds::LAMBDA, start, end, [first, count, block])
 }
 
 // A tail may be absent.
@@ -289,7 +331,7 @@ pub fn block(
     requires { n < absent }
     ensures { Tried n (number_of Form.Block) start end (first ∷ count ∷ tail ∷ []) nodes.old nodes.new result }
 {
-    insert(nodes, n, 20, start, end, first, count, tail, 0, 0, 0)
+    insert(nodes, n, kinds::BLOCK, start, end, [first, count, tail])
 }
 
 // What is done otherwise may be absent.
@@ -306,7 +348,12 @@ pub fn if_(
     ensures { Tried n (number_of Form.If) start end (condition ∷ then ∷ otherwise ∷ []) nodes.old nodes.new result }
 {
     insert(
-        nodes, n, 21, start, end, condition, then, otherwise, 0, 0, 0,
+        nodes,
+        n,
+        kinds::IF,
+        start,
+        end,
+        [condition, then, otherwise],
     )
 }
 
@@ -321,28 +368,28 @@ pub fn while_loop(
     requires { n < absent }
     ensures { Tried n (number_of Form.WhileLoop) start end (condition ∷ block ∷ []) nodes.old nodes.new result }
 {
-    insert(nodes, n, 22, start, end, condition, block, 0, 0, 0, 0)
+    insert(nodes, n, kinds::WHILE_LOOP, start, end, [condition, block])
 }
 
 pub fn return_(nodes: &mut [u32], n: usize, expression: u32, start: u32, end: u32) -> Node
     requires { n < absent }
     ensures { Tried n (number_of Form.Return) start end (expression ∷ []) nodes.old nodes.new result }
 {
-    insert(nodes, n, 23, start, end, expression, 0, 0, 0, 0, 0)
+    insert(nodes, n, kinds::RETURN, start, end, [expression])
 }
 
 pub fn break_(nodes: &mut [u32], n: usize, start: u32, end: u32) -> Node
     requires { n < absent }
     ensures { Tried n (number_of Form.Break) start end ([]) nodes.old nodes.new result }
 {
-    insert(nodes, n, 24, start, end, 0, 0, 0, 0, 0, 0)
+    insert(nodes, n, kinds::BREAK, start, end, [])
 }
 
 pub fn continue_(nodes: &mut [u32], n: usize, start: u32, end: u32) -> Node
     requires { n < absent }
     ensures { Tried n (number_of Form.Continue) start end ([]) nodes.old nodes.new result }
 {
-    insert(nodes, n, 25, start, end, 0, 0, 0, 0, 0, 0)
+    insert(nodes, n, kinds::CONTINUE, start, end, [])
 }
 
 // The path's first link row and how many steps it has, and the bindings' first link row and how many names they are.
@@ -359,5 +406,12 @@ pub fn import(
     requires { n < absent }
     ensures { Tried n (number_of Form.Import) start end (path ∷ steps ∷ bindings ∷ names ∷ []) nodes.old nodes.new result }
 {
-    insert(nodes, n, 26, start, end, path, steps, bindings, names, 0, 0)
+    insert(
+        nodes,
+        n,
+        kinds::IMPORT,
+        start,
+        end,
+        [path, steps, bindings, names],
+    )
 }

@@ -3,22 +3,12 @@ ghost use Rattle.std.specs.Prelude.{◌∷◌, [], ◌+◌, ◌-◌, ◌*◌, �
 ghost use Rattle.grammar.specs.Room.{link_width, scratch_width};
 ghost use Rattle.ast.specs.Written.{Written, Cleared};
 
-// Rows are written three numbers at a time.
-pub(crate) fn three(room: &mut [u32], i: usize, x: u32, y: u32, z: u32)
-    requires { i + 3 ≤ length room.old }
-    ensures { Written i (i + 3) (x ∷ y ∷ z ∷ []) room.old room.new }
+// Numbers of a row, put at a place of a room. It asks for room for them.
+pub(crate) fn put<const N: usize>(room: &mut [u32], i: usize, numbers: [u32; N])
+    requires { i + N ≤ length room.old }
+    ensures { Written i (i + N) numbers.entry room.old room.new }
 {
-    room[i] = x;
-    room[i + 1] = y;
-    room[i + 2] = z;
-}
-
-// And the last number of a node row by itself.
-pub(crate) fn one(room: &mut [u32], i: usize, x: u32)
-    requires { i + 1 ≤ length room.old }
-    ensures { Written i (i + 1) (x ∷ []) room.old room.new }
-{
-    room[i] = x;
+    room[i..i + N].copy_from_slice(&numbers);
 }
 
 // The first n numbers from a place of one room, put at a place of another. It asks that they are there, and for room for them.
@@ -27,11 +17,7 @@ pub fn copy(to: &mut [u32], at: usize, from: &[u32], first: usize, n: usize)
     requires { (at + n ≤ length to.old) × (first + n ≤ length from.now) }
     ensures { Written at (at + n) (take n (drop first from.now)) to.old to.new }
 {
-    let mut i = 0;
-    while i < n {
-        to[at + i] = from[first + i];
-        i += 1;
-    }
+    to[at..at + n].copy_from_slice(&from[first..first + n]);
 }
 
 // One row more on the scratch stack, above the `held` that wait there. It asks for room for it.
@@ -40,7 +26,7 @@ pub fn push(scratch: &mut [u32], held: usize, a: u32, b: u32, c: u32)
     requires { scratch_width * (held + 1) ≤ length scratch.old }
     ensures { Written (scratch_width * held) (scratch_width * (held + 1)) (a ∷ b ∷ c ∷ []) scratch.old scratch.new }
 {
-    three(scratch, 3 * held, a, b, c);
+    put(scratch, 3 * held, [a, b, c]);
 }
 
 // The `count` rows of the scratch stack from row `base` on become the link rows from `used` on, in their order. It asks that they are there, and
@@ -59,11 +45,7 @@ pub fn zero(room: &mut [u32], from: usize, upto: usize)
     requires { (from ≤ upto) × (upto ≤ length room.old) }
     ensures { Written from upto (replicate (upto - from) 0) room.old room.new }
 {
-    let mut i = from;
-    while i < upto {
-        room[i] = 0;
-        i += 1;
-    }
+    room[from..upto].fill(0);
 }
 
 // Zeros from a number on to the room's end.

@@ -1,10 +1,13 @@
--- `room::zero` meets its contract: all from `from` up to i are zeros. The measure is what is left.
-use borrow.Author.Rules.{rules}
+-- `room::zero` meets its contract: a part of the room is filled.
 use native.Mathlib.Omega.{arith}
-use Rattle.ast.proofs.Rooms.{zeroed}
+use mathlib.Core.Path.{◌∙◌, ap}
+use Prim.Native.Nat.{ℕ, ◌-◌}
+use lib.ListN.{replicate, length-replicate}
+use Rattle.grammar.proofs.Lexemes.{part_length}
+use Rattle.ast.proofs.Rooms.{over}
 use Rattle.ast.proofs.room.zero.Goals as goal
 
-pub loop-i-preserved : goal.loop-i-preserved
-loop-i-preserved c =
-    let l = c.loop-i in
-    (search rules, search rules, zeroed l.invariant.0 (omega (arith, c.requires.1, l.invariant.2.size)) l.invariant.2)
+pub returns : goal.returns
+returns c =
+    let a = c.args in
+    over a.from a.upto a.room.now (omega arith) (omega arith) (c.fill.ensures.after (λ y e. e) ∙ ap (λ (n : ℕ). replicate n 0) (part_length a.room.now a.from (a.upto - a.from) (omega arith))) (length-replicate {A = ℕ} (a.upto - a.from) 0)
