@@ -1,4 +1,4 @@
--- Parts that come on the stack, one by one and several at a time: what waited below stays, and nothing below the stack changes.
+-- Parts that come on the stack, one by one and several at a time: what waited below stays.
 use Prim.Native.Nat.{ℕ, zero, suc, ◌+◌, ◌-◌, ◌*◌, ◌≤◌, ◌<◌}
 use native.Mathlib.Omega.{arith}
 use mathlib.Core.Bool.{Bool, true, false, cond}
@@ -15,16 +15,16 @@ use Rattle.parts.specs.Spoken.{Word, Part, word, row}
 use Rattle.packing.specs.Roles.{at, link_word, link_parts, list_parts, name_at, string_at, number_parts, role_at, numbers_parts}
 use Rattle.packing.specs.Stack.{source, stacked, present, RoomFor, Pushed}
 
--- what waits is read off the numbers from the base up to the top
-pub stacked_same : (w : Rows) {base : ℕ} (top : ℕ) (xs ys : List ℕ) → ((i : ℕ) → base ≤ i → i < base + 2 * top → get_or xs i 0 ≡ get_or ys i 0) → stacked w xs base top ≡ stacked w ys base top
+-- what waits is read off the numbers up to the top
+pub stacked_same : (w : Rows) (top : ℕ) (xs ys : List ℕ) → ((i : ℕ) → i < 2 * top → get_or xs i 0 ≡ get_or ys i 0) → stacked w xs top ≡ stacked w ys top
 unfolding stacked
 stacked_same w zero xs ys h = refl
-stacked_same w {base} (suc n) xs ys h = rw (h (base + 2 * n) (omega arith) (omega arith), h (base + 2 * n + 1) (omega arith) (omega arith), stacked_same w n xs ys (λ i p q. h i p (omega arith))) refl
+stacked_same w (suc n) xs ys h = rw (h (2 * n) (omega arith), h (2 * n + 1) (omega arith), stacked_same w n xs ys (λ i q. h i (omega arith))) refl
 
-pub stacked_length : (w : Rows) (xs : List ℕ) (base top : ℕ) → length (stacked w xs base top) ≡ top
+pub stacked_length : (w : Rows) (xs : List ℕ) (top : ℕ) → length (stacked w xs top) ≡ top
 unfolding stacked
-stacked_length w xs base zero = refl
-stacked_length w xs base (suc n) = ap suc (stacked_length w xs base n)
+stacked_length w xs zero = refl
+stacked_length w xs (suc n) = ap suc (stacked_length w xs n)
 
 pub present_append : (ps qs : List Part) → present (ps ++ qs) ≡ present ps ++ present qs
 unfolding present
@@ -41,30 +41,28 @@ unfolding present
 none_present = refl
 
 -- nothing came
-pub pushed_none : (w : Rows) (base top : ℕ) {ps : List Part} (xs : List ℕ) → present ps ≡ [] → Pushed w base top ps xs xs top
-pushed_none w base top xs e = record { stack = rw e refl; many = rw e (omega arith); low = λ i h. refl }
+pub pushed_none : (w : Rows) (top : ℕ) {ps : List Part} (xs : List ℕ) → present ps ≡ [] → Pushed w top ps xs xs top
+pushed_none w top xs e = record { stack = rw e refl; many = rw e (omega arith) }
 
 -- one came
-pub pushed_one : (w : Rows) (base top tag x : ℕ) {p : Part} {xs ys : List ℕ} {r : ℕ} → RoomFor base top 1 (length xs) → present (p ∷ []) ≡ source w tag x ∷ [] → (ys ≡ set (set xs (base + 2 * top) tag) (base + 2 * top + 1) x) × (r ≡ top + 1) → Pushed w base top (p ∷ []) xs ys r
+pub pushed_one : (w : Rows) (top tag x : ℕ) {p : Part} {xs ys : List ℕ} {r : ℕ} → RoomFor top 1 (length xs) → present (p ∷ []) ≡ source w tag x ∷ [] → (ys ≡ set (set xs (2 * top) tag) (2 * top + 1) x) × (r ≡ top + 1) → Pushed w top (p ∷ []) xs ys r
 unfolding stacked
-pushed_one w base top tag x {p} {xs} {ys} {r} room e (z, q) =
-    let n = base + 2 * top in
+pushed_one w top tag x {p} {xs} {ys} {r} room e (z, q) =
+    let n = 2 * top in
     let first : get_or ys n 0 ≡ tag = rw z (get_or-set_other (set xs n tag) (n + 1) n x 0 (λ k. omega arith) ∙ get_or-set_same xs n tag 0 (omega arith)) in
     let second : get_or ys (n + 1) 0 ≡ x = rw z (get_or-set_same (set xs n tag) (n + 1) x 0 (omega (arith, length-set xs n tag))) in
     let other : (i : ℕ) → i < n → get_or ys i 0 ≡ get_or xs i 0 = λ i h. rw z (get_or-set_other (set xs n tag) (n + 1) i x 0 (λ k. omega arith) ∙ get_or-set_other xs n i tag 0 (λ k. omega arith)) in
     let top_is : r ≡ suc top = omega arith in
     record {
-      stack = rw (top_is, e, first, second) (ap (λ l. source w tag x ∷ l) (stacked_same w top ys xs (λ i p q. other i (omega arith))));
+      stack = rw (top_is, e, first, second) (ap (λ l. source w tag x ∷ l) (stacked_same w top ys xs other));
       many = rw e (omega arith);
-      low = λ i h. other i (omega arith);
     }
 
 -- some came, and then others
-pub pushed_both : {w : Rows} {base top : ℕ} (ps qs : List Part) {xs ys zs : List ℕ} {r s : ℕ} → Pushed w base top qs xs ys r → Pushed w base r ps ys zs s → Pushed w base top (ps ++ qs) xs zs s
-pushed_both {w} {base} {top} ps qs {xs} {ys} {zs} p q = record {
-  stack = q.stack ∙ ap (λ l. present ps ++ l) p.stack ∙ sym (append_assoc (present ps) (present qs) (stacked w xs base top)) ∙ ap (λ l. l ++ stacked w xs base top) (sym (present_append ps qs));
+pub pushed_both : {w : Rows} {top : ℕ} (ps qs : List Part) {xs ys zs : List ℕ} {r s : ℕ} → Pushed w top qs xs ys r → Pushed w r ps ys zs s → Pushed w top (ps ++ qs) xs zs s
+pushed_both {w} {top} ps qs {xs} {ys} {zs} p q = record {
+  stack = q.stack ∙ ap (λ l. present ps ++ l) p.stack ∙ sym (append_assoc (present ps) (present qs) (stacked w xs top)) ∙ ap (λ l. l ++ stacked w xs top) (sym (present_append ps qs));
   many = rw (present_append ps qs) (omega (arith, length-append (present ps) (present qs), p.many, q.many));
-  low = λ i h. q.low i h ∙ p.low i h;
 }
 
 -- how many numbers of one and of the others

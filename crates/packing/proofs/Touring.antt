@@ -7,8 +7,7 @@ use mathlib.Core.List.{List, [], ◌∷◌, ◌++◌, append-nil, append_assoc}
 use mathlib.Core.Logic.{inl, inr}
 use mathlib.Core.Path.{◌≡◌, refl, sym, ap, ◌∙◌}
 use lib.Dec.{eqb}
-use lib.ListN.{length, get_or, set}
-use lib.Seq.{get_or-set_other}
+use lib.ListN.{length, get_or}
 use borrow.Author.Tests.{eqb-false, ne_eqb}
 use Rattle.grammar.specs.Handle.{absent}
 use Rattle.grammar.specs.Naming.{height}
@@ -19,11 +18,11 @@ use Rattle.parts.specs.Spoken.{Word, Part, word, row, parts_of, words, spoken, h
 use Rattle.parts.proofs.Hearing.{words_append, spoken_enough}
 use Rattle.parts.proofs.Symbols.{Holds, row_holds, heard_append, first_places_append}
 use Rattle.packing.specs.Good.{Good}
-use Rattle.packing.specs.Known.{Noted, Hears}
+use Rattle.packing.specs.Known.{Hearing, Noted, Hears}
 use Rattle.packing.specs.Stack.{source, stacked, present, RoomFor, Pushed}
 use Rattle.packing.proofs.Knowing.{hear_one}
 use Rattle.packing.proofs.Loads.{load, load_append, load_present, load_least, weight, weight_some, row_load, row_words, places, steps, most_places}
-use Rattle.packing.proofs.Stacking.{stacked_same, stacked_length}
+use Rattle.packing.proofs.Stacking.{stacked_length}
 
 -- a part that can be taken: a word of the table's, a row that is there
 abbrev pub Takes : (s n : ℕ) → Part → Type 0
@@ -39,9 +38,8 @@ pub hears_both : {s : ℕ} (xs ys : List Word) {sy sc sy' sc' sy'' sc'' : List �
 hears_both xs ys p q = record { says = λ {b} {ss} {ks} {ps} h. rw (heard_append xs ys ks, first_places_append xs ys ks, sym (append_assoc ps (first_places xs ks) (first_places ys (heard xs ks)))) (q.says (p.says h)) }
 
 -- numbers past the symbols' do not matter
-pub hears_low : {s : ℕ} {symbols scratch scratch' : List ℕ} {count : ℕ} → ((x : ℕ) → x < s → get_or scratch' x 0 ≡ get_or scratch x 0) → Hears s [] symbols scratch count symbols scratch' count
-unfolding heard first_places
-hears_low e = record { says = λ {b} {ss} {ks} {ps} h. rw (append-nil ps) (record { numbers = λ x l. e x l ∙ h.numbers x l; many = h.many; rows = h.rows; room = h.room; once = h.once; below = h.below }) }
+pub hearing_low : {s b count : ℕ} {ss ks ps symbols scratch scratch' : List ℕ} → ((x : ℕ) → x < s → get_or scratch' x 0 ≡ get_or scratch x 0) → Hearing s b ss ks ps symbols scratch count → Hearing s b ss ks ps symbols scratch' count
+hearing_low e h = record { numbers = λ x l. e x l ∙ h.numbers x l; many = h.many; rows = h.rows; room = h.room; once = h.once; below = h.below }
 
 -- the words of parts without absent rows
 words_present : (f : ℕ → List Word) (ps : List Part) → words f (present ps) ≡ words f ps
@@ -74,17 +72,17 @@ held_takes {s} {i} {n} h (cons {x = row j} {xs = xs} b e) = pick (eqb j absent) 
 
 module _ (s : ℕ) (w : Rows) where
   -- from where the walk began, with all words of it as its goal
-  pub record Tour (goal : List Word) (symbols₀ scratch₀ : List ℕ) (count : ℕ) (symbols scratch : List ℕ) (known top : ℕ) : Type 0 where
+  pub record Tour (goal : List Word) (symbols₀ numbers₀ : List ℕ) (count : ℕ) (symbols numbers : List ℕ) (known : ℕ) (stack₀ stack : List ℕ) (top : ℕ) : Type 0 where
     pub done : List Word
-    pub hears : Hears s done symbols₀ scratch₀ count symbols scratch known
-    pub rest : done ++ words (spoken w (height w)) (stacked w scratch s top) ≡ goal
-    pub takes : Each (Takes s (height w)) (stacked w scratch s top)
-    pub same : length scratch ≡ length scratch₀
-    pub few : load (weight w (places w)) (stacked w scratch s top) ≤ height w + link_count w
+    pub hears : Hears s done symbols₀ numbers₀ count symbols numbers known
+    pub rest : done ++ words (spoken w (height w)) (stacked w stack top) ≡ goal
+    pub takes : Each (Takes s (height w)) (stacked w stack top)
+    pub same : length stack ≡ length stack₀
+    pub few : load (weight w (places w)) (stacked w stack top) ≤ height w + link_count w
 
 -- what is left to do: a step for each word and row that waits or is below one
-abbrev pub left_steps : (s : ℕ) (w : Rows) (scratch : List ℕ) (top : ℕ) → ℕ
-left_steps s w scratch top = load (weight w (steps w)) (stacked w scratch s top)
+abbrev pub left_steps : (w : Rows) (stack : List ℕ) (top : ℕ) → ℕ
+left_steps w stack top = load (weight w (steps w)) (stacked w stack top)
 
 module _ {s : ℕ} {w : Rows} (g : Good s w) where
   -- a row's words are those of what it holds
@@ -107,106 +105,99 @@ module _ {s : ℕ} {w : Rows} (g : Good s w) where
   held_steps i l = omega (arith, row_load w g.checked.earlier (steps w) i l)
 
   -- the walk begins at a row
-  pub began : {i : ℕ} {sy sc₀ sc : List ℕ} {n r : ℕ} → i < height w → Pushed w s 0 (row i ∷ []) sc₀ sc r → Tour s w (spoken w (height w) i) sy sc n sy sc n r
+  pub began : {i : ℕ} {sy sc st₀ st : List ℕ} {n r : ℕ} → i < height w → Pushed w 0 (row i ∷ []) st₀ st r → Tour s w (spoken w (height w) i) sy sc n sy sc n st st r
   unfolding words stacked load
-  began {i} {sy} {sc₀} {sc} {n} {r} l p =
+  began {i} {sy} {sc} {st₀} {st} {n} {r} l p =
       let z : present (row i ∷ []) ≡ row i ∷ [] = all_present {s = s} g.short (cons {x = row i} l nil) in
-      let st : stacked w sc s r ≡ row i ∷ [] = p.stack ∙ rw z refl in
+      let one : stacked w st r ≡ row i ∷ [] = p.stack ∙ rw z refl in
       let q : eqb i absent ≡ false = ne_eqb i absent (λ y. omega (arith, g.short)) in
       record {
         done = [];
         hears = hears_none sy sc n;
-        rest = rw (st, q, append-nil (spoken w (height w) i)) refl;
-        takes = rw st (cons {x = row i} l nil);
+        rest = rw (one, q, append-nil (spoken w (height w) i)) refl;
+        takes = rw one (cons {x = row i} l nil);
         same = refl;
-        few = rw (st, q) (omega (arith, most_places g i l));
+        few = rw (one, q) (omega (arith, most_places g i l));
       }
 
-  module _ {goal : List Word} {sy₀ sc₀ : List ℕ} {n₀ : ℕ} where
+  module _ {goal : List Word} {sy₀ sc₀ st₀ : List ℕ} {n₀ : ℕ} where
     -- what waits is within the lent room
-    pub inside : {sy sc : List ℕ} {n top : ℕ} → s + 2 * (height w + link_count w) ≤ length sc₀ → Tour s w goal sy₀ sc₀ n₀ sy sc n top → s + 2 * top ≤ length sc
-    inside {sc = sc} {top = top} h t = omega (arith, waiting t.takes, t.few, stacked_length w sc s top, t.same)
+    pub inside : {sy sc st : List ℕ} {n top : ℕ} → 2 * (height w + link_count w) ≤ length st₀ → Tour s w goal sy₀ sc₀ n₀ sy sc n st₀ st top → 2 * top ≤ length st
+    inside {st = st} {top = top} h t = omega (arith, waiting t.takes, t.few, stacked_length w st top, t.same)
 
     -- and ends where nothing waits
-    pub ended : {sy sc : List ℕ} {n top : ℕ} → top ≡ 0 → Tour s w goal sy₀ sc₀ n₀ sy sc n top → Hears s goal sy₀ sc₀ n₀ sy sc n
+    pub ended : {sy sc st : List ℕ} {n top : ℕ} → top ≡ 0 → Tour s w goal sy₀ sc₀ n₀ sy sc n st₀ st top → Hears s goal sy₀ sc₀ n₀ sy sc n
     unfolding stacked words
     ended e t = let z = rw e at t.rest in rw (sym z ∙ append-nil t.done) t.hears
 
-    module _ {sy sc : List ℕ} {n k : ℕ} (t : Tour s w goal sy₀ sc₀ n₀ sy sc n (suc k)) where
+    module _ {sy sc st : List ℕ} {n k : ℕ} (t : Tour s w goal sy₀ sc₀ n₀ sy sc n st₀ st (suc k)) where
       -- a row is taken: it is there, and there is room for what it holds
-      pub row_there : {i : ℕ} → stacked w sc s (suc k) ≡ row i ∷ stacked w sc s k → i < height w
+      pub row_there : {i : ℕ} → stacked w st (suc k) ≡ row i ∷ stacked w st k → i < height w
       row_there {i} e = head (rw e at t.takes)
         where
           head : {ps : List Part} → Each (Takes s (height w)) (row i ∷ ps) → i < height w
           head (cons l m) = l
 
-      word_there : {x : Word} → stacked w sc s (suc k) ≡ word x ∷ stacked w sc s k → x.symbol < s
+      word_there : {x : Word} → stacked w st (suc k) ≡ word x ∷ stacked w st k → x.symbol < s
       word_there {x} e = head (rw e at t.takes)
         where
           head : {ps : List Part} → Each (Takes s (height w)) (word x ∷ ps) → x.symbol < s
           head (cons l m) = l
 
-      others : {p : Part} → stacked w sc s (suc k) ≡ p ∷ stacked w sc s k → Each (Takes s (height w)) (stacked w sc s k)
+      others : {p : Part} → stacked w st (suc k) ≡ p ∷ stacked w st k → Each (Takes s (height w)) (stacked w st k)
       others {p} e = tail (rw e at t.takes)
         where
           tail : {ps : List Part} → Each (Takes s (height w)) (p ∷ ps) → Each (Takes s (height w)) ps
           tail (cons l m) = m
 
-      module _ {i : ℕ} (e : stacked w sc s (suc k) ≡ row i ∷ stacked w sc s k) where
+      module _ {i : ℕ} (e : stacked w st (suc k) ≡ row i ∷ stacked w st k) where
         here : eqb i absent ≡ false
         here = ne_eqb i absent (λ y. omega (arith, g.short, row_there e))
 
-        row_few : weight w (places w) i + load (weight w (places w)) (stacked w sc s k) ≤ height w + link_count w
+        row_few : weight w (places w) i + load (weight w (places w)) (stacked w st k) ≤ height w + link_count w
         unfolding load
         row_few = let f = rw (e, here) at t.few in f
 
-        pub row_room : s + 2 * (height w + link_count w) ≤ length sc₀ → RoomFor s k (length (present (parts_of w i))) (length sc)
-        row_room h = omega (arith, row_few, held_places i (row_there e), load_least (weight w (places w)) some_place (parts_of w i), waiting (others e), stacked_length w sc s k, t.same)
+        pub row_room : 2 * (height w + link_count w) ≤ length st₀ → RoomFor k (length (present (parts_of w i))) (length st)
+        row_room h = omega (arith, row_few, held_places i (row_there e), load_least (weight w (places w)) some_place (parts_of w i), waiting (others e), stacked_length w st k, t.same)
 
-        module _ {sc' : List ℕ} {r : ℕ} (p : Pushed w s k (parts_of w i) sc sc' r) where
-          pub row_taken : length sc' ≡ length sc → Tour s w goal sy₀ sc₀ n₀ sy sc' n r
+        module _ {st' : List ℕ} {r : ℕ} (p : Pushed w k (parts_of w i) st st' r) where
+          pub row_taken : length st' ≡ length st → Tour s w goal sy₀ sc₀ n₀ sy sc n st₀ st' r
           unfolding words load
           row_taken same = record {
-            done = t.done ++ [];
-            hears = hears_both t.done [] t.hears (hears_low p.low);
-            rest = rw (append-nil t.done) (ap (λ ps. t.done ++ words (spoken w (height w)) ps) p.stack ∙ ap (λ xs. t.done ++ xs) (words_append (spoken w (height w)) (present (parts_of w i)) (stacked w sc s k) ∙ ap (λ xs. xs ++ words (spoken w (height w)) (stacked w sc s k)) (words_present (spoken w (height w)) (parts_of w i) ∙ sym (row_says i (row_there e)))) ∙ (rw (e, here) at t.rest));
+            done = t.done;
+            hears = t.hears;
+            rest = ap (λ ps. t.done ++ words (spoken w (height w)) ps) p.stack ∙ ap (λ xs. t.done ++ xs) (words_append (spoken w (height w)) (present (parts_of w i)) (stacked w st k) ∙ ap (λ xs. xs ++ words (spoken w (height w)) (stacked w st k)) (words_present (spoken w (height w)) (parts_of w i) ∙ sym (row_says i (row_there e)))) ∙ (rw (e, here) at t.rest);
             takes = rw p.stack (each_both (held_takes (omega (arith, row_there e)) (row_holds g.checked i (row_there e))) (others e));
             same = same ∙ t.same;
-            few = rw p.stack (omega (arith, row_few, held_places i (row_there e), load_append (weight w (places w)) (present (parts_of w i)) (stacked w sc s k), load_present (weight w (places w)) (parts_of w i)));
+            few = rw p.stack (omega (arith, row_few, held_places i (row_there e), load_append (weight w (places w)) (present (parts_of w i)) (stacked w st k), load_present (weight w (places w)) (parts_of w i)));
           }
 
-          pub row_steps : left_steps s w sc' r < left_steps s w sc (suc k)
+          pub row_steps : left_steps w st' r < left_steps w st (suc k)
           unfolding load
-          row_steps = rw (p.stack, e, here) (omega (arith, held_steps i (row_there e), load_append (weight w (steps w)) (present (parts_of w i)) (stacked w sc s k), load_present (weight w (steps w)) (parts_of w i)))
+          row_steps = rw (p.stack, e, here) (omega (arith, held_steps i (row_there e), load_append (weight w (steps w)) (present (parts_of w i)) (stacked w st k), load_present (weight w (steps w)) (parts_of w i)))
 
-      module _ {x : Word} (e : stacked w sc s (suc k) ≡ word x ∷ stacked w sc s k) where
+      module _ {x : Word} (e : stacked w st (suc k) ≡ word x ∷ stacked w st k) where
         pub word_low : x.symbol < s
         word_low = word_there e
 
         module _ {sy' sc' : List ℕ} {r : ℕ} (l : s ≤ length sc) (p : Noted n x sy sc sy' sc' r) where
-          stack_same : stacked w sc' s k ≡ stacked w sc s k
-          stack_same = stacked_same w k sc' sc (λ j a b. rw p.numbers (pick (eqb (get_or sc x.symbol 0) 0) j a))
-            where
-              pick : (t : Bool) (j : ℕ) → s ≤ j → get_or (cond t (set sc x.symbol (n + 1)) sc) j 0 ≡ get_or sc j 0
-              pick true j a = get_or-set_other sc x.symbol j (n + 1) 0 (λ q. omega (arith, word_there e))
-              pick false j a = refl
-
-          pub word_taken : length sc' ≡ length sc → Tour s w goal sy₀ sc₀ n₀ sy' sc' r k
+          pub word_taken : Tour s w goal sy₀ sc₀ n₀ sy' sc' r st₀ st k
           unfolding words load
-          word_taken same = record {
+          word_taken = record {
             done = t.done ++ (x ∷ []);
             hears = hears_both t.done (x ∷ []) t.hears (record { says = λ h. hear_one h x (word_there e) l p });
-            rest = rw stack_same (append_assoc t.done (x ∷ []) (words (spoken w (height w)) (stacked w sc s k)) ∙ (rw e at t.rest));
-            takes = rw stack_same (others e);
-            same = same ∙ t.same;
-            few = rw stack_same (let f = rw e at t.few in omega arith);
+            rest = append_assoc t.done (x ∷ []) (words (spoken w (height w)) (stacked w st k)) ∙ (rw e at t.rest);
+            takes = others e;
+            same = t.same;
+            few = let f = rw e at t.few in omega arith;
           }
 
-          pub word_steps : left_steps s w sc' k < left_steps s w sc (suc k)
-          unfolding load
-          word_steps = rw (stack_same, e) (omega arith)
+        pub word_steps : left_steps w st k < left_steps w st (suc k)
+        unfolding load
+        word_steps = rw e (omega arith)
 
 -- what is taken from the stack, by its two numbers
-pub popped : (w : Rows) (sc : List ℕ) (s k : ℕ) {p : Part} → p ≡ source w (get_or sc (s + 2 * k) 0) (get_or sc (s + 2 * k + 1) 0) → stacked w sc s (suc k) ≡ p ∷ stacked w sc s k
+pub popped : (w : Rows) (st : List ℕ) (k : ℕ) {p : Part} → p ≡ source w (get_or st (2 * k) 0) (get_or st (2 * k + 1) 0) → stacked w st (suc k) ≡ p ∷ stacked w st k
 unfolding stacked
-popped w sc s k e = rw e refl
+popped w st k e = rw e refl

@@ -1,4 +1,4 @@
--- What waits to be heard: a stack in the lent room, from `base` on, two numbers each: what it is, and of which row or link. The last that came is the first to go.
+-- What waits to be heard: a stack of two numbers each: what it is, and of which row or link. The last that came is the first to go.
 use Rattle.std.specs.Prelude.{ℕ, zero, suc, ◌+◌, ◌-◌, ◌*◌, ◌≤◌, ◌<◌, cond, List, [], ◌∷◌, ◌++◌, ◌≡◌, eqb, ltb, length, get_or}
 use Rattle.grammar.specs.Handle.{absent}
 use Rattle.grammar.specs.Room.{node_width, link_width}
@@ -11,9 +11,9 @@ unfoldable pub source : Rows → (tag x : ℕ) → Part
 source w t x = cond (eqb t 0) (row x) (cond (eqb t 1) (word (link_word w.links x)) (cond (ltb t 16) (word (name_at w.nodes x t)) (word (string_at w.nodes x (t - 16)))))
 
 -- the parts that wait, the next one first
-unfoldable pub stacked : Rows → (scratch : List ℕ) (base top : ℕ) → List Part
-stacked w sc base zero = []
-stacked w sc base (suc n) = source w (get_or sc (base + 2 * n) 0) (get_or sc (base + 2 * n + 1) 0) ∷ stacked w sc base n
+unfoldable pub stacked : Rows → (stack : List ℕ) (top : ℕ) → List Part
+stacked w st zero = []
+stacked w st (suc n) = source w (get_or st (2 * n) 0) (get_or st (2 * n + 1) 0) ∷ stacked w st n
 
 -- parts without absent rows, which never wait
 unfoldable pub present : List Part → List Part
@@ -22,14 +22,13 @@ present (word x ∷ ps) = word x ∷ present ps
 present (row i ∷ ps) = cond (eqb i absent) (present ps) (row i ∷ present ps)
 
 -- there is room for so many more
-abbrev pub RoomFor : (base top more numbers : ℕ) → Type 0
-RoomFor base top k n = base + 2 * (k + top) ≤ n
+abbrev pub RoomFor : (top more numbers : ℕ) → Type 0
+RoomFor top k n = 2 * (k + top) ≤ n
 
--- these came, the first of them last; nothing below the stack changed
-pub record Pushed (w : Rows) (base top : ℕ) (ps : List Part) (before after : List ℕ) (r : ℕ) : Type 0 where
-  pub stack : stacked w after base r ≡ present ps ++ stacked w before base top
+-- these came, the first of them last
+pub record Pushed (w : Rows) (top : ℕ) (ps : List Part) (before after : List ℕ) (r : ℕ) : Type 0 where
+  pub stack : stacked w after r ≡ present ps ++ stacked w before top
   pub many : r ≡ length (present ps) + top
-  pub low : (i : ℕ) → i < base → get_or after i 0 ≡ get_or before i 0
 
 -- number j of a row, and the links of the list that it begins, are there
 pub record HoldsNumber (nodes links : List ℕ) (row j role : ℕ) : Type 0 where

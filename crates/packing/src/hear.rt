@@ -96,14 +96,14 @@ fn hear_row(
     requires { Speaks s (seen rows) (length scratch.old) × In (seen rows) row × Heard s symbols.old scratch.old count }
     ensures { Hears s (spoken (seen rows.entry) (height (seen rows.entry)) row) symbols.old scratch.old count symbols.new scratch.new result }
 {
+    let (numbers, stack) = scratch.split_at_mut(s);
     let mut known = count;
-    let mut top = push(scratch, s, 0, ROW, row);
+    let mut top = push(stack, 0, ROW, row);
     while top > 0 {
         top -= 1;
-        let at = s + 2 * top;
-        match meant(rows, scratch[at], scratch[at + 1]) {
-            Part::Row(row) => top = push_parts(scratch, s, top, rows, row),
-            Part::Said(word) => known = hear(symbols, scratch, known, word),
+        match meant(rows, stack[2 * top], stack[2 * top + 1]) {
+            Part::Row(row) => top = push_parts(stack, top, rows, row),
+            Part::Said(word) => known = hear(symbols, numbers, known, word),
         }
     }
     known

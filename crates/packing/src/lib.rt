@@ -29,6 +29,7 @@ const UNKNOWN: u32 = 15;
 const MISCOUNTED: u32 = 20;
 
 // The answer: code 0 and the rows that are left; or a refusal's code, and for 22 the first failed rule and the first row that breaks it.
+// Six numbers, as the C interface has them: `kaori_drop` of crate station hands them on, and `Packs` names them.
 #[derive(Clone, Copy)]
 pub struct Packed {
     pub code: u32,

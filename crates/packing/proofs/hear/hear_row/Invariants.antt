@@ -8,7 +8,7 @@ use Rattle.packing.proofs.Touring.{Tour, left_steps}
 use Rattle.packing.proofs.hear.hear_row.Given as goal
 
 abbrev pub invariant-loop-top : goal.invariant-loop-top
-invariant-loop-top l = Tour l.s (seen l.rows) (spoken (seen l.rows) (height (seen l.rows)) l.row) l.initial.symbols l.initial.scratch l.count l.symbols l.scratch l.known l.top × (length l.symbols ≡ length l.initial.symbols)
+invariant-loop-top l = Tour l.s (seen l.rows) (spoken (seen l.rows) (height (seen l.rows)) l.row) l.initial.symbols l.initial.numbers l.count l.symbols l.numbers l.known l.initial.stack l.stack l.top × (length l.symbols ≡ length l.initial.symbols)
 
 abbrev pub decreases-loop-top : goal.decreases-loop-top
-decreases-loop-top l = left_steps l.s (seen l.rows) l.scratch l.top
+decreases-loop-top l = left_steps (seen l.rows) l.stack l.top

@@ -14,7 +14,7 @@ push-requires c = omega (arith, c.requires.1, name_room c.args.rows.links.now c.
 pub returns-in-Names : goal.returns-in-Names
 returns-in-Names c =
     let e = ap digit c.in-Names.is in
-    rw (name_link c.args.rows.links.now c.args.k e) (pushed_one _ _ _ _ _ (omega (arith, c.requires.1, name_room c.args.rows.links.now c.args.k e)) (link_waits _ _) c.push.ensures)
+    rw (name_link c.args.rows.links.now c.args.k e) (pushed_one _ _ _ _ (omega (arith, c.requires.1, name_room c.args.rows.links.now c.args.k e)) (link_waits _ _) c.push.ensures)
 
 pub push_row-above-requires : goal.push_row-above-requires
 push_row-above-requires c = omega (arith, c.requires.1, entry_room c.args.rows.links.now c.args.k (ap digit c.in-Entries.is))

@@ -15,7 +15,7 @@ one_more : (sort : ℕ) (ls : List ℕ) (from count left k : ℕ) → k ≡ left
 one_more sort ls from count left k e h = omega (arith, list_rest sort ls from count left (count - left) (omega arith), ap (λ ps. length (present ps)) (list_more sort ls from count left k e h), present_both (link_parts sort ls (from + left)) (list_parts sort ls (from + k) (count - k)))
 
 pub loop-left-init : goal.loop-left-init
-loop-left-init c = let a = c.args in (rw (none_left (digit a.role) a.rows.links.now a.from a.count a.count refl) (pushed_none _ _ _ _ none_present), omega arith, refl)
+loop-left-init c = let a = c.args in (rw (none_left (digit a.role) a.rows.links.now a.from a.count a.count refl) (pushed_none _ _ _ none_present), omega arith, refl)
 
 pub push_link-above-requires : goal.push_link-above-requires
 push_link-above-requires c =

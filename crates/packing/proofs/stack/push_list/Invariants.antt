@@ -9,4 +9,4 @@ use Rattle.packing.specs.Stack.{Pushed}
 use Rattle.packing.proofs.stack.push_list.Given as goal
 
 abbrev pub invariant-loop-left : goal.invariant-loop-left
-invariant-loop-left l = Pushed (seen l.rows) l.base l.top (list_parts (digit l.role) l.rows.links.now (l.from + l.left) (l.count - l.left)) l.initial.stack l.stack l.above × (l.left ≤ l.count) × (length l.stack ≡ length l.initial.stack)
+invariant-loop-left l = Pushed (seen l.rows) l.top (list_parts (digit l.role) l.rows.links.now (l.from + l.left) (l.count - l.left)) l.initial.stack l.stack l.above × (l.left ≤ l.count) × (length l.stack ≡ length l.initial.stack)

@@ -25,7 +25,7 @@ push_list-requires c =
     (rw n at (p.list h), rw n at (p.few h), omega (arith, c.requires.1, list_number_room a.rows.nodes.now a.rows.links.now a.row a.j h))
 
 pub returns-in-Plain : goal.returns-in-Plain
-returns-in-Plain c = let a = c.args in pushed_none _ _ _ _ (rw (plain_number a.rows.nodes.now a.rows.links.now a.row a.j (ap digit c.in-Plain.is)) none_present)
+returns-in-Plain c = let a = c.args in pushed_none _ _ _ (rw (plain_number a.rows.nodes.now a.rows.links.now a.row a.j (ap digit c.in-Plain.is)) none_present)
 
 pub returns-in-Child : goal.returns-in-Child
 returns-in-Child c = let a = c.args in rw (child_number a.rows.nodes.now a.rows.links.now a.row a.j (ap digit c.in-Child.is)) (c.push_row.ensures (seen c.args.rows))
@@ -34,13 +34,13 @@ pub returns-in-Letters : goal.returns-in-Letters
 returns-in-Letters c =
     let a = c.args in
     let e = ap digit c.in-Letters.is in
-    rw (string_number a.rows.nodes.now a.rows.links.now a.row a.j e) (pushed_one _ _ _ _ _ (omega (arith, c.requires.1, string_room a.rows.nodes.now a.rows.links.now a.row a.j e)) (string_waits (seen a.rows) _ _) c.push.ensures)
+    rw (string_number a.rows.nodes.now a.rows.links.now a.row a.j e) (pushed_one _ _ _ _ (omega (arith, c.requires.1, string_room a.rows.nodes.now a.rows.links.now a.row a.j e)) (string_waits (seen a.rows) _ _) c.push.ensures)
 
 pub returns-in-Name : goal.returns-in-Name
 returns-in-Name c =
     let a = c.args in
     let e = ap digit c.in-Name.is in
-    rw (name_number a.rows.nodes.now a.rows.links.now a.row a.j e) (pushed_one _ _ _ _ _ (omega (arith, c.requires.1, name_number_room a.rows.nodes.now a.rows.links.now a.row a.j e)) (name_waits (seen a.rows) _ _ (c.requires.0.name e) (omega (arith, c.requires.0.inside))) c.push-in-Name.ensures)
+    rw (name_number a.rows.nodes.now a.rows.links.now a.row a.j e) (pushed_one _ _ _ _ (omega (arith, c.requires.1, name_number_room a.rows.nodes.now a.rows.links.now a.row a.j e)) (name_waits (seen a.rows) _ _ (c.requires.0.name e) (omega (arith, c.requires.0.inside))) c.push-in-Name.ensures)
 
 pub returns-in-Nodes : goal.returns-in-Nodes
 returns-in-Nodes c = let a = c.args in rw (list_number a.rows.nodes.now a.rows.links.now a.row a.j (lists c.in-Nodes.is)) c.push_list.ensures

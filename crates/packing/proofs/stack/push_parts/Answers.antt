@@ -24,7 +24,7 @@ kind_is : (ns : List ℕ) (i j : ℕ) → role (get_or ns (node_width * i) 0) j 
 kind_is ns i j = rw (add_zero (node_width * i)) refl
 
 pub loop-j-init : goal.loop-j-init
-loop-j-init c = let a = c.args in (pushed_none _ _ _ _ (rw (none_after a.rows.nodes.now a.rows.links.now a.row 9) none_present), omega arith, refl)
+loop-j-init c = let a = c.args in (pushed_none _ _ _ (rw (none_after a.rows.nodes.now a.rows.links.now a.row 9) none_present), omega arith, refl)
 
 pub at-requires : goal.at-requires
 at-requires c =

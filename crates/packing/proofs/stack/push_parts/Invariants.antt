@@ -8,4 +8,4 @@ use Rattle.packing.specs.Stack.{Pushed}
 use Rattle.packing.proofs.stack.push_parts.Given as goal
 
 abbrev pub invariant-loop-j : goal.invariant-loop-j
-invariant-loop-j l = Pushed (seen l.rows) l.base l.top (numbers_parts l.rows.nodes.now l.rows.links.now l.row l.j (9 - l.j)) l.initial.stack l.stack l.above × (l.j ≤ 9) × (length l.stack ≡ length l.initial.stack)
+invariant-loop-j l = Pushed (seen l.rows) l.top (numbers_parts l.rows.nodes.now l.rows.links.now l.row l.j (9 - l.j)) l.initial.stack l.stack l.above × (l.j ≤ 9) × (length l.stack ≡ length l.initial.stack)
