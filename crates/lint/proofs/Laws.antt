@@ -1,25 +1,27 @@
 -- What a search has passed, how far a row reaches, which token is its sign, and how each rule is decided. Every notion has at most one answer: one end, one first token,
 -- one sign.
-use Prim.Native.Nat.{ℕ, zero, suc, ◌+◌, ◌-◌, ◌≤◌, ◌<◌}
+use Prim.Native.Nat.{ℕ, zero, suc, ◌+◌, ◌-◌, min, ◌≤◌, ◌<◌}
 use native.Mathlib.Decide.{ℕ_discrete, dec_lt}
 use native.Mathlib.Omega.{arith}
-use mathlib.Core.Bool.{Bool, true, false, not, cond, false≢true}
+use mathlib.Core.Bool.{Bool, true, false, not, cond, ◌&&◌, false≢true}
 use mathlib.Core.List.{List}
 use mathlib.Core.Logic.{◌⊎◌, inl, inr, ⊎_elim}
 use mathlib.Core.Path.{◌≡◌, refl, sym, ap, ◌∙◌, subst}
 use lib.Dec.{eqb, ltb}
-use lib.ListN.{length, get_or, get_or-eq_default}
-use borrow.Author.Tests.{ne_eqb}
+use lib.ListN.{length, get_or-eq_default}
+use borrow.Author.Tests.{ne_eqb, lt-ltb}
+use Rattle.std.specs.Prelude.{Some, None}
 use Rattle.grammar.specs.Edition.{Edition}
 use Rattle.grammar.specs.Handle.{absent}
-use Rattle.grammar.specs.Kind.{RightParen, Hash, LeftBrace, RightBrace}
+use Rattle.grammar.specs.Kind.{LeftParen, RightParen, Hash, LeftBrace, RightBrace}
 use Rattle.grammar.specs.Label.{Node, number_of}
 use Rattle.grammar.specs.Pattern.{among}
 use Rattle.grammar.specs.Token.{count, kind, start, end}
 use Rattle.spelling.specs.Decides.{Decides}
-use Rattle.spelling.proofs.Deciding.{holds, fails, carried}
+use Rattle.spelling.proofs.Deciding.{holds, fails, held, failed, said, carried}
 use Rattle.diagnostics.specs.Line.{ends}
-use Rattle.lint.specs.Reach.{number, kind_of, start_of, end_of, parent_of, last_numbers, last, Takes, Ends, here, Past, FirstPast, Sign, opens, closes, counted, after, brackets, encloses, enclosing, in_block}
+use Rattle.lint.specs.Reach.{number, kind_of, start_of, end_of, parent_of, LastNumber, last, Takes, Ends, here, Past, FirstPast, Sign, opens, closes, BracketCase, BracketOf, counted, after, brackets, encloses, enclosing, in_block}
+use Rattle.lint.specs.declared.reach.Bracket.{Bracket}
 use Rattle.lint.specs.Rules.{LineEnds, OnNewLine, joining, closed, going_on, Reached, ReachingNot, CutAt, CutOff, GoingOn, LongString, Any, Next}
 
 -- a search from a number on: it has come to i, and none of those before is what is looked for
@@ -37,7 +39,6 @@ pub is_true : {b r : Bool} → r ≡ b → Decides (b ≡ true) r
 is_true {b = true} e = rw e (holds refl)
 is_true {b = false} e = rw e (fails false≢true)
 
--- an answer that decides, once its truth is known
 -- ends of lines
 past_text : (text : List ℕ) (i : ℕ) → length text ≤ i → ends text i ≡ false
 unfolding ends
@@ -46,14 +47,14 @@ past_text text i l = rw (get_or-eq_default text 0 l) refl
 pub line_found : {text : List ℕ} {from upto i : ℕ} → Passed (λ j. ends text j ≡ true) from i → i < upto → ends text i ≡ true → Decides (LineEnds text from upto) true
 line_found {i = i} s l e = holds (record { at = i; after = s.reached; before = l; there = e })
 
-pub no_line : {text : List ℕ} {from upto i : ℕ} → Passed (λ j. ends text j ≡ true) from i → upto ≤ i → Decides (LineEnds text from upto) false
-no_line s l = fails λ r. s.none r.at r.after (omega (arith, r.before)) r.there
-
-pub no_text : {text : List ℕ} {from upto i : ℕ} → Passed (λ j. ends text j ≡ true) from i → length text ≤ i → Decides (LineEnds text from upto) false
-no_text {text} {from} {upto} {i} s l = fails go
+pub no_line : {text : List ℕ} {from upto i : ℕ} → Passed (λ j. ends text j ≡ true) from i → min (length text) upto ≤ i → Decides (LineEnds text from upto) false
+no_line {text} {from} {upto} {i} s l = fails go
   where
     go : LineEnds text from upto → ⊥
-    go r = elim (dec_lt r.at i) [ yes h ↦ s.none r.at r.after h r.there | no h ↦ false≢true (sym (past_text text r.at (omega arith)) ∙ r.there) ]
+    go r = elim (dec_lt r.at i) [
+      | yes h ↦ s.none r.at r.after h r.there
+      | no h ↦ let k : length text ≤ r.at = omega (arith, r.before) in not_both (past_text text r.at k) r.there
+    ]
 
 -- a token on a new line
 pub first_token : {text ts : List ℕ} {k : ℕ} → k ≡ 0 → Decides (OnNewLine text ts k) false
@@ -69,13 +70,13 @@ pub between : {text ts : List ℕ} {k s e : ℕ} {r : Bool} → 0 < k → k < co
 between l h i e s d = carried (λ b. record { second = l; inside = h; level = i; breaks = rw (sym e) (rw (sym s) b) }) (λ n. rw e (rw s n.breaks)) d
 
 -- what a row takes last
-pub takes_number : (nodes : List ℕ) (row : ℕ) {k i r : ℕ} → k ≡ kind_of nodes row → i ≡ get_or last_numbers k 0 → (i ≡ 0 → ⊥) → r ≡ number nodes row i → r ≡ last nodes row
+pub takes_number : (nodes : List ℕ) (row : ℕ) {k i r : ℕ} → k ≡ kind_of nodes row → LastNumber k (Some i) → r ≡ number nodes row i → r ≡ last nodes row
 unfolding last
-takes_number nodes row {k} {i} e n z x = rw (sym e) (rw (sym n) (rw (ne_eqb i 0 z) x))
+takes_number nodes row {k} {i} e n x = let (m, l) = n.names in rw (sym e) (rw m (rw (ne_eqb i 0 (λ z. omega (arith, z, l))) x))
 
-pub takes_nothing : (nodes : List ℕ) (row : ℕ) {k i : ℕ} → k ≡ kind_of nodes row → i ≡ get_or last_numbers k 0 → i ≡ 0 → absent ≡ last nodes row
+pub takes_nothing : (nodes : List ℕ) (row : ℕ) {k : ℕ} → k ≡ kind_of nodes row → LastNumber k None → absent ≡ last nodes row
 unfolding last
-takes_nothing nodes row e n z = rw (sym e) (rw (sym n) (rw z refl))
+takes_nothing nodes row e n = rw (sym e) (rw n.names refl)
 
 -- where a row ends
 pub one_end : {nodes : List ℕ} {row y z : ℕ} → Ends nodes row y → Ends nodes row z → y ≡ z
@@ -111,6 +112,27 @@ first_found s l p = record { within = omega arith; past = λ _. p; least = λ j 
 pub one_sign : {ts nodes : List ℕ} {row k l : ℕ} → Sign ts nodes row k → Sign ts nodes row l → k ≡ l
 one_sign {ts} {nodes} s t = one_first s.first (subst (λ y. FirstPast ts (end_of nodes y) _) (one_end t.ends s.ends) t.first)
 
+-- which kinds are brackets, and what they do to the count: past an offset, and going back
+pub no_bracket : {k : ℕ} → (k ≡ LeftParen → ⊥) → (k ≡ LeftBrace → ⊥) → (k ≡ RightParen → ⊥) → (k ≡ RightBrace → ⊥) → BracketOf k None
+unfolding BracketCase
+no_bracket {k} a b c d = record { says = simp (ne_eqb k LeftParen a, ne_eqb k LeftBrace b, ne_eqb k RightParen c, ne_eqb k RightBrace d) (refl, refl) }
+
+module _ (ts : List ℕ) (offset i n : ℕ) {s x : ℕ} (starts : s ≡ start ts i) (past : offset < s) (is : x ≡ kind ts i) where
+  counts : (o c : Bool) → opens x ≡ o → closes x ≡ c → after ts offset i n ≡ counted o c n
+  counts o c p q = rw (sym starts, lt-ltb offset s past, sym is) (ap (λ v. counted v (closes x) n) p ∙ ap (λ v. counted o v n) q)
+
+  pub after_opening : BracketOf x (Some Bracket.Opens) → n + 1 ≡ after ts offset i n
+  unfolding BracketCase
+  after_opening b = let (o, c) = b.says in let e : n + 1 ≡ suc n = omega arith in e ∙ sym (counts true false o c)
+
+  pub after_closing : {r : ℕ} → BracketOf x (Some Bracket.Closes) → r ≡ n - 1 → r ≡ after ts offset i n
+  unfolding BracketCase
+  after_closing b e = let (o, c) = b.says in e ∙ sym (counts false true o c)
+
+  pub after_other : BracketOf x None → n ≡ after ts offset i n
+  unfolding BracketCase
+  after_other b = let (o, c) = b.says in sym (counts false false o c)
+
 -- brackets: no more are open than there are tokens
 pub grown : (more fewer : Bool) (n : ℕ) → counted more fewer n ≤ suc n
 grown true c n = omega arith
@@ -134,20 +156,41 @@ pub one_bracket_more : (ts : List ℕ) (offset i : ℕ) {n r : ℕ} → n ≡ br
 unfolding brackets
 one_bracket_more ts offset i e f = let n : suc i ≡ i + 1 = omega arith in rw e at f ∙ ap (λ (k : ℕ). brackets ts offset k) n
 
--- the innermost open bracket
-pub one_back : (ts : List ℕ) (n : ℕ) {i : ℕ} (j : ℕ) → i ≡ suc j → encloses (kind ts j) n ≡ false → enclosing ts i n ≡ enclosing ts j (counted (closes (kind ts j)) (opens (kind ts j)) n)
+-- the innermost open bracket, going back over one token
+one_back : (ts : List ℕ) (n i : ℕ) → 0 < i → enclosing ts i n ≡ cond (encloses (kind ts (i - 1)) n) (i - 1) (enclosing ts (i - 1) (counted (closes (kind ts (i - 1))) (opens (kind ts (i - 1))) n))
 unfolding enclosing
-one_back ts n j e f = rw e (rw f refl)
+one_back ts n zero h = absurd (omega arith)
+one_back ts n (suc j) h = let e : suc j - 1 ≡ j = omega arith in rw e refl
 
-pub encloses_here : (ts : List ℕ) (n : ℕ) {i : ℕ} (j : ℕ) → i ≡ suc j → encloses (kind ts j) n ≡ true → enclosing ts i n ≡ j
-unfolding enclosing
-encloses_here ts n j e f = rw e (rw f refl)
+skip : (b : Bool) (x y : ℕ) → cond (b && false) x y ≡ y
+skip true x y = refl
+skip false x y = refl
 
-pub back_one : (ts : List ℕ) (n : ℕ) {i x m t : ℕ} {b more fewer : Bool} (j : ℕ) → i ≡ suc j → x ≡ kind ts j → b ≡ encloses x n → b ≡ false → more ≡ closes x → fewer ≡ opens x → m ≡ counted more fewer n → enclosing ts i n ≡ t → enclosing ts j m ≡ t
-back_one ts n j e x b f c o m t = rw m (rw c (rw o (rw x (sym (one_back ts n j e (rw x at (sym b ∙ f))) ∙ t))))
+module _ (ts : List ℕ) (n i : ℕ) (some : 0 < i) {x : ℕ} (is : x ≡ kind ts (i - 1)) where
+  goes_back : (o c : Bool) → opens x ≡ o → closes x ≡ c → enclosing ts i n ≡ cond (eqb n 0 && o) (i - 1) (enclosing ts (i - 1) (counted c o n))
+  goes_back o c p q =
+      rw is (one_back ts n i some)
+      ∙ ap (λ v. cond (eqb n 0 && v) (i - 1) (enclosing ts (i - 1) (counted (closes x) v n))) p
+      ∙ ap (λ v. cond (eqb n 0 && o) (i - 1) (enclosing ts (i - 1) (counted v o n))) q
 
-pub found_open : (ts : List ℕ) (n : ℕ) {i x t : ℕ} {b : Bool} (j : ℕ) → i ≡ suc j → x ≡ kind ts j → b ≡ encloses x n → b ≡ true → enclosing ts i n ≡ t → j ≡ t
-found_open ts n j e x b f t = sym (encloses_here ts n j e (rw x at (sym b ∙ f))) ∙ t
+  pub back_closing : BracketOf x (Some Bracket.Closes) → enclosing ts (i - 1) (n + 1) ≡ enclosing ts i n
+  unfolding BracketCase
+  back_closing b =
+      let (o, c) = b.says in
+      let e : n + 1 ≡ suc n = omega arith in
+      ap (λ m. enclosing ts (i - 1) m) e ∙ sym (goes_back false true o c ∙ skip (eqb n 0) _ _)
+
+  pub found_open : BracketOf x (Some Bracket.Opens) → n ≡ 0 → i - 1 ≡ enclosing ts i n
+  unfolding BracketCase
+  found_open b z = let (o, c) = b.says in sym (goes_back true false o c ∙ rw z refl)
+
+  pub back_opening : BracketOf x (Some Bracket.Opens) → (n ≡ 0 → ⊥) → enclosing ts (i - 1) (n - 1) ≡ enclosing ts i n
+  unfolding BracketCase
+  back_opening b z = let (o, c) = b.says in sym (goes_back true false o c ∙ rw (ne_eqb n 0 z) refl)
+
+  pub back_other : BracketOf x None → enclosing ts (i - 1) n ≡ enclosing ts i n
+  unfolding BracketCase
+  back_other b = let (o, c) = b.says in sym (goes_back false false o c ∙ skip (eqb n 0) _ _)
 
 pub none_open : (ts : List ℕ) (n : ℕ) → enclosing ts 0 n ≡ absent
 unfolding enclosing
@@ -280,14 +323,30 @@ no_string e n = fails λ r. n (e ∙ r.string)
 pub a_string : {text nodes : List ℕ} {row x s t : ℕ} {r : Bool} → x ≡ kind_of nodes row → x ≡ number_of Node.String → s ≡ start_of nodes row → t ≡ end_of nodes row → Decides (LineEnds text s t) r → Decides (LongString text nodes row) r
 a_string e x s t d = carried (λ l. record { string = sym e ∙ x; line = rw (sym s) (rw (sym t) l) }) (λ r. rw s (rw t r.line)) d
 
--- any rule: the first three fail, and the fourth decides
-pub any_of : {text ts nodes : List ℕ} {row : ℕ} {r : Bool} → (ReachingNot ts nodes row → ⊥) → (CutOff ts nodes row → ⊥) → (GoingOn text ts nodes row → ⊥) → Decides (LongString text nodes row) r → Decides (Any text ts nodes row) r
-any_of {text} {ts} {nodes} {row} a b c d = carried Any.long back d
+-- one of two statements, of which the second is asked where the first fails
+pub first_decides : {P Q : Type 0} {r b : Bool} → Decides P r → r ≡ true → b ≡ r → Decides (P ⊎ Q) b
+first_decides d e f = rw (f ∙ e) (holds (inl (held (said d e))))
+
+pub second_decides : {P Q : Type 0} {r q b : Bool} → Decides P r → r ≡ false → Decides Q q → b ≡ q → Decides (P ⊎ Q) b
+second_decides {P} {Q} d e k f = rw f (carried inr back k)
+  where
+    back : P ⊎ Q → Q
+    back (inl p) = absurd (failed (said d e) p)
+    back (inr q) = q
+
+-- any rule: one of the first three, or the fourth
+pub any_met : {text ts nodes : List ℕ} {row : ℕ} → (ReachingNot ts nodes row ⊎ CutOff ts nodes row) ⊎ GoingOn text ts nodes row → Decides (Any text ts nodes row) true
+any_met (inl (inl r)) = holds (Any.reaching r)
+any_met (inl (inr c)) = holds (Any.cut c)
+any_met (inr g) = holds (Any.going g)
+
+pub any_of : {text ts nodes : List ℕ} {row : ℕ} {r : Bool} → ((ReachingNot ts nodes row ⊎ CutOff ts nodes row) ⊎ GoingOn text ts nodes row → ⊥) → Decides (LongString text nodes row) r → Decides (Any text ts nodes row) r
+any_of {text} {ts} {nodes} {row} none d = carried Any.long back d
   where
     back : Any text ts nodes row → LongString text nodes row
-    back (Any.reaching x) = absurd (a x)
-    back (Any.cut x) = absurd (b x)
-    back (Any.going x) = absurd (c x)
+    back (Any.reaching x) = absurd (none (inl (inl x)))
+    back (Any.cut x) = absurd (none (inl (inr x)))
+    back (Any.going x) = absurd (none (inr x))
     back (Any.long x) = x
 
 -- the next row

@@ -1,11 +1,12 @@
 -- How far a row reaches. An operator, a sign, a `not` and a lambda end where their last operand ends, and nothing closes them: what they took by reaching on is not to be
 -- seen at their start. Rows are numbers that anyone may have written: a row that is not below the one that names it is not followed.
-use Rattle.std.specs.Prelude.{ℕ, zero, suc, ◌+◌, ◌-◌, ◌*◌, ◌≤◌, ◌<◌, Bool, cond, not, ◌&&◌, ◌||◌, List, [], ◌∷◌, ◌≡◌, eqb, ltb, get_or}
+use Rattle.std.specs.Prelude.{ℕ, zero, suc, ◌+◌, ◌-◌, ◌*◌, ◌≤◌, ◌<◌, Bool, true, false, cond, not, ◌&&◌, ◌||◌, List, [], ◌∷◌, Option, Some, None, MatchOption, ◌≡◌, eqb, ltb, get_or}
 use Rattle.grammar.specs.Handle.{absent}
 use Rattle.grammar.specs.Kind.{LeftParen, RightParen, Hash, LeftBrace, RightBrace}
 use Rattle.grammar.specs.Label.{Node, number_of}
 use Rattle.grammar.specs.Room.{node_width, own_width}
 use Rattle.grammar.specs.Token.{count, kind, start}
+use Rattle.lint.specs.declared.reach.Bracket.{Bracket}
 
 -- number i of a row: its kind, its span, what its kind has (Layout.antt) and its parent; absent where the room has none
 abbrev pub number : (nodes : List ℕ) (row i : ℕ) → ℕ
@@ -36,6 +37,10 @@ last_numbers =
     0 ∷ 0 ∷ 0 ∷ 0 ∷ 0 ∷ 0 ∷ 0 ∷ 0 ∷ 0 ∷  -- Identifier to Function end with a token of their own
     5 ∷  -- Lambda: body
     []
+
+-- such a number of a kind, where there is one
+pub record LastNumber (kind : ℕ) (r : Option ℕ) : Type 0 where
+  pub names : MatchOption r (get_or last_numbers kind 0 ≡ 0) (λ i. (get_or last_numbers kind 0 ≡ i) × (0 < i))
 
 -- what a row takes last; absent where it takes nothing last
 unfoldable pub last : (nodes : List ℕ) (row : ℕ) → ℕ
@@ -77,6 +82,15 @@ opens x = eqb x LeftParen || eqb x LeftBrace
 
 abbrev pub closes : ℕ → Bool
 closes x = eqb x RightParen || eqb x RightBrace
+
+-- what a kind does to the brackets that are open: it opens one, closes one, or neither
+unfoldable pub BracketCase : (kind : ℕ) → Option Bracket → Type 0
+BracketCase k (Some Bracket.Opens) = (opens k ≡ true) × (closes k ≡ false)
+BracketCase k (Some Bracket.Closes) = (opens k ≡ false) × (closes k ≡ true)
+BracketCase k None = (opens k ≡ false) × (closes k ≡ false)
+
+pub record BracketOf (kind : ℕ) (r : Option Bracket) : Type 0 where
+  pub says : BracketCase kind r
 
 -- so many brackets, and one more or one fewer, where there is one
 abbrev pub counted : (more fewer : Bool) (before : ℕ) → ℕ

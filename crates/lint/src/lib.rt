@@ -34,16 +34,10 @@ pub enum Rule {
 fn breaks(text: &[u8], from: u32, upto: u32) -> bool
     ensures { Decides (LineEnds text.now from upto) result }
 {
-    let end = upto as usize;
-    let mut i = from as usize;
-    while i < end {
-        if i >= text.len() {
-            return false;
-        }
+    for i in from as usize..text.len().min(upto as usize) {
         if ends_line(text, i) {
             return true;
         }
-        i += 1;
     }
     false
 }
@@ -52,26 +46,17 @@ fn breaks(text: &[u8], from: u32, upto: u32) -> bool
 fn on_new_line(text: &[u8], tokens: &[u32], k: usize) -> bool
     ensures { Decides (OnNewLine text.now tokens.now k) result }
 {
-    if k == 0 {
+    if k == 0 || k >= tokens.len() / 3 {
         return false;
     }
-    if k >= tokens.len() / 3 {
-        return false;
-    }
-    if !in_block(tokens, k) {
-        return false;
-    }
-    breaks(text, end_at(tokens, k - 1), start_at(tokens, k))
+    in_block(tokens, k) && breaks(text, end_at(tokens, k - 1), start_at(tokens, k))
 }
 
 // Whether a row of this kind is an `and` or an `or`.
 fn joins(kind: u32) -> bool
     ensures { result ≡ among joining kind }
 {
-    match kind {
-        kinds::LOGICAL_AND | kinds::LOGICAL_OR => true,
-        _ => false,
-    }
+    matches!(kind, kinds::LOGICAL_AND | kinds::LOGICAL_OR)
 }
 
 // Whether row x is an `and` or an `or` whose sign stands outside of all brackets that are opened after row `row` starts.
@@ -79,11 +64,7 @@ fn joins(kind: u32) -> bool
 pub fn reached(tokens: &[u32], nodes: &[u32], row: u32, x: u32) -> bool
     ensures { Decides (Reached tokens.now nodes.now row x) result }
 {
-    if !joins(node(nodes, x, 0)) {
-        return false;
-    }
-    let k = sign(tokens, nodes, x);
-    brackets(tokens, node(nodes, row, 1), k) == 0
+    joins(node(nodes, x, 0)) && brackets(tokens, node(nodes, row, 1), sign(tokens, nodes, x)) == 0
 }
 
 // Rule ReachingNot.
@@ -109,11 +90,10 @@ fn is_reaching(tokens: &[u32], nodes: &[u32], row: u32) -> bool
 fn goes_on(kind: u32) -> bool
     ensures { result ≡ among going_on kind }
 {
-    match kind {
-        token::kinds::PLUS | token::kinds::MINUS | token::kinds::CARET | token::kinds::LEFT_PAREN =>
-            true,
-        _ => false,
-    }
+    matches!(
+        kind,
+        token::kinds::PLUS | token::kinds::MINUS | token::kinds::CARET | token::kinds::LEFT_PAREN
+    )
 }
 
 // Whether a token is a `}` that ends at an offset, and the next could go on.
@@ -121,23 +101,19 @@ fn is_cut(tokens: &[u32], offset: u32, k: usize) -> bool
     requires { k + 1 < count tokens.now }
     ensures { Decides (CutAt tokens.now offset k) result }
 {
-    if end_at(tokens, k) != offset {
-        return false;
-    }
-    if kind_at(tokens, k) != token::kinds::RIGHT_BRACE {
-        return false;
-    }
-    goes_on(kind_at(tokens, k + 1))
+    end_at(tokens, k) == offset
+        && kind_at(tokens, k) == token::kinds::RIGHT_BRACE
+        && goes_on(kind_at(tokens, k + 1))
 }
 
 // Whether a statement of this kind ends at a `}` of its own.
 fn is_closed(kind: u32) -> bool
     ensures { result ≡ among closed kind }
 {
-    match kind {
-        kinds::FUNCTION | kinds::BLOCK | kinds::IF | kinds::WHILE_LOOP => true,
-        _ => false,
-    }
+    matches!(
+        kind,
+        kinds::FUNCTION | kinds::BLOCK | kinds::IF | kinds::WHILE_LOOP
+    )
 }
 
 // Rule CutOff.
@@ -152,13 +128,10 @@ fn is_cut_off(tokens: &[u32], nodes: &[u32], row: u32) -> bool
         return false;
     }
     let end = node(nodes, row, 2);
-    let n = tokens.len() / 3;
-    let mut k = 0;
-    while k + 1 < n {
+    for k in 0..(tokens.len() / 3).saturating_sub(1) {
         if is_cut(tokens, end, k) {
             return true;
         }
-        k += 1;
     }
     false
 }
@@ -167,44 +140,32 @@ fn is_cut_off(tokens: &[u32], nodes: &[u32], row: u32) -> bool
 fn is_going_on(text: &[u8], tokens: &[u32], nodes: &[u32], row: u32) -> bool
     ensures { Decides (GoingOn text.now tokens.now nodes.now row) result }
 {
-    let kind = node(nodes, row, 0);
-    if kind == kinds::FUNCTION_CALL {
-        let opening = first_past(tokens, node(nodes, row, 1));
-        return on_new_line(text, tokens, opening);
+    match node(nodes, row, 0) {
+        kinds::FUNCTION_CALL => {
+            on_new_line(text, tokens, first_past(tokens, node(nodes, row, 1)))
+        }
+        kinds::BINARY => {
+            node(nodes, row, 3) <= 1 && on_new_line(text, tokens, sign(tokens, nodes, row))
+        }
+        _ => false,
     }
-    if kind != kinds::BINARY {
-        return false;
-    }
-    if node(nodes, row, 3) > 1 {
-        return false;
-    }
-    on_new_line(text, tokens, sign(tokens, nodes, row))
 }
 
 // Rule LongString.
 fn is_long(text: &[u8], nodes: &[u32], row: u32) -> bool
     ensures { Decides (LongString text.now nodes.now row) result }
 {
-    if node(nodes, row, 0) != kinds::STRING {
-        return false;
-    }
-    breaks(text, node(nodes, row, 1), node(nodes, row, 2))
+    node(nodes, row, 0) == kinds::STRING && breaks(text, node(nodes, row, 1), node(nodes, row, 2))
 }
 
 // Rule Any.
 fn is_any(text: &[u8], tokens: &[u32], nodes: &[u32], row: u32) -> bool
     ensures { Decides (Any text.now tokens.now nodes.now row) result }
 {
-    if is_reaching(tokens, nodes, row) {
-        return true;
-    }
-    if is_cut_off(tokens, nodes, row) {
-        return true;
-    }
-    if is_going_on(text, tokens, nodes, row) {
-        return true;
-    }
-    is_long(text, nodes, row)
+    is_reaching(tokens, nodes, row)
+        || is_cut_off(tokens, nodes, row)
+        || is_going_on(text, tokens, nodes, row)
+        || is_long(text, nodes, row)
 }
 
 // Whether a row meets a rule.
@@ -226,12 +187,10 @@ pub fn meets(rule: Rule, text: &[u8], tokens: &[u32], nodes: &[u32], row: u32) -
 pub fn next(rule: Rule, text: &[u8], tokens: &[u32], nodes: &[u32], count: u32, from: u32) -> u32
     ensures { Next (Meets rule text.now tokens.now nodes.now) from count result }
 {
-    let mut row = from;
-    while row < count {
+    for row in from..count {
         if meets(rule, text, tokens, nodes, row) {
             return row;
         }
-        row += 1;
     }
     ABSENT
 }

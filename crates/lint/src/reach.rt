@@ -1,25 +1,23 @@
 // How far a row reaches, and which token joins its operands. Every function answers for any rows and tokens.
-ghost use Rattle.std.specs.Prelude.{◌+◌, ◌≤◌, ◌<◌, ◌≡◌, get_or};
+ghost use Rattle.std.specs.Prelude.{◌+◌, ◌≤◌, ◌<◌, ◌≡◌};
 ghost use Rattle.grammar.specs.Token.{count};
 ghost use Rattle.spelling.specs.Decides.{Decides};
-ghost use Rattle.lint.specs.Reach.{last_numbers, last as last_of, Ends, Past, FirstPast, Sign, left_number, opens, closes, counted as counted-in, after as after-in, brackets as brackets-in, encloses, enclosing as enclosing-in, in_block};
+ghost use Rattle.lint.specs.Reach.{LastNumber, BracketOf, last as last_of, Ends, Past, FirstPast, Sign, left_number, after as after-in, brackets as brackets-in, enclosing as enclosing-in, in_block};
 
 use ast::{ABSENT, kinds};
 use children::node;
 use token::list::{kind_at, start_at};
 
-// By kind, from 0 on: which number of a row names what it takes last, with nothing behind that; 0 where something closes it, or it takes nothing. Binary, LogicalAnd,
-// LogicalOr, LogicalNot, Unary and, at the end, Lambda have one.
-const LAST: [u32; 20] = [0, 5, 4, 4, 3, 4, 0, 0, 0, 0, 0, 0, 0, 0, 0, 0, 0, 0, 0, 5];
-
-fn last_number(kind: u32) -> u32
-    ensures { result ≡ get_or last_numbers kind 0 }
+// Which number of a row of this kind names what it takes last, with nothing behind that; none where something closes it, or it takes nothing.
+fn last_number(kind: u32) -> Option<u32>
+    ensures { LastNumber kind result }
 {
-    let table = LAST;
-    if kind > kinds::LAMBDA {
-        return 0;
+    match kind {
+        kinds::BINARY | kinds::LAMBDA => Some(5),
+        kinds::LOGICAL_AND | kinds::LOGICAL_OR | kinds::UNARY => Some(4),
+        kinds::LOGICAL_NOT => Some(3),
+        _ => None,
     }
-    table[kind as usize]
 }
 
 // What a row takes last; ABSENT where it takes nothing last.
@@ -27,11 +25,10 @@ fn last_number(kind: u32) -> u32
 pub fn last(nodes: &[u32], row: u32) -> u32
     ensures { result ≡ last_of nodes.now row }
 {
-    let i = last_number(node(nodes, row, 0));
-    if i == 0 {
-        return ABSENT;
+    match last_number(node(nodes, row, 0)) {
+        Some(i) => node(nodes, row, i),
+        None => ABSENT,
     }
-    node(nodes, row, i)
 }
 
 // The last of what a row took by reaching on; the row itself where it took nothing.
@@ -52,10 +49,7 @@ fn is_past(tokens: &[u32], offset: u32, k: usize) -> bool
     requires { k < count tokens.now }
     ensures { Decides (Past tokens.now offset k) result }
 {
-    if start_at(tokens, k) < offset {
-        return false;
-    }
-    kind_at(tokens, k) != token::kinds::RIGHT_PAREN
+    start_at(tokens, k) >= offset && kind_at(tokens, k) != token::kinds::RIGHT_PAREN
 }
 
 // The first token from an offset on that is no `)`; the number of tokens where there is none.
@@ -64,12 +58,10 @@ pub fn first_past(tokens: &[u32], offset: u32) -> usize
     ensures { FirstPast tokens.now offset result }
 {
     let n = tokens.len() / 3;
-    let mut k = 0;
-    while k < n {
+    for k in 0..n {
         if is_past(tokens, offset, k) {
             return k;
         }
-        k += 1;
     }
     n
 }
@@ -78,10 +70,7 @@ pub fn first_past(tokens: &[u32], offset: u32) -> usize
 fn left_number(kind: u32) -> u32
     ensures { result ≡ left_number kind }
 {
-    if kind == kinds::BINARY {
-        return 4;
-    }
-    3
+    if kind == kinds::BINARY { 4 } else { 3 }
 }
 
 // The token that joins the operands of a row: the first past the left one that does not close it.
@@ -94,41 +83,22 @@ pub fn sign(tokens: &[u32], nodes: &[u32], row: u32) -> usize
     first_past(tokens, node(nodes, end, 2))
 }
 
-// Whether a token of this kind opens a bracket.
-fn is_opening(kind: u32) -> bool
-    ensures { result ≡ opens kind }
-{
-    match kind {
-        token::kinds::LEFT_PAREN | token::kinds::LEFT_BRACE => true,
-        _ => false,
-    }
+// What a token does to the brackets that are open.
+#[derive(Clone, Copy)]
+enum Bracket {
+    Opens,
+    Closes,
 }
 
-// Whether it closes one.
-fn is_closing(kind: u32) -> bool
-    ensures { result ≡ closes kind }
+// The bracket of a token's kind, where it is one's.
+fn bracket_of(kind: u32) -> Option<Bracket>
+    ensures { BracketOf kind result }
 {
     match kind {
-        token::kinds::RIGHT_PAREN | token::kinds::RIGHT_BRACE => true,
-        _ => false,
+        token::kinds::LEFT_PAREN | token::kinds::LEFT_BRACE => Some(Bracket::Opens),
+        token::kinds::RIGHT_PAREN | token::kinds::RIGHT_BRACE => Some(Bracket::Closes),
+        _ => None,
     }
-}
-
-// So many brackets, and one more or one fewer, where there is one.
-fn counted(more: bool, fewer: bool, before: usize) -> usize
-    requires { before < 18446744073709551615 }
-    ensures { result ≡ counted-in more fewer before }
-{
-    if more {
-        return before + 1;
-    }
-    if !fewer {
-        return before;
-    }
-    if before == 0 {
-        return 0;
-    }
-    before - 1
 }
 
 // How many brackets are open after a token of a list, from so many before it: it counts only past an offset.
@@ -139,8 +109,11 @@ fn after(tokens: &[u32], offset: u32, i: usize, before: usize) -> usize
     if start_at(tokens, i) <= offset {
         return before;
     }
-    let kind = kind_at(tokens, i);
-    counted(is_opening(kind), is_closing(kind), before)
+    match bracket_of(kind_at(tokens, i)) {
+        Some(Bracket::Opens) => before + 1,
+        Some(Bracket::Closes) => before.saturating_sub(1),
+        None => before,
+    }
 }
 
 // How many brackets are open before token `upto`, of those that are opened past an offset. It asks that the list has so many tokens.
@@ -150,38 +123,30 @@ pub fn brackets(tokens: &[u32], offset: u32, upto: usize) -> usize
     ensures { result ≡ brackets-in tokens.now offset upto }
 {
     let mut so_far = 0;
-    let mut i = 0;
-    while i < upto {
+    for i in 0..upto {
         so_far = after(tokens, offset, i, so_far);
-        i += 1;
     }
     so_far
 }
 
-// Whether a token of this kind opens what is open, where so many brackets are passed that were closed.
-fn is_enclosing(kind: u32, closed: usize) -> bool
-    ensures { result ≡ encloses kind closed }
-{
-    if closed != 0 {
-        return false;
-    }
-    is_opening(kind)
-}
-
 // The innermost bracket that is open before token k; the absent number where none is.
+// That number, and no Option: `in_block` (specs/Reach.antt) takes a bracket at the token of that number for none, in a list of any length.
 fn enclosing(tokens: &[u32], k: usize) -> usize
     requires { k ≤ count tokens.now }
     ensures { result ≡ enclosing-in tokens.now k 0 }
 {
-    let mut i = k;
-    let mut closed = 0;
-    while i > 0 {
-        i -= 1;
-        let kind = kind_at(tokens, i);
-        if is_enclosing(kind, closed) {
-            return i;
+    let mut closed: usize = 0;
+    for i in (0..k).rev() {
+        match bracket_of(kind_at(tokens, i)) {
+            Some(Bracket::Closes) => closed += 1,
+            Some(Bracket::Opens) => {
+                if closed == 0 {
+                    return i;
+                }
+                closed -= 1;
+            }
+            None => {}
         }
-        closed = counted(is_closing(kind), is_opening(kind), closed);
     }
     ABSENT as usize
 }
@@ -196,11 +161,6 @@ pub fn in_block(tokens: &[u32], k: usize) -> bool
     if e == ABSENT as usize {
         return true;
     }
-    if kind_at(tokens, e) != token::kinds::LEFT_BRACE {
-        return false;
-    }
-    if e == 0 {
-        return true;
-    }
-    kind_at(tokens, e - 1) != token::kinds::HASH
+    kind_at(tokens, e) == token::kinds::LEFT_BRACE
+        && (e == 0 || kind_at(tokens, e - 1) != token::kinds::HASH)
 }

@@ -16,7 +16,7 @@ returns-then-is_cut c =
     cut_found (number_is c.node.ensures) c.is_closed.ensures c.if-not-is_closed.false (number_is c.node-parent.ensures) (number_is c.node-2.ensures) c.if-node-ne-BLOCK.false (number_is c.node-end.ensures) (held (said c.is_cut.ensures c.if-is_cut.true))
 
 pub loop-k-preserved : goal.loop-k-preserved
-loop-k-preserved c = let l = c.loop-k in (one_more l.invariant.0 (failed (said c.is_cut.ensures c.if-is_cut.false)), omega arith)
+loop-k-preserved c = one_more c.loop-k.invariant (failed (said c.is_cut.ensures c.if-is_cut.false))
 
 pub returns : goal.returns
-returns c = cut_nowhere (number_is c.node-end.ensures) c.loop-k.invariant.0 c.loop-k-test.false
+returns c = cut_nowhere (number_is c.node-end.ensures) c.loop-k.invariant (omega (arith, c.saturating_sub-k-end.ensures))

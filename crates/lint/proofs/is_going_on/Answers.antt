@@ -1,16 +1,18 @@
 -- `is_going_on` meets its contract: by the kind of the row, and by where its token stands.
+use native.Mathlib.Omega.{arith}
+use Rattle.std.proofs.lemmas.Bool.{lt-leb}
 use Rattle.children.proofs.Laws.{number_is}
 use Rattle.lint.proofs.Laws.{call_goes_on, sum_goes_on, neither, other_sign}
 use Rattle.lint.proofs.is_going_on.Goals as goal
 
-pub returns-then-kind-eq-FUNCTION_CALL : goal.returns-then-kind-eq-FUNCTION_CALL
-returns-then-kind-eq-FUNCTION_CALL c = call_goes_on (number_is c.node-kind.ensures) c.if-kind-eq-FUNCTION_CALL.true (number_is c.node.ensures) c.first_past-opening.ensures c.on_new_line.ensures
+pub returns-in-15 : goal.returns-in-15
+returns-in-15 c = call_goes_on (number_is c.node.ensures) c.in-15.is (number_is c.node-in-15.ensures) c.first_past.ensures c.on_new_line.ensures
 
-pub returns-then-kind-ne-BINARY : goal.returns-then-kind-ne-BINARY
-returns-then-kind-ne-BINARY c = neither (number_is c.node-kind.ensures) c.if-kind-eq-FUNCTION_CALL.false c.if-kind-ne-BINARY.true
+pub returns-then-node-le1 : goal.returns-then-node-le1
+returns-then-node-le1 c = sum_goes_on (number_is c.node.ensures) c.in-1.is (number_is c.node-in-1.ensures) c.if-node-le1.true c.sign.ensures c.on_new_line-then-node-le1.ensures
 
-pub returns-then-node-gt1 : goal.returns-then-node-gt1
-returns-then-node-gt1 c = other_sign (number_is c.node-kind.ensures) c.if-kind-eq-FUNCTION_CALL.false (number_is c.node-2.ensures) c.if-node-gt1.true
+pub returns-else-node-le1 : goal.returns-else-node-le1
+returns-else-node-le1 c = rw (lt-leb _ _ c.if-node-le1.false) (other_sign (number_is c.node.ensures) (omega arith) (number_is c.node-in-1.ensures) c.if-node-le1.false)
 
-pub returns : goal.returns
-returns c = sum_goes_on (number_is c.node-kind.ensures) c.if-kind-ne-BINARY.false (number_is c.node-2.ensures) c.if-node-gt1.false c.sign.ensures c.on_new_line-2.ensures
+pub returns-in_default : goal.returns-in_default
+returns-in_default c = neither (number_is c.node.ensures) (omega arith) (omega arith)

@@ -1,11 +1,7 @@
 -- `next` meets its contract: one row after another.
-use Prim.Native.Nat.{◌-◌}
 use Rattle.lint.specs.Rules.{Meets}
 use Rattle.lint.proofs.Laws.{Passed}
 use Rattle.lint.proofs.next.Given as goal
 
 abbrev pub invariant-loop-row : goal.invariant-loop-row
 invariant-loop-row l = Passed (Meets l.rule l.text l.tokens l.nodes) l.from l.row
-
-abbrev pub decreases-loop-row : goal.decreases-loop-row
-decreases-loop-row l = l.count - l.row

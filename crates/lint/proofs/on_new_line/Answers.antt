@@ -3,22 +3,16 @@ use native.Mathlib.Omega.{arith}
 use mathlib.Core.Path.{sym, ◌∙◌}
 use Rattle.lint.proofs.Laws.{first_token, no_token, in_brackets, between}
 use Rattle.lint.proofs.on_new_line.Goals as goal
+use Rattle.lint.proofs.on_new_line.Goals.{then-k-eq0-via-then-k-eq0, then-k-eq0-via-else-k-eq0+then-k-tokens}
 
 pub returns-then-k-eq0 : goal.returns-then-k-eq0
-returns-then-k-eq0 c = first_token c.if-k-eq0.true
+returns-then-k-eq0 c = elim c.then-k-eq0.branch [
+  | then-k-eq0-via-then-k-eq0 w ↦ first_token w.if-k-eq0.true
+  | then-k-eq0-via-else-k-eq0+then-k-tokens w ↦ no_token w.if-k-tokens.true
+]
 
-pub returns-then-k-tokens : goal.returns-then-k-tokens
-returns-then-k-tokens c = no_token c.if-k-tokens.true
+pub returns-then-in_block : goal.returns-then-in_block
+returns-then-in_block c = between (omega arith) (omega arith) (sym c.in_block.ensures ∙ c.if-in_block.true) c.end_at.ensures c.start_at.ensures c.breaks.ensures
 
-pub returns-then-not-in_block : goal.returns-then-not-in_block
-returns-then-not-in_block c = in_brackets (sym c.in_block.ensures ∙ c.if-not-in_block.true)
-
-pub returns : goal.returns
-returns c =
-    between
-    (omega (arith, c.if-k-eq0.false))
-    c.if-k-tokens.false
-    (sym c.in_block.ensures ∙ c.if-not-in_block.false)
-    c.end_at.ensures
-    c.start_at.ensures
-    c.breaks.ensures
+pub returns-else-in_block : goal.returns-else-in_block
+returns-else-in_block c = rw c.if-in_block.false (in_brackets (sym c.in_block.ensures ∙ c.if-in_block.false))

@@ -1,11 +1,8 @@
 -- `reach::brackets` meets its contract: one token after another.
-use Prim.Native.Nat.{◌-◌, ◌≤◌}
+use Prim.Native.Nat.{◌≤◌}
 use mathlib.Core.Path.{◌≡◌}
 use Rattle.lint.specs.Reach.{brackets}
 use Rattle.lint.proofs.reach.brackets.Given as goal
 
 abbrev pub invariant-loop-i : goal.invariant-loop-i
-invariant-loop-i l = (l.so_far ≡ brackets l.tokens l.offset l.i) × (l.so_far ≤ l.i) × (l.i ≤ l.upto)
-
-abbrev pub decreases-loop-i : goal.decreases-loop-i
-decreases-loop-i l = l.upto - l.i
+invariant-loop-i l = (l.so_far ≡ brackets l.tokens l.offset l.i) × (l.so_far ≤ l.i)

@@ -6,6 +6,3 @@ use Rattle.lint.proofs.reach.enclosing.Given as goal
 
 abbrev pub invariant-loop-i : goal.invariant-loop-i
 invariant-loop-i l = (enclosing l.tokens l.i l.closed ≡ enclosing l.tokens l.k 0) × (l.closed + l.i ≤ l.k)
-
-abbrev pub decreases-loop-i : goal.decreases-loop-i
-decreases-loop-i l = l.i

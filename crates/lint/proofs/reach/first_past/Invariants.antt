@@ -1,11 +1,7 @@
 -- `reach::first_past` meets its contract: one token after another.
-use Prim.Native.Nat.{◌-◌}
 use Rattle.lint.specs.Reach.{Past}
 use Rattle.lint.proofs.Laws.{Passed}
 use Rattle.lint.proofs.reach.first_past.Given as goal
 
 abbrev pub invariant-loop-k : goal.invariant-loop-k
 invariant-loop-k l = Passed (Past l.tokens l.offset) 0 l.k
-
-abbrev pub decreases-loop-k : goal.decreases-loop-k
-decreases-loop-k l = l.n - l.k

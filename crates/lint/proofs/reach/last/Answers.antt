@@ -3,8 +3,8 @@ use Rattle.children.proofs.Laws.{number_is}
 use Rattle.lint.proofs.Laws.{takes_number, takes_nothing}
 use Rattle.lint.proofs.reach.last.Goals as goal
 
-pub returns-then-i-eq0 : goal.returns-then-i-eq0
-returns-then-i-eq0 c = takes_nothing _ _ (number_is c.node.ensures) c.last_number-i.ensures c.if-i-eq0.true
+pub returns-in-Some : goal.returns-in-Some
+returns-in-Some c = takes_number _ _ (number_is c.node.ensures) c.in-Some.ensures (number_is c.node-in-Some.ensures)
 
-pub returns : goal.returns
-returns c = takes_number _ _ (number_is c.node.ensures) c.last_number-i.ensures c.if-i-eq0.false (number_is c.node-2.ensures)
+pub returns-in-None : goal.returns-in-None
+returns-in-None c = takes_nothing _ _ (number_is c.node.ensures) c.in-None.ensures
