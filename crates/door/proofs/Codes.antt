@@ -5,22 +5,23 @@ use mathlib.Core.List.{List, []}
 use mathlib.Core.Path.{◌≡◌, refl, ap}
 use native.Mathlib.Decide.{dec_lt}
 use native.Mathlib.Omega.{arith}
+use Rattle.std.specs.Prelude.{Ok, Err}
 use borrow.Author.Tests.{ne_eqb}
 use lib.Dec.{eqb}
 use lib.ListN.{length, get_or, replicate, length-replicate}
 use Rattle.grammar.specs.Answer.{Answer, refuse, Answers}
 use Rattle.grammar.specs.Builtin.{Builtins, RightNames}
 use Rattle.grammar.specs.Call.{Call}
-use Rattle.grammar.specs.Door.{RightSymbols, Ascii, Sound, Closed, Inside, Admitted, Wrong}
+use Rattle.grammar.specs.Door.{RightSymbols, Ascii, Sound, Closed, Inside, FirstWithout, Admitted, Wrong}
 use Rattle.grammar.specs.Profile.{Profile}
 use Rattle.grammar.specs.Room.{Rooms}
 use Rattle.grammar.specs.Token.{count}
 use Rattle.grammar.proofs.Answers.{one_first as one_place, one_turn, lent_admitted, admitted_not_wrong}
 use Rattle.grammar.proofs.Demands.{turned_code}
-use Rattle.door.specs.Entry.{Searched, Highest, AsksLengths, lengths_code, LengthsChecked, AdmitsCode, at_token, ProfileChecked, ListChecked, entry_numbers, Enters, Told, Entered}
-use Rattle.door.specs.declared.Entry.{Entry}
+use Rattle.door.specs.Entry.{Highest, TextChecked, AsksLengths, lengths_code, LengthsChecked, AdmitsCode, at_token, ProfileChecked, ListChecked, entry_numbers, Enters, Told, Entered, Entry, open_entry, outright, number_of}
 use Rattle.door.specs.declared.Refusal.{Refusal}
-use Rattle.door.proofs.Searching.{Passed, passed_more, first_of}
+use Rattle.door.specs.declared.wrong.Wrong.{Wrong as Fault}
+use Rattle.door.proofs.Searching.{Passed, passed_more}
 
 not_over : (n k : ℕ) → (k < n → ⊥) → n ≤ k
 not_over n k h = elim (dec_lt k n) [ yes z ↦ absurd (h z) | no z ↦ omega arith ]
@@ -157,14 +158,12 @@ right_so_far (AdmitsCode.names x w) e = absurd (omega arith)
 right_so_far (AdmitsCode.names_room x r f) e = absurd (omega arith)
 right_so_far (AdmitsCode.right x r f) e = right_lengths x
 
--- no byte is over 127 where the highest is not; and where it is, the search finds one
+-- no byte is over 127 where the highest is not, and where check 5 finds none
 pub none_high : {text : List ℕ} {r : ℕ} → Highest text (length text) r → r ≤ 127 → Ascii text
 none_high x h i s = omega (arith, x.most i s)
 
-pub found_high : {text : List ℕ} {r i : ℕ} → Highest text (length text) r → 127 < r → Searched (λ j. get_or text j 0 ≤ 127) (length text) i → i < length text
-found_high {text} {r} {i} x h f =
-    let (j, l, e) = x.there (omega arith) in
-    elim (dec_lt i (length text)) [ yes z ↦ z | no z ↦ absurd (omega (arith, f.before j (omega arith))) ]
+pub all_low : {text : List ℕ} → TextChecked text open_entry → Ascii text
+all_low (TextChecked.low h) = h
 
 listed_told : {p : Profile} {text ts : List ℕ} {r : Entry} → ListChecked p text ts r → Told r
 listed_told (ListChecked.unsound f) = omega arith
@@ -172,21 +171,30 @@ listed_told (ListChecked.unclosed s f) = omega arith
 listed_told (ListChecked.lent l (ProfileChecked.outside f)) = omega arith
 listed_told (ListChecked.lent l (ProfileChecked.inside g)) = tt
 
--- what is turned away is not let in
-abbrev is_refused : Entry → ℕ
-is_refused Entry.Open = 0
-is_refused (Entry.Refused q) = 1
+-- what is wrong has a code
+pub some_code : (w : Fault) → number_of w ≡ 0 → ⊥
+some_code Fault.List e = omega arith
+some_code Fault.Text e = omega arith
+some_code Fault.Limit e = omega arith
+some_code Fault.Room e = omega arith
+some_code Fault.Byte e = omega arith
+some_code Fault.Token e = omega arith
+some_code Fault.Eof e = omega arith
+some_code Fault.Outside e = omega arith
+some_code Fault.Names e = omega arith
+some_code Fault.Edition e = omega arith
 
-pub not_open : {q : Refusal} → Entry.Refused q ≡ Entry.Open → ⊥
-not_open e = omega (arith, ap is_refused e)
+-- what is turned away is not let in
+pub not_open : (q : Refusal) → open_entry ≡ Err q → ⊥
+not_open q e = cc
 
 -- the answers, for rooms of any content
 module _ {p : Profile} {names : Builtins} {text ts : List ℕ} {edition limit symbols scratch k : ℕ} (m : AdmitsCode names (length ts) (length text) edition limit symbols scratch k) where
-  pub by_code : (k ≡ 0 → ⊥) → Entered p names text ts edition limit symbols scratch (Entry.Refused (record { code = k; at = 0; start = 0; end = 0 }))
+  pub by_code : (k ≡ 0 → ⊥) → Entered p names text ts edition limit symbols scratch (Err (outright k))
   by_code n = record { told = omega arith; says = λ rooms e f. unadmitted p names text ts edition limit rooms (rw (e, f) m) n }
 
-  pub by_byte : {r i : ℕ} → k ≡ 0 → Highest text (length text) r → 127 < r → Searched (λ j. get_or text j 0 ≤ 127) (length text) i → Entered p names text ts edition limit symbols scratch (Entry.Refused (record { code = 5; at = 0; start = i; end = i + 1 }))
-  by_byte z x h g = record { told = omega arith; says = λ rooms e f. turned (Wrong.byte (first_of (found_high x h g) g)) (admits p names text ts edition limit rooms (rw (e, f) m) z) }
+  pub by_text : {q : Refusal} → k ≡ 0 → TextChecked text (Err q) → Entered p names text ts edition limit symbols scratch (Err q)
+  by_text z (TextChecked.high g) = record { told = omega arith; says = λ rooms e f. turned (Wrong.byte g) (admits p names text ts edition limit rooms (rw (e, f) m) z) }
 
   pub by_list : {q : Entry} → k ≡ 0 → Ascii text → ListChecked p text ts q → Entered p names text ts edition limit symbols scratch q
   by_list z h l = record { told = listed_told l; says = λ rooms e f. listing p names text ts edition limit rooms (passed_more (admits p names text ts edition limit rooms (rw (e, f) m) z) (omega arith) h) l }
@@ -208,10 +216,10 @@ module _ {c : Call} where
   one_numbers (Enters.turned x) (Enters.turned y) = one_turn x y
 
 same_entry : (r s : Entry) → Told r → Told s → entry_numbers r ≡ entry_numbers s → r ≡ s
-same_entry Entry.Open Entry.Open t u e = refl
-same_entry Entry.Open (Entry.Refused q) t u e = absurd (omega (arith, ap (λ a. a.code) e))
-same_entry (Entry.Refused p) Entry.Open t u e = absurd (omega (arith, ap (λ a. a.code) e))
-same_entry (Entry.Refused p) (Entry.Refused q) t u e = λ i. Entry.Refused (record { code = (e i).code; at = (e i).at; start = (e i).start; end = (e i).end })
+same_entry (Ok a) (Ok b) t u e = refl
+same_entry (Ok a) (Err q) t u e = absurd (omega (arith, ap (λ a. a.code) e))
+same_entry (Err p) (Ok a) t u e = absurd (omega (arith, ap (λ a. a.code) e))
+same_entry (Err p) (Err q) t u e = λ i. Err (record { code = (e i).code; at = (e i).at; start = (e i).start; end = (e i).end })
 
 -- two outcomes of `check` are equal
 pub one_entry : {p : Profile} {names : Builtins} {text ts : List ℕ} {edition limit symbols scratch : ℕ} {r s : Entry} → Entered p names text ts edition limit symbols scratch r → Entered p names text ts edition limit symbols scratch s → r ≡ s

@@ -1,20 +1,43 @@
 -- What the door answers, in terms of the grammar's Door.antt. Document 01, Refusal numbers, in order of checking; document 02, L14: '21, after 3'; L9: '17, after 7'.
-use Rattle.std.specs.Prelude.{ℕ, ◌*◌, ◌/◌, ◌≤◌, ◌<◌, cond, List, ◌≡◌, eqb, length, get_or}
+use Rattle.std.specs.Prelude.{ℕ, ◌+◌, ◌*◌, ◌/◌, ◌≤◌, ◌<◌, cond, List, ◌≡◌, eqb, length, get_or, Option, MatchOption, Result, Ok, Err}
 use Rattle.builtins.specs.Known.{Known}
 use Rattle.grammar.specs.Answer.{Answer, refuse}
 use Rattle.grammar.specs.Builtin.{Builtins, built, RightNames}
 use Rattle.grammar.specs.Call.{Call}
-use Rattle.grammar.specs.Door.{RightList, RightScratch, RightSymbols, RightEdition, Sound, Closed, Inside, Lent, Admitted, FirstWithout, TurnedAway}
+use Rattle.grammar.specs.Door.{RightList, RightScratch, RightSymbols, RightEdition, Ascii, Sound, Closed, Inside, Lent, Admitted, FirstWithout, TurnedAway}
 use Rattle.grammar.specs.Profile.{Profile}
 use Rattle.grammar.specs.Room.{Rooms, symbol_width}
 use Rattle.grammar.specs.Token.{count, start, end}
-use Rattle.door.specs.declared.Entry.{Entry}
+use Rattle.door.specs.declared.Refusal.{Refusal}
+use Rattle.door.specs.declared.wrong.Wrong.{Wrong}
 
--- r is the first place of n without what is asked of each, or n if there is none
-pub record Searched (asked : ℕ → Type 0) (n r : ℕ) : Type 0 where
-  pub most : r ≤ n
-  pub before : (i : ℕ) → i < r → asked i
-  pub lacks : r < n → asked r → ⊥
+-- a call is let in, or turned away
+abbrev pub Entry : Type 0
+Entry = Result (Unit {0}) Refusal
+
+abbrev pub open_entry : Entry
+open_entry = Ok tt
+
+-- the code of what is wrong, and of a check: 0 where it finds nothing wrong
+abbrev pub number_of : Wrong → ℕ
+number_of Wrong.List = 1
+number_of Wrong.Text = 2
+number_of Wrong.Limit = 3
+number_of Wrong.Room = 4
+number_of Wrong.Byte = 5
+number_of Wrong.Token = 6
+number_of Wrong.Eof = 7
+number_of Wrong.Outside = 17
+number_of Wrong.Names = 18
+number_of Wrong.Edition = 21
+
+abbrev pub code_of : Result (Unit {0}) Wrong → ℕ
+code_of (Ok u) = 0
+code_of (Err w) = number_of w
+
+-- the first place of n without what is asked of each, or none if each has it
+abbrev pub Searched : (asked : ℕ → Type 0) (n : ℕ) → Option ℕ → Type 0
+Searched asked n r = MatchOption r ((i : ℕ) → i < n → asked i) (λ i. FirstWithout asked n i)
 
 -- r is the highest of the first n bytes of a text, or 0 where there is none
 pub record Highest (text : List ℕ) (n r : ℕ) : Type 0 where
@@ -52,14 +75,25 @@ pub record Admits (names : Builtins) (list text edition limit symbols scratch : 
   pub code : AdmitsCode names list text edition limit symbols scratch r
   pub known : r ≡ 0 → Known names index
 
--- a refusal at token i
+-- a refusal without a place, and one at token i
+abbrev pub outright : (code : ℕ) → Refusal
+outright code = record { code = code; at = 0; start = 0; end = 0 }
+
+abbrev pub turned_at : (code : ℕ) (ts : List ℕ) → ℕ → Refusal
+turned_at code ts i = record { code = code; at = i; start = start ts i; end = end ts i }
+
+-- check 5: the first byte over 127, or none is
+pub data TextChecked (text : List ℕ) : Entry → Type 0 where
+  high : {i : ℕ} → FirstWithout (λ j. get_or text j 0 ≤ 127) (length text) i → TextChecked text (Err (record { code = 5; at = 0; start = i; end = i + 1 }))
+  low : Ascii text → TextChecked text open_entry
+
 abbrev pub at_token : (code : ℕ) (ts : List ℕ) → ℕ → Entry
-at_token code ts i = Entry.Refused (record { code = code; at = i; start = start ts i; end = end ts i })
+at_token code ts i = Err (turned_at code ts i)
 
 -- check 17: the first token outside the profile, or none is
 pub data ProfileChecked (p : Profile) (ts : List ℕ) : Entry → Type 0 where
   outside : {i : ℕ} → FirstWithout (Inside p ts) (count ts) i → ProfileChecked p ts (at_token 17 ts i)
-  inside : ((i : ℕ) → i < count ts → Inside p ts i) → ProfileChecked p ts Entry.Open
+  inside : ((i : ℕ) → i < count ts → Inside p ts i) → ProfileChecked p ts open_entry
 
 -- checks 6, 7 and 17: the first token that is not sound, or then the first that is not closed, or all that is asked of text and list, and then of the profile
 pub data ListChecked (p : Profile) (text ts : List ℕ) : Entry → Type 0 where
@@ -69,8 +103,8 @@ pub data ListChecked (p : Profile) (text ts : List ℕ) : Entry → Type 0 where
 
 -- the eight numbers of each case
 abbrev pub entry_numbers : Entry → Answer
-entry_numbers Entry.Open = refuse 0 0 0 0 255
-entry_numbers (Entry.Refused q) = refuse q.code q.at q.start q.end 255
+entry_numbers (Ok u) = refuse 0 0 0 0 255
+entry_numbers (Err q) = refuse q.code q.at q.start q.end 255
 
 -- a call is let in or turned away with these numbers
 pub data Enters (c : Call) : Answer → Type 0 where
@@ -79,8 +113,8 @@ pub data Enters (c : Call) : Answer → Type 0 where
 
 -- a refusal's code is never 0
 abbrev pub Told : Entry → Type 0
-Told Entry.Open = Unit {0}
-Told (Entry.Refused q) = 1 ≤ q.code
+Told (Ok u) = Unit {0}
+Told (Err q) = 1 ≤ q.code
 
 -- a call of this profile with these names, this text, list, edition and limit, and with symbol and scratch rooms of these lengths, enters so
 pub record Entered (p : Profile) (names : Builtins) (text ts : List ℕ) (edition limit symbols scratch : ℕ) (r : Entry) : Type 0 where
@@ -90,4 +124,4 @@ pub record Entered (p : Profile) (names : Builtins) (text ts : List ℕ) (editio
 -- and the names have their index, where it is let in
 pub record Checked (p : Profile) (names : Builtins) (text ts : List ℕ) (edition limit symbols scratch : ℕ) (index : List ℕ) (r : Entry) : Type 0 where
   pub entered : Entered p names text ts edition limit symbols scratch r
-  pub known : r ≡ Entry.Open → Known names index
+  pub known : r ≡ open_entry → Known names index

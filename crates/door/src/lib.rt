@@ -12,7 +12,7 @@ ghost use Rattle.grammar.specs.Token.{count};
 ghost use Rattle.spelling.specs.Decides.{Decides};
 ghost use Rattle.spelling.specs.Words.{table};
 ghost use Rattle.token.specs.Profiled.{profiled};
-ghost use Rattle.door.specs.Entry.{Searched, Highest, LengthsChecked, Admits, ProfileChecked, ListChecked, Checked};
+ghost use Rattle.door.specs.Entry.{number_of, code_of, outright, turned_at, Searched, Highest, TextChecked, LengthsChecked, Admits, ProfileChecked, ListChecked, Checked};
 
 use builtins::{NAME_WIDTH, right};
 use lexeme::fits;
@@ -20,6 +20,7 @@ use spelling::words;
 use token::list::{end_at, kind_at, start_at};
 use token::profiles::Profile;
 use token::{editions, kinds};
+use wrong::Wrong;
 
 // Numbers a token in the list, and in scratch.
 const TOKEN_WIDTH: usize = 3;
@@ -37,7 +38,7 @@ const MOST_DEPTH: u32 = 64;
 const HIGHEST_BYTE: u8 = 127;
 
 // The code, and the numbers at, start and end. No certain kind is ever required here.
-#[derive(Drop)]
+#[derive(Clone, Copy, PartialEq, Eq)]
 pub struct Refusal {
     pub code: u32,
     pub at: u32,
@@ -45,51 +46,78 @@ pub struct Refusal {
     pub end: u32,
 }
 
-#[derive(Drop)]
-pub enum Entry {
-    Open,
-    Refused(Refusal),
+// Without a place.
+impl From<Wrong> for Refusal {
+    ghost from_gives = { λ w r. r ≡ outright (number_of w) };
+
+    fn from(wrong: Wrong) -> Refusal {
+        Refusal {
+            code: wrong as u32,
+            at: 0,
+            start: 0,
+            end: 0,
+        }
+    }
 }
 
-// The first of checks 1 to 3, 21 and 4 that finds something wrong, of lengths, the edition and the limit alone, or 0.
-// Ruled out: 21 where the limit is 0; an edition 0 let in; 4 where the edition is 3; 0 for a list of 4,097 tokens.
-pub fn lengths(list: usize, text: usize, edition: u32, limit: u32, scratch: usize) -> u32
-    ensures { LengthsChecked list text edition limit scratch result }
+// At a token. It asks that the list has the token.
+fn at_token(wrong: Wrong, tokens: &[u32], at: usize) -> Refusal
+    requires { (at < count tokens.now) × (at < 4096) }
+    ensures { result ≡ turned_at (number_of wrong) tokens.now at }
+{
+    Refusal {
+        code: wrong as u32,
+        at: at as u32,
+        start: start_at(tokens, at),
+        end: end_at(tokens, at),
+    }
+}
+
+// The first of checks 1 to 3, 21 and 4 that finds something wrong, of lengths, the edition and the limit alone.
+// Ruled out: 21 where the limit is 0; an edition 0 let in; 4 where the edition is 3; a list of 4,097 tokens let in.
+pub fn lengths(
+    list: usize,
+    text: usize,
+    edition: u32,
+    limit: u32,
+    scratch: usize,
+) -> Result<(), Wrong>
+    ensures { LengthsChecked list text edition limit scratch (code_of result) }
 {
     let tokens = list / TOKEN_WIDTH;
     if list % TOKEN_WIDTH != 0 {
-        return wrong::LIST;
+        return Err(Wrong::List);
     }
     if tokens < 1 {
-        return wrong::LIST;
+        return Err(Wrong::List);
     }
     if MOST_TOKENS < tokens {
-        return wrong::LIST;
+        return Err(Wrong::List);
     }
     if MOST_BYTES < text {
-        return wrong::TEXT;
+        return Err(Wrong::Text);
     }
     if limit < 1 {
-        return wrong::LIMIT;
+        return Err(Wrong::Limit);
     }
     if MOST_DEPTH < limit {
-        return wrong::LIMIT;
+        return Err(Wrong::Limit);
     }
     if edition < editions::FIRST {
-        return wrong::EDITION;
+        return Err(Wrong::Edition);
     }
     if editions::SECOND < edition {
-        return wrong::EDITION;
+        return Err(Wrong::Edition);
     }
     if scratch / SCRATCH_WIDTH < tokens {
-        return wrong::SCRATCH;
+        return Err(Wrong::Room);
     }
-    0
+    Ok(())
 }
 
-// The first of these, of 18 for the built-in names and of 4 for their rows that finds something wrong, or 0: then `index` is the names' own. It asks for an index that
-// is blank.
-// Ruled out: 18 where scratch is too small; 0 where the symbol room is a number short of the built-in rows.
+// The first of these, of 18 for the built-in names and of 4 for their rows that finds something wrong; where none does, `index` is the names' own. It asks for an index
+// that is blank.
+// Ruled out: 18 where scratch is too small; a symbol room let in that is a number short of the built-in rows.
 pub fn admit(
     names: &[u8],
     rows: &[u32],
@@ -100,53 +128,53 @@ pub fn admit(
     limit: u32,
     symbols: usize,
     scratch: usize,
-) -> u32
+) -> Result<(), Wrong>
     requires { index.old ≡ blank_index }
-    ensures { Admits (names_in names.now rows.now) list text edition limit symbols scratch index.new result }
+    ensures { Admits (names_in names.now rows.now) list text edition limit symbols scratch index.new (code_of result) }
 {
-    let code = lengths(list, text, edition, limit, scratch);
-    if code != 0 {
-        return code;
-    }
+    lengths(list, text, edition, limit, scratch)?;
     if !right(names, rows, index) {
-        return wrong::NAMES;
+        return Err(Wrong::Names);
     }
     if symbols / NAME_WIDTH < rows.len() / NAME_WIDTH {
-        return wrong::NAMES_ROOM;
+        return Err(Wrong::Room);
     }
-    0
+    Ok(())
 }
 
-// The first byte over 127, or the text's length.
-// Ruled out: a later byte over 127; the length where there is one.
-pub fn first_high(text: &[u8]) -> usize
+// The first byte over 127.
+// Ruled out: a later byte over 127; none where there is one.
+pub fn first_high(text: &[u8]) -> Option<usize>
     ensures { Searched (λ i. get_or text.now i 0 ≤ 127) (length text.now) result }
 {
-    let mut i = 0;
-    while i < text.len() {
-        if HIGHEST_BYTE < text[i] {
-            return i;
-        }
-        i += 1;
-    }
-    i
+    text.iter().position(|byte| HIGHEST_BYTE < *byte)
 }
 
-// The highest byte, or 0 of an empty text. The loop has no other way out, so that many bytes are compared at once.
+// The highest byte, or 0 of an empty text. The fold has no other way out, so that many bytes are compared at once.
 // Ruled out: the last byte; a byte that the text does not have.
 pub fn highest(text: &[u8]) -> u8
     ensures { Highest text.now (length text.now) result }
 {
-    let mut high = 0;
-    let mut i = 0;
-    while i < text.len() {
-        let byte = text[i];
-        if high < byte {
-            high = byte;
-        }
-        i += 1;
+    text.iter().fold(0, |high, byte| high.max(*byte))
+}
+
+// Check 5, of a text that check 2 let through.
+fn ascii(text: &[u8]) -> Result<(), Refusal>
+    requires { length text.now ≤ 65536 }
+    ensures { TextChecked text.now result }
+{
+    if highest(text) <= HIGHEST_BYTE {
+        return Ok(());
     }
-    high
+    match first_high(text) {
+        Some(high) => Err(Refusal {
+            code: Wrong::Byte as u32,
+            at: 0,
+            start: high as u32,
+            end: (high + 1) as u32,
+        }),
+        None => Ok(()),
+    }
 }
 
 // Whether a token is none of the bad ones of check 6. It asks for the table of crate spelling.
@@ -175,116 +203,64 @@ fn sound(words: &[u8], text: &[u8], tokens: &[u32], at: usize) -> bool
     fits(words, kind, text, start as usize, end as usize)
 }
 
-// The first token that is bad in any of these ways, or the count.
-fn first_unsound(text: &[u8], tokens: &[u32]) -> usize
+// The first token that is bad in any of these ways.
+fn first_unsound(text: &[u8], tokens: &[u32]) -> Option<usize>
     ensures { Searched (Sound text.now tokens.now) (count tokens.now) result }
 {
-    let count = tokens.len() / TOKEN_WIDTH;
     let table = words();
-    let mut i = 0;
-    while i < count {
-        if !sound(&table, text, tokens, i) {
-            return i;
-        }
-        i += 1;
-    }
-    i
+    (0..tokens.len() / TOKEN_WIDTH).find(|at| !sound(&table, text, tokens, *at))
 }
 
-// The first Eof that is not last, or a last token that is none; or the count.
-fn first_unclosed(tokens: &[u32]) -> usize
+// The first Eof that is not last, or a last token that is none.
+fn first_unclosed(tokens: &[u32]) -> Option<usize>
     ensures { Searched (Closed tokens.now) (count tokens.now) result }
 {
     let count = tokens.len() / TOKEN_WIDTH;
-    let mut i = 0;
-    while i + 1 < count {
-        if kind_at(tokens, i) == kinds::EOF {
-            return i;
-        }
-        i += 1;
-    }
-    if i < count {
-        if kind_at(tokens, i) != kinds::EOF {
-            return i;
-        }
-    }
-    count
+    (0..count).find(|at| (kind_at(tokens, *at) == kinds::EOF) != (*at + 1 == count))
 }
 
 // Whether no guard has a token of this kind.
 fn outside(kind: u32) -> bool
     ensures { allowed a-guard kind ≡ not result }
 {
-    match kind {
-        kinds::LEFT_BRACE => true,
-        kinds::IF => true,
-        kinds::PIPE => true,
-        kinds::HASH => true,
-        _ => false,
-    }
+    matches!(
+        kind,
+        kinds::LEFT_BRACE | kinds::IF | kinds::PIPE | kinds::HASH
+    )
 }
 
-// The first token that no guard has, or the count.
-fn first_outside(tokens: &[u32]) -> usize
+// The first token that no guard has.
+fn first_outside(tokens: &[u32]) -> Option<usize>
     ensures { Searched (Inside a-guard tokens.now) (count tokens.now) result }
 {
-    let count = tokens.len() / TOKEN_WIDTH;
-    let mut i = 0;
-    while i < count {
-        if outside(kind_at(tokens, i)) {
-            return i;
-        }
-        i += 1;
-    }
-    i
+    (0..tokens.len() / TOKEN_WIDTH).find(|at| outside(kind_at(tokens, *at)))
 }
 
 // Check 17, of a list that the checks before it let through: it asks for what check 1 does. It is public for crate syntax.
 // Ruled out: 17 at a later token; a script turned away for a `{`.
-pub fn within(tokens: &[u32], profile: Profile) -> Entry
+pub fn within(tokens: &[u32], profile: Profile) -> Result<(), Refusal>
     requires { Whole tokens.now }
     ensures { ProfileChecked (profiled profile) tokens.now result }
 {
     match profile {
-        Profile::Script => Entry::Open,
-        Profile::Guard => {
-            let out = first_outside(tokens);
-            if tokens.len() / TOKEN_WIDTH <= out {
-                return Entry::Open;
-            }
-            Entry::Refused(Refusal {
-                code: wrong::OUTSIDE,
-                at: out as u32,
-                start: start_at(tokens, out),
-                end: end_at(tokens, out),
-            })
-        }
+        Profile::Script => Ok(()),
+        Profile::Guard => match first_outside(tokens) {
+            Some(at) => Err(at_token(Wrong::Outside, tokens, at)),
+            None => Ok(()),
+        },
     }
 }
 
 // Checks 6, 7 and 17, of what checks 1 and 5 let through.
-fn listed(text: &[u8], tokens: &[u32], profile: Profile) -> Entry
+fn listed(text: &[u8], tokens: &[u32], profile: Profile) -> Result<(), Refusal>
     requires { Whole tokens.now × Ascii text.now }
     ensures { ListChecked (profiled profile) text.now tokens.now result }
 {
-    let count = tokens.len() / TOKEN_WIDTH;
-    let bad = first_unsound(text, tokens);
-    if bad < count {
-        return Entry::Refused(Refusal {
-            code: wrong::TOKEN,
-            at: bad as u32,
-            start: start_at(tokens, bad),
-            end: end_at(tokens, bad),
-        });
+    if let Some(at) = first_unsound(text, tokens) {
+        return Err(at_token(Wrong::Token, tokens, at));
     }
-    let open = first_unclosed(tokens);
-    if open < count {
-        return Entry::Refused(Refusal {
-            code: wrong::EOF,
-            at: open as u32,
-            start: start_at(tokens, open),
-            end: end_at(tokens, open),
-        });
+    if let Some(at) = first_unclosed(tokens) {
+        return Err(at_token(Wrong::Eof, tokens, at));
     }
     within(tokens, profile)
 }
@@ -303,11 +279,11 @@ pub fn check(
     limit: u32,
     symbols: usize,
     scratch: usize,
-) -> Entry
+) -> Result<(), Refusal>
     requires { index.old ≡ blank_index }
     ensures { Checked (profiled profile) (names_in names.now rows.now) text.now tokens.now edition limit symbols scratch index.new result }
 {
-    let code = admit(
+    admit(
         names,
         rows,
         index,
@@ -317,23 +293,7 @@ pub fn check(
         limit,
         symbols,
         scratch,
-    );
-    if code != 0 {
-        return Entry::Refused(Refusal {
-            code: code,
-            at: 0,
-            start: 0,
-            end: 0,
-        });
-    }
-    if HIGHEST_BYTE < highest(text) {
-        let high = first_high(text);
-        return Entry::Refused(Refusal {
-            code: wrong::BYTE,
-            at: 0,
-            start: high as u32,
-            end: (high + 1) as u32,
-        });
-    }
+    )?;
+    ascii(text)?;
     listed(text, tokens, profile)
 }

@@ -1,17 +1,22 @@
 -- `admit` meets its contract: the first of its checks that finds something wrong gives the code.
 use native.Mathlib.Omega.{arith}
 use Rattle.door.specs.Entry.{AdmitsCode}
+use Rattle.std.proofs.lemmas.Result.{err_from_is_err_and}
+use Rattle.door.proofs.Codes.{some_code}
 use Rattle.door.proofs.admit.Goals as goal
 
-pub returns-then-code-ne0 : goal.returns-then-code-ne0
-returns-then-code-ne0 c = record { code = AdmitsCode.lengths c.lengths-code.ensures c.if-code-ne0.true; known = λ e. absurd (c.if-code-ne0.true e) }
+pub returns-in_err-lengths : goal.returns-in_err-lengths
+returns-in_err-lengths c =
+    let p = err_from_is_err_and c.from_residual.result c.from_residual.ensures.1 in
+    let some = some_code c.in_err-lengths.field-0.0 in
+    rw (p.1, p.2) (record { code = AdmitsCode.lengths c.in_err-lengths.ensures some; known = λ e. absurd (some e) })
 
 pub returns-then-not-right : goal.returns-then-not-right
-returns-then-not-right c = record { code = AdmitsCode.names (rw c.if-code-ne0.false at c.lengths-code.ensures) (c.right.ensures.wrong c.if-not-right.true); known = λ e. absurd (omega arith) }
+returns-then-not-right c = record { code = AdmitsCode.names c.in_ok-lengths.ensures (c.right.ensures.wrong c.if-not-right.true); known = λ e. absurd (omega arith) }
 
 pub returns-then-symbols-rows : goal.returns-then-symbols-rows
 returns-then-symbols-rows c = record {
-  code = AdmitsCode.names_room (rw c.if-code-ne0.false at c.lengths-code.ensures) (c.right.ensures.right c.if-not-right.false) (omega (arith, c.if-symbols-rows.true));
+  code = AdmitsCode.names_room c.in_ok-lengths.ensures (c.right.ensures.right c.if-not-right.false) (omega (arith, c.if-symbols-rows.true));
   known = λ e. absurd (omega arith);
 }
 
@@ -19,6 +24,6 @@ pub returns : goal.returns
 returns c =
     let r = c.right.ensures in
     record {
-      code = AdmitsCode.right (rw c.if-code-ne0.false at c.lengths-code.ensures) (r.right c.if-not-right.false) (omega (arith, c.if-symbols-rows.false));
+      code = AdmitsCode.right c.in_ok-lengths.ensures (r.right c.if-not-right.false) (omega (arith, c.if-symbols-rows.false));
       known = λ e. r.known c.if-not-right.false;
     }

@@ -1,15 +1,14 @@
 -- `listed` meets its contract: what the two searches found, with the numbers of the token, and else what the profile says.
 use Rattle.door.specs.Entry.{ListChecked}
-use Rattle.door.proofs.Searching.{first_of, all_have}
 use Rattle.door.proofs.listed.Goals as goal
 
-pub returns-then-bad-count : goal.returns-then-bad-count
-returns-then-bad-count c = rw (c.start_at.ensures, c.end_at.ensures) (ListChecked.unsound (first_of c.if-bad-count.true c.first_unsound-bad.ensures))
+pub returns-in-Some : goal.returns-in-Some
+returns-in-Some c = rw c.at_token.ensures (ListChecked.unsound c.in-Some.ensures)
 
-pub returns-then-open-count : goal.returns-then-open-count
-returns-then-open-count c = rw (c.start_at-then-open-count.ensures, c.end_at-then-open-count.ensures) (ListChecked.unclosed (all_have c.first_unsound-bad.ensures c.if-bad-count.false) (first_of c.if-open-count.true c.first_unclosed-open.ensures))
+pub returns-in-Some-first_unclosed : goal.returns-in-Some-first_unclosed
+returns-in-Some-first_unclosed c = rw c.at_token-in-Some-first_unclosed.ensures (ListChecked.unclosed c.in_default.ensures c.in-Some-first_unclosed.ensures)
 
 pub returns : goal.returns
 returns c =
     let (w, a) = c.requires in
-    ListChecked.lent (record { whole = w; ascii = a; sound = all_have c.first_unsound-bad.ensures c.if-bad-count.false; closed = all_have c.first_unclosed-open.ensures c.if-open-count.false }) c.within.ensures
+    ListChecked.lent (record { whole = w; ascii = a; sound = c.in_default.ensures; closed = c.in_default-first_unclosed.ensures }) c.within.ensures
