@@ -18,7 +18,7 @@ use Rattle.grammar.specs.Room.{Rooms}
 use Rattle.grammar.specs.Token.{count}
 use Rattle.grammar.proofs.Answers.{one_first as one_place, one_turn, lent_admitted, admitted_not_wrong}
 use Rattle.grammar.proofs.Demands.{turned_code}
-use Rattle.door.specs.Entry.{Highest, TextChecked, AsksLengths, lengths_code, LengthsChecked, AdmitsCode, at_token, ProfileChecked, ListChecked, entry_numbers, Enters, Told, Entered, Entry, open_entry, outright, number_of}
+use Rattle.door.specs.Entry.{Highest, AsksLengths, lengths_code, LengthsChecked, AdmitsCode, at_token, ProfileChecked, ListChecked, entry_numbers, Enters, Told, Entered, Entry, open_entry, outright, number_of}
 use Rattle.door.specs.declared.Refusal.{Refusal}
 use Rattle.door.specs.declared.wrong.Wrong.{Wrong as Fault}
 use Rattle.door.proofs.Searching.{Passed, passed_more}
@@ -158,12 +158,9 @@ right_so_far (AdmitsCode.names x w) e = absurd (omega arith)
 right_so_far (AdmitsCode.names_room x r f) e = absurd (omega arith)
 right_so_far (AdmitsCode.right x r f) e = right_lengths x
 
--- no byte is over 127 where the highest is not, and where check 5 finds none
+-- no byte is over 127 where the highest is not
 pub none_high : {text : List ℕ} {r : ℕ} → Highest text (length text) r → r ≤ 127 → Ascii text
 none_high x h i s = omega (arith, x.most i s)
-
-pub all_low : {text : List ℕ} → TextChecked text open_entry → Ascii text
-all_low (TextChecked.low h) = h
 
 listed_told : {p : Profile} {text ts : List ℕ} {r : Entry} → ListChecked p text ts r → Told r
 listed_told (ListChecked.unsound f) = omega arith
@@ -193,8 +190,8 @@ module _ {p : Profile} {names : Builtins} {text ts : List ℕ} {edition limit sy
   pub by_code : (k ≡ 0 → ⊥) → Entered p names text ts edition limit symbols scratch (Err (outright k))
   by_code n = record { told = omega arith; says = λ rooms e f. unadmitted p names text ts edition limit rooms (rw (e, f) m) n }
 
-  pub by_text : {q : Refusal} → k ≡ 0 → TextChecked text (Err q) → Entered p names text ts edition limit symbols scratch (Err q)
-  by_text z (TextChecked.high g) = record { told = omega arith; says = λ rooms e f. turned (Wrong.byte g) (admits p names text ts edition limit rooms (rw (e, f) m) z) }
+  pub by_byte : {i : ℕ} → k ≡ 0 → FirstWithout (λ j. get_or text j 0 ≤ 127) (length text) i → Entered p names text ts edition limit symbols scratch (Err (record { code = 5; at = 0; start = i; end = i + 1 }))
+  by_byte z g = record { told = omega arith; says = λ rooms e f. turned (Wrong.byte g) (admits p names text ts edition limit rooms (rw (e, f) m) z) }
 
   pub by_list : {q : Entry} → k ≡ 0 → Ascii text → ListChecked p text ts q → Entered p names text ts edition limit symbols scratch q
   by_list z h l = record { told = listed_told l; says = λ rooms e f. listing p names text ts edition limit rooms (passed_more (admits p names text ts edition limit rooms (rw (e, f) m) z) (omega arith) h) l }

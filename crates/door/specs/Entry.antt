@@ -4,7 +4,7 @@ use Rattle.builtins.specs.Known.{Known}
 use Rattle.grammar.specs.Answer.{Answer, refuse}
 use Rattle.grammar.specs.Builtin.{Builtins, built, RightNames}
 use Rattle.grammar.specs.Call.{Call}
-use Rattle.grammar.specs.Door.{RightList, RightScratch, RightSymbols, RightEdition, Ascii, Sound, Closed, Inside, Lent, Admitted, FirstWithout, TurnedAway}
+use Rattle.grammar.specs.Door.{RightList, RightScratch, RightSymbols, RightEdition, Sound, Closed, Inside, Lent, Admitted, FirstWithout, TurnedAway}
 use Rattle.grammar.specs.Profile.{Profile}
 use Rattle.grammar.specs.Room.{Rooms, symbol_width}
 use Rattle.grammar.specs.Token.{count, start, end}
@@ -81,11 +81,6 @@ outright code = record { code = code; at = 0; start = 0; end = 0 }
 
 abbrev pub turned_at : (code : ℕ) (ts : List ℕ) → ℕ → Refusal
 turned_at code ts i = record { code = code; at = i; start = start ts i; end = end ts i }
-
--- check 5: the first byte over 127, or none is
-pub data TextChecked (text : List ℕ) : Entry → Type 0 where
-  high : {i : ℕ} → FirstWithout (λ j. get_or text j 0 ≤ 127) (length text) i → TextChecked text (Err (record { code = 5; at = 0; start = i; end = i + 1 }))
-  low : Ascii text → TextChecked text open_entry
 
 abbrev pub at_token : (code : ℕ) (ts : List ℕ) → ℕ → Entry
 at_token code ts i = Err (turned_at code ts i)

@@ -12,7 +12,7 @@ ghost use Rattle.grammar.specs.Token.{count};
 ghost use Rattle.spelling.specs.Decides.{Decides};
 ghost use Rattle.spelling.specs.Words.{table};
 ghost use Rattle.token.specs.Profiled.{profiled};
-ghost use Rattle.door.specs.Entry.{number_of, code_of, outright, turned_at, Searched, Highest, TextChecked, LengthsChecked, Admits, ProfileChecked, ListChecked, Checked};
+ghost use Rattle.door.specs.Entry.{number_of, code_of, outright, turned_at, Searched, Highest, LengthsChecked, Admits, ProfileChecked, ListChecked, Checked};
 
 use builtins::{NAME_WIDTH, right};
 use lexeme::fits;
@@ -142,14 +142,6 @@ pub fn admit(
     Ok(())
 }
 
-// The first byte over 127.
-// Ruled out: a later byte over 127; none where there is one.
-pub fn first_high(text: &[u8]) -> Option<usize>
-    ensures { Searched (λ i. get_or text.now i 0 ≤ 127) (length text.now) result }
-{
-    text.iter().position(|byte| HIGHEST_BYTE < *byte)
-}
-
 // The highest byte, or 0 of an empty text. The fold has no other way out, so that many bytes are compared at once.
 // Ruled out: the last byte; a byte that the text does not have.
 pub fn highest(text: &[u8]) -> u8
@@ -158,23 +150,15 @@ pub fn highest(text: &[u8]) -> u8
     text.iter().fold(0, |high, byte| high.max(*byte))
 }
 
-// Check 5, of a text that check 2 let through.
-fn ascii(text: &[u8]) -> Result<(), Refusal>
-    requires { length text.now ≤ 65536 }
-    ensures { TextChecked text.now result }
+// The first byte over 127: it is looked for only where the highest is one.
+// Ruled out: a later byte over 127; none where there is one.
+pub fn first_high(text: &[u8]) -> Option<usize>
+    ensures { Searched (λ i. get_or text.now i 0 ≤ 127) (length text.now) result }
 {
     if highest(text) <= HIGHEST_BYTE {
-        return Ok(());
+        return None;
     }
-    match first_high(text) {
-        Some(high) => Err(Refusal {
-            code: Wrong::Byte as u32,
-            at: 0,
-            start: high as u32,
-            end: (high + 1) as u32,
-        }),
-        None => Ok(()),
-    }
+    text.iter().position(|byte| HIGHEST_BYTE < *byte)
 }
 
 // Whether a token is none of the bad ones of check 6. It asks for the table of crate spelling.
@@ -294,6 +278,13 @@ pub fn check(
         symbols,
         scratch,
     )?;
-    ascii(text)?;
+    if let Some(high) = first_high(text) {
+        return Err(Refusal {
+            code: Wrong::Byte as u32,
+            at: 0,
+            start: high as u32,
+            end: (high + 1) as u32,
+        });
+    }
     listed(text, tokens, profile)
 }

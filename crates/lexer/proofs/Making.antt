@@ -15,7 +15,7 @@ use Rattle.grammar.specs.Token.{count}
 use Rattle.lexer.specs.Reads.{blank, Stands, Longest, Blank, TextReads, Stops}
 use Rattle.lexer.specs.Parts.{StartCase, Starts, Capacity, Kept}
 use Rattle.lexer.specs.Lexes.{success, refuse, Readable, Lexes}
-use Rattle.lexer.specs.declared.Found.{Found}
+use Rattle.std.specs.Prelude.{Option, Some, None}
 use Rattle.lexer.proofs.Standing.{stands_some}
 
 -- what the parts say at a place
@@ -32,11 +32,11 @@ module _ {text : List ℕ} {i : ℕ} where
       so : (b : Bool) → b ≡ false → T b → ⊥
       so b z t = rw z at t
 
-  pub token_there : {r : Found} {k e : ℕ} → r ≡ Found.Token k e → Starts text i r → Longest text k i e
+  pub token_there : {r : Option (ℕ × ℕ)} {k e : ℕ} → r ≡ Some (k, e) → Starts text i r → Longest text k i e
   unfolding StartCase
   token_there z s = (rw z at s).says
 
-  pub nothing_there : {r : Found} → r ≡ Found.Nothing → Starts text i r → (k e : ℕ) → Stands text k i e → ⊥
+  pub nothing_there : {r : Option (ℕ × ℕ)} → r ≡ None → Starts text i r → (k e : ℕ) → Stands text k i e → ⊥
   unfolding StartCase
   nothing_there z s = (rw z at s).says
 

@@ -31,7 +31,7 @@ one = a_number refl (ended (run_on_some digits rest_shy (λ z. omega arith)) (lo
 
 point : Longest text Dot 1 2
 unfolding spelling
-point = one_byte (other_byte 46 (λ z. omega arith) (λ z. omega arith) (λ z. absurd (omega arith)) (λ z. absurd (omega arith)) (λ z. absurd (omega arith))) (record { no_two = λ k h l z. absurd (omega arith) }) (Spelt.sign {k = Dot} (omega arith) refl) (omega arith) (omega arith)
+point = one_byte (other_byte 46 (λ z. omega arith) (λ z. omega arith) (λ z. absurd (omega arith)) (λ z. absurd (omega arith)) (λ z. absurd (omega arith))) (record { no_two = λ k h l z. absurd (omega arith) }) (Spelt.sign {k = Dot} (omega arith) refl) (omega arith)
 
 x : Longest text Identifier 2 3
 x = a_word refl (ended (byte_on (omega arith) refl) (many_stop (omega arith) (λ h. absurd (omega arith)))) (Word.name (too_short (bytes "x") (omega arith)))

@@ -1,4 +1,5 @@
 -- The longest token at a place, by what its first byte lets stand there.
+use Rattle.std.specs.Prelude.{Some, None}
 use Prim.Native.Nat.{ℕ, ◌+◌, ◌≤◌, ◌<◌}
 use mathlib.Core.Bool.{true}
 use mathlib.Core.List.{List, [], ◌∷◌}
@@ -68,9 +69,8 @@ spelt_fits k {x} e some = record { lexeme = λ h. rw (spelled_pattern k (apart 4
 pub record Alone (text : List ℕ) (i : ℕ) : Type 0 where
   pub no_two : (k : ℕ) → k < Eof → i + 1 < length text → get_or text (i + 1) 0 ≡ 61 → get_or text i 0 ∷ 61 ∷ [] ≡ spelling k → ⊥
 
-pub not_spelt : {x : List ℕ} {j : ℕ} → Spelt x j → Eof ≤ j → (k : ℕ) → k < Eof → x ≡ spelling k → ⊥
-not_spelt (Spelt.sign h e) l = absurd (omega arith)
-not_spelt (Spelt.none f) l = f
+pub not_spelt : {x : List ℕ} → Spelt x None → (k : ℕ) → k < Eof → x ≡ spelling k → ⊥
+not_spelt (Spelt.none f) = f
 
 -- signs
 module _ {text : List ℕ} {i : ℕ} (o : OtherByte (get_or text i 0)) where
@@ -90,22 +90,19 @@ module _ {text : List ℕ} {i : ℕ} (o : OtherByte (get_or text i 0)) where
   spelt_there : {k e : ℕ} → k < Eof → i < e → e ≤ length text → lexeme text i e ≡ spelling k → Stands text k i e
   spelt_there {k} {e} h l m z = record { known = h; forward = omega arith; inside = m; fits = spelt_fits k z (λ n. let y = lexeme_first text i e l m in let x : ◌≡◌ {A = ℕ} 0 1 = cc in omega arith) }
 
-  pub two_bytes : {k : ℕ} → Spelt (get_or text i 0 ∷ 61 ∷ []) k → k < Eof → i + 1 < length text → get_or text (i + 1) 0 ≡ 61 → Longest text k i (i + 1 + 1)
-  two_bytes (Spelt.sign {k = k} u x) h l q =
+  pub two_bytes : {k : ℕ} → Spelt (get_or text i 0 ∷ 61 ∷ []) (Some k) → i + 1 < length text → get_or text (i + 1) 0 ≡ 61 → Longest text k i (i + 1 + 1)
+  two_bytes (Spelt.sign h x) l q =
       record {
         stands = spelt_there h (omega arith) (omega arith) (lexeme_first text i (i + 1 + 1) (omega arith) (omega arith) ∙ rw (lexeme_first text (i + 1) (i + 1 + 1) (omega arith) (omega arith), q, lexeme_none text (i + 1 + 1) (i + 1 + 1) refl) x);
         longest = λ l e s. ⊎_elim (λ z. omega arith) (λ z. omega arith) (one_or_two s);
       }
-  two_bytes (Spelt.none n) h l q = absurd (omega arith)
 
-  pub one_byte : {k : ℕ} → Alone text i → Spelt (get_or text i 0 ∷ []) k → k < Eof → i < length text → Longest text k i (i + 1)
-  one_byte a (Spelt.sign {k = k} u x) h l =
+  pub one_byte : {k : ℕ} → Alone text i → Spelt (get_or text i 0 ∷ []) (Some k) → i < length text → Longest text k i (i + 1)
+  one_byte a (Spelt.sign h x) l =
       record {
         stands = spelt_there h (omega arith) (omega arith) (lexeme_first text i (i + 1) (omega arith) (omega arith) ∙ rw (lexeme_none text (i + 1) (i + 1) refl) x);
         longest = λ l e s. ⊎_elim (λ z. omega arith) (λ z. absurd (a.no_two l s.known (omega (arith, s.inside)) z.1 z.2)) (one_or_two s);
       }
-  one_byte a (Spelt.none n) h l = absurd (omega arith)
 
-  pub no_byte : {k : ℕ} → Alone text i → Spelt (get_or text i 0 ∷ []) k → (k < Eof → ⊥) → (l e : ℕ) → Stands text l i e → ⊥
-  no_byte a (Spelt.sign h x) n l e s = n h
-  no_byte a (Spelt.none f) n l e s = ⊎_elim (λ z. f l s.known z.1) (λ z. a.no_two l s.known (omega (arith, s.inside)) z.1 z.2) (one_or_two s)
+  pub no_byte : Alone text i → Spelt (get_or text i 0 ∷ []) None → (l e : ℕ) → Stands text l i e → ⊥
+  no_byte a (Spelt.none f) l e s = ⊎_elim (λ z. f l s.known z.1) (λ z. a.no_two l s.known (omega (arith, s.inside)) z.1 z.2) (one_or_two s)

@@ -112,6 +112,13 @@ module _ {test : ℕ → Bool} {text : List ℕ} {i : ℕ} where
   pub many_stop : i ≤ length text → (i < length text → test (get_or text i 0) ≡ false) → StretchEnds (many (byte test)) text i i
   many_stop h f = stays h (many_none (byte test)) (λ e l m. at_first (many (byte test)) text i e l m ∙ many_on test _ _ ∙ rw (f (omega arith)))
 
+-- so many bytes of a test, up to j
+pub many_run : {test : ℕ → Bool} {text : List ℕ} {i : ℕ} (n j : ℕ) → j ≡ i + n → j ≤ length text → ((k : ℕ) → k < n → test (get_or text (i + k) 0) ≡ true) → Becomes (many (byte test)) (many (byte test)) text i j
+many_run {i = i} zero j e h f = let z : j ≡ i = omega arith in rw z (record { onward = omega arith; alike = λ e l m. refl })
+many_run {i = i} (suc n) j e h f =
+    let z : j ≡ i + n + 1 = omega arith in
+    rw z (becomes_then (many_run n (i + n) refl (omega arith) (λ k l. f k (omega arith))) (many_more {i = i + n} (omega arith) (f n (omega arith))))
+
 -- a run to the text's end is a run to any end past it
 run_cut : (test : ℕ → Bool) (xs : List ℕ) (k m : ℕ) → run test (take k xs) ≤ m → m ≤ k → run test (take m xs) ≡ run test (take k xs)
 run_cut test xs zero zero h l = refl

@@ -1,12 +1,11 @@
 -- What the parts of the maker answer: where the longest stretch ends that matches one pattern, which token stands at a place, and what the list room takes.
-use Rattle.std.specs.Prelude.{ℕ, ◌+◌, ◌*◌, ◌/◌, ◌≤◌, ◌<◌, false, List, [], ◌∷◌, ◌≡◌, length}
+use Rattle.std.specs.Prelude.{ℕ, ◌+◌, ◌*◌, ◌/◌, ◌≤◌, ◌<◌, false, List, [], ◌∷◌, ◌≡◌, length, Option, Some, None}
 use Rattle.ast.specs.Written.{Written}
 use Rattle.grammar.specs.Kind.{Eof}
 use Rattle.grammar.specs.Lexeme.{spelling, letter}
 use Rattle.grammar.specs.Pattern.{Pattern, Matches, digit}
 use Rattle.grammar.specs.Token.{lexeme}
 use Rattle.lexer.specs.Reads.{Stands, Longest}
-use Rattle.lexer.specs.declared.Found.{Found}
 
 -- the longest stretch from i that matches p ends at r
 pub record StretchEnds (p : Pattern) (text : List ℕ) (i r : ℕ) : Type 0 where
@@ -21,17 +20,17 @@ pub record OtherByte (x : ℕ) : Type 0 where
   pub no_digit : digit x ≡ false
   pub no_quote : x ≡ 34 → ⊥
 
--- the kind that is spelt so, or Eof for none
-pub data Spelt (x : List ℕ) : ℕ → Type 0 where
-  sign : {k : ℕ} → k < Eof → x ≡ spelling k → Spelt x k
-  none : ((k : ℕ) → k < Eof → x ≡ spelling k → ⊥) → Spelt x Eof
+-- the kind that is spelt so, or none is
+pub data Spelt (x : List ℕ) : Option ℕ → Type 0 where
+  sign : {k : ℕ} → k < Eof → x ≡ spelling k → Spelt x (Some k)
+  none : ((k : ℕ) → k < Eof → x ≡ spelling k → ⊥) → Spelt x None
 
--- the longest token that stands at i, or nothing where none does
-unfoldable pub StartCase : List ℕ → ℕ → Found → Type 0
-StartCase text i (Found.Token k e) = Longest text k i e
-StartCase text i Found.Nothing = (k e : ℕ) → Stands text k i e → ⊥
+-- the kind and the end of the longest token that stands at i, or nothing where none does
+unfoldable pub StartCase : List ℕ → ℕ → Option (ℕ × ℕ) → Type 0
+StartCase text i (Some t) = Longest text t.0 i t.1
+StartCase text i None = (k e : ℕ) → Stands text k i e → ⊥
 
-pub record Starts (text : List ℕ) (i : ℕ) (r : Found) : Type 0 where
+pub record Starts (text : List ℕ) (i : ℕ) (r : Option (ℕ × ℕ)) : Type 0 where
   pub says : StartCase text i r
 
 -- how many tokens a room of so many numbers can take: whole rows, and 4,096 at most

@@ -7,13 +7,13 @@ ghost use Rattle.lexer.specs.Lexes.{refuse, Readable, Lexes};
 ghost use Rattle.lexer.specs.Parts.{Capacity, Kept};
 
 use ast::room::{clear, push};
-use door::{first_high, highest};
+use door::first_high;
 use scan::{is_blank, token_at};
 use spelling::words;
 use token::kinds;
 
 // Code, how many tokens, at, start, end, expected.
-#[derive(Drop)]
+#[derive(Clone, Copy, PartialEq, Eq)]
 pub struct Lexed {
     pub code: u32,
     pub count: u32,
@@ -23,23 +23,16 @@ pub struct Lexed {
     pub expected: u32,
 }
 
-// A token's kind and end, or nothing.
-#[derive(Drop)]
-enum Found {
-    Token(u32, usize),
-    Nothing,
-}
-
 // A refusal, with its place in the text or zeros.
 fn refused(code: u32, start: u32, end: u32) -> Lexed
     ensures { result ≡ refuse code start end }
 {
     Lexed {
-        code: code,
+        code,
         count: 0,
         at: 0,
-        start: start,
-        end: end,
+        start,
+        end,
         expected: 255,
     }
 }
@@ -48,11 +41,7 @@ fn refused(code: u32, start: u32, end: u32) -> Lexed
 fn capacity(numbers: usize) -> usize
     ensures { Capacity numbers result }
 {
-    let rows = numbers / 3;
-    if 4096 < rows {
-        return 4096;
-    }
-    rows
+    (numbers / 3).min(4096)
 }
 
 // Writes token `count`, where the list can take it.
@@ -79,8 +68,7 @@ fn tokens(text: &[u8], list: &mut [u32]) -> Lexed
             at += 1;
             continue;
         }
-        let found = token_at(&table, text, at);
-        let Found::Token(kind, end) = found else {
+        let Some((kind, end)) = token_at(&table, text, at) else {
             clear(list, 0);
             return refused(16, at as u32, (at + 1) as u32);
         };
@@ -113,8 +101,7 @@ pub fn lex(text: &[u8], list: &mut [u32]) -> Lexed
     if 65536 < text.len() {
         return refused(2, 0, 0);
     }
-    if 127 < highest(text) {
-        let high = first_high(text);
+    if let Some(high) = first_high(text) {
         return refused(5, high as u32, (high + 1) as u32);
     }
     tokens(text, list)

@@ -7,7 +7,6 @@ ghost use Rattle.spelling.specs.Words.{table};
 ghost use Rattle.lexer.specs.Reads.{blank};
 ghost use Rattle.lexer.specs.Parts.{StretchEnds, OtherByte, Spelt, Starts};
 
-use crate::Found;
 use lexeme::{digits, is_letter_or_digit, keyword};
 use token::kinds;
 
@@ -15,14 +14,11 @@ use token::kinds;
 pub(crate) fn is_blank(byte: u8) -> bool
     ensures { result ≡ blank byte }
 {
-    match byte {
-        9 | 10 | 12 | 13 | 32 => true,
-        _ => false,
-    }
+    matches!(byte, b' ' | b'\t' | 12 | b'\r' | b'\n')
 }
 
-// The longest token that starts at a byte of the text. It asks for the table of crate spelling.
-pub(crate) fn token_at(words: &[u8], text: &[u8], start: usize) -> Found
+// The longest token that starts at a byte of the text: its kind and its end. It asks for the table of crate spelling.
+pub(crate) fn token_at(words: &[u8], text: &[u8], start: usize) -> Option<(u32, usize)>
     requires { (words.now ≡ table) × (start < length text.now) }
     ensures { Starts text.now start result }
 {
@@ -30,14 +26,14 @@ pub(crate) fn token_at(words: &[u8], text: &[u8], start: usize) -> Found
         b'"' => {
             let end = string_end(text, start);
             if end == start {
-                return Found::Nothing;
+                return None;
             }
-            Found::Token(kinds::STRING_LITERAL, end)
+            Some((kinds::STRING_LITERAL, end))
         }
-        b'0'..=b'9' => Found::Token(kinds::NUMBER_LITERAL, number_end(text, start)),
+        b'0'..=b'9' => Some((kinds::NUMBER_LITERAL, number_end(text, start))),
         b'A'..=b'Z' | b'_' | b'a'..=b'z' => {
             let end = word_end(words, text, start);
-            Found::Token(keyword(words, text, start, end), end)
+            Some((keyword(words, text, start, end), end))
         }
         _ => sign_at(text, start),
     }
@@ -48,14 +44,14 @@ fn word_end(words: &[u8], text: &[u8], start: usize) -> usize
     requires { (words.now ≡ table) × (start < length text.now) × (letter (get_or text.now start 0) ≡ true) }
     ensures { StretchEnds identifier text.now start result }
 {
-    let mut at = start + 1;
-    while at < text.len() {
-        if !is_letter_or_digit(words, text[at]) {
-            return at;
-        }
-        at += 1;
+    let from = start + 1;
+    match text[from..]
+        .iter()
+        .position(|byte| !is_letter_or_digit(words, *byte))
+    {
+        Some(more) => from + more,
+        None => text.len(),
     }
-    at
 }
 
 // The end of the number that starts with a digit: [0-9]+(\.[0-9]+)?([eE][+-]?[0-9]+)?
@@ -149,65 +145,61 @@ fn string_end(text: &[u8], start: usize) -> usize
 }
 
 // The sign that starts at a byte: with `=` after it, or alone.
-fn sign_at(text: &[u8], start: usize) -> Found
+fn sign_at(text: &[u8], start: usize) -> Option<(u32, usize)>
     requires { (start < length text.now) × OtherByte (get_or text.now start 0) }
     ensures { Starts text.now start result }
 {
     let first = text[start];
     let next = start + 1;
-    if next < text.len() {
-        let second = text[next];
-        if second == b'=' {
-            let kind = doubled(first);
-            if kind < kinds::EOF {
-                return Found::Token(kind, next + 1);
-            }
-        }
+    let pair = if next < text.len() && text[next] == b'=' {
+        doubled(first)
+    } else {
+        None
+    };
+    if let Some(kind) = pair {
+        return Some((kind, next + 1));
     }
-    let kind = single(first);
-    if kind < kinds::EOF {
-        return Found::Token(kind, next);
-    }
-    Found::Nothing
+    let kind = single(first)?;
+    Some((kind, next))
 }
 
-// The kind of a byte with `=` after it, or Eof.
-fn doubled(byte: u8) -> u32
+// The kind of a byte with `=` after it.
+fn doubled(byte: u8) -> Option<u32>
     ensures { Spelt (byte ∷ 61 ∷ []) result }
 {
     match byte {
-        b'!' => kinds::NOT_EQUAL,
-        b'<' => kinds::LESS_EQUAL,
-        b'=' => kinds::EQUAL,
-        b'>' => kinds::GREATER_EQUAL,
-        _ => kinds::EOF,
+        b'!' => Some(kinds::NOT_EQUAL),
+        b'<' => Some(kinds::LESS_EQUAL),
+        b'=' => Some(kinds::EQUAL),
+        b'>' => Some(kinds::GREATER_EQUAL),
+        _ => None,
     }
 }
 
-// The kind of a byte alone, or Eof.
-fn single(byte: u8) -> u32
+// The kind of a byte alone.
+fn single(byte: u8) -> Option<u32>
     ensures { Spelt (byte ∷ []) result }
 {
     match byte {
-        b'#' => kinds::HASH,
-        b'%' => kinds::MODULO,
-        b'(' => kinds::LEFT_PAREN,
-        b')' => kinds::RIGHT_PAREN,
-        b'*' => kinds::MULTIPLY,
-        b'+' => kinds::PLUS,
-        b',' => kinds::COMMA,
-        b'-' => kinds::MINUS,
-        b'.' => kinds::DOT,
-        b'/' => kinds::DIVIDE,
-        b':' => kinds::COLON,
-        b';' => kinds::SEMICOLON,
-        b'<' => kinds::LESS,
-        b'=' => kinds::ASSIGN,
-        b'>' => kinds::GREATER,
-        b'^' => kinds::CARET,
-        b'{' => kinds::LEFT_BRACE,
-        b'|' => kinds::PIPE,
-        b'}' => kinds::RIGHT_BRACE,
-        _ => kinds::EOF,
+        b'#' => Some(kinds::HASH),
+        b'%' => Some(kinds::MODULO),
+        b'(' => Some(kinds::LEFT_PAREN),
+        b')' => Some(kinds::RIGHT_PAREN),
+        b'*' => Some(kinds::MULTIPLY),
+        b'+' => Some(kinds::PLUS),
+        b',' => Some(kinds::COMMA),
+        b'-' => Some(kinds::MINUS),
+        b'.' => Some(kinds::DOT),
+        b'/' => Some(kinds::DIVIDE),
+        b':' => Some(kinds::COLON),
+        b';' => Some(kinds::SEMICOLON),
+        b'<' => Some(kinds::LESS),
+        b'=' => Some(kinds::ASSIGN),
+        b'>' => Some(kinds::GREATER),
+        b'^' => Some(kinds::CARET),
+        b'{' => Some(kinds::LEFT_BRACE),
+        b'|' => Some(kinds::PIPE),
+        b'}' => Some(kinds::RIGHT_BRACE),
+        _ => None,
     }
 }

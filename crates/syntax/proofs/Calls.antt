@@ -7,8 +7,8 @@ use mathlib.Core.Path.{◌≡◌, refl, sym, ap, ◌∙◌}
 use lib.ListN.{length, take}
 use lib.Seq.{length-take-le}
 use Rattle.builtins.specs.Known.{Known}
-use Rattle.door.specs.Entry.{entry_numbers, Entered}
-use Rattle.door.specs.declared.Entry.{Entry}
+use Rattle.std.specs.Prelude.{Err}
+use Rattle.door.specs.Entry.{Entry, open_entry, entry_numbers, Entered}
 use Rattle.door.specs.declared.Refusal.{Refusal as Turned}
 use Rattle.door.proofs.Codes.{opened, shut}
 use Rattle.grammar.specs.Answer.{success, rooms_cleared, rooms_filled, Answers}
@@ -175,8 +175,8 @@ module _ {p : Profile} {names : Builtins} {index text ts : List ℕ} {edition li
 -- what the door's answer says, by its case
 module _ {p : Profile} {names : Builtins} {text ts : List ℕ} {edition limit : ℕ} {before : Rooms} {e : Entry}
     (a : Entered p names text ts edition limit (length before.symbols) (length before.scratch) e) where
-  pub let_in : {index : List ℕ} → Known names index → e ≡ Entry.Open → LetIn p names index text ts edition limit before
+  pub let_in : {index : List ℕ} → Known names index → e ≡ open_entry → LetIn p names index text ts edition limit before
   let_in k h = record { admitted = opened ((rw h at a).says before refl refl) refl; known = k }
 
-  pub turned : {q : Turned} {r : Numbers} → e ≡ Entry.Refused q → numbers r ≡ entry_numbers (Entry.Refused q) → Parsed p names text ts edition limit before before r
+  pub turned : {q : Turned} {r : Numbers} → e ≡ Err q → numbers r ≡ entry_numbers (Err q) → Parsed p names text ts edition limit before before r
   turned h n = let b = rw h at a in record { answers = rw n (shut (b.says before refl refl) b.told) }

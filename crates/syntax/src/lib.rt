@@ -4,6 +4,7 @@
 ghost use Rattle.std.specs.Prelude.{◌≡◌, ◌≤◌, ◌<◌, length};
 ghost use Rattle.grammar.specs.Answer.{refuse};
 ghost use Rattle.grammar.specs.Builtin.{builtins as names_in, none};
+ghost use Rattle.builtins.specs.Known.{blank_index};
 ghost use Rattle.door.specs.Entry.{Checked};
 ghost use Rattle.grammar.specs.Door.{Lent};
 ghost use Rattle.grammar.specs.Kaori as form;
@@ -17,7 +18,7 @@ ghost use Rattle.token.specs.Profiled.{profiled};
 use ast::room::{clear, link, push};
 use ast::{ABSENT, LINK_WIDTH, NODE_WIDTH, Node};
 use builtins::INDEX;
-use door::{Entry, admit, check, within};
+use door::{admit, check, within};
 use names::resolve;
 use parents::adopt;
 use parser::readers::{expression, statement};
@@ -49,14 +50,14 @@ pub fn refused(code: u32, at: u32, start: u32, end: u32, expected: u32) -> Numbe
 {
     let rows = 0;
     Numbers {
-        code: code,
+        code,
         nodes: rows,
         links: rows,
         symbols: rows,
-        at: at,
-        start: start,
-        end: end,
-        expected: expected,
+        at,
+        start,
+        end,
+        expected,
     }
 }
 
@@ -258,10 +259,7 @@ fn answer(
     ensures { Parsed (profiled profile) (names_in names.now rows.now) text.now tokens.now edition limit (rooms nodes.old links.old symbols.old scratch.old) (rooms nodes.new links.new symbols.new scratch.new) result }
 {
     let known = resolve(names, rows, index, text, tokens, symbols, scratch);
-    let terms = Terms {
-        edition: edition,
-        limit: limit,
-    };
+    let terms = Terms { edition, limit };
     let read = tree(tokens, nodes, links, scratch, terms, profile);
     match read {
         Read::Refused(why) => cut(tokens, nodes, links, symbols, scratch, why),
@@ -271,7 +269,7 @@ fn answer(
 
 // The answer of a call, of what the door says of it.
 fn enter(
-    entry: Entry,
+    entry: Result<(), door::Refusal>,
     names: &[u8],
     rows: &[u32],
     index: &[u32],
@@ -289,12 +287,42 @@ fn enter(
     ensures { Parsed (profiled profile) (names_in names.now rows.now) text.now tokens.now edition limit (rooms nodes.old links.old symbols.old scratch.old) (rooms nodes.new links.new symbols.new scratch.new) result }
 {
     match entry {
-        Entry::Refused(why) => refused(why.code, why.at, why.start, why.end, codes::NO_KIND),
-        Entry::Open => answer(
+        Err(why) => refused(why.code, why.at, why.start, why.end, codes::NO_KIND),
+        Ok(()) => answer(
             names, rows, index, text, tokens, profile, edition, limit, nodes, links, symbols,
             scratch,
         ),
     }
+}
+
+// What the door says of a call whose text and list have what checks 1 and 5 to 7 ask: where it is let in, `index` is the built-in names' own.
+fn lent(
+    names: &[u8],
+    rows: &[u32],
+    index: &mut [u32],
+    text: &[u8],
+    tokens: &[u32],
+    profile: Profile,
+    edition: u32,
+    limit: u32,
+    symbols: usize,
+    scratch: usize,
+) -> Result<(), door::Refusal>
+    requires { (index.old ≡ blank_index) × Lent text.now tokens.now }
+    ensures { Checked (profiled profile) (names_in names.now rows.now) text.now tokens.now edition limit symbols scratch index.new result }
+{
+    admit(
+        names,
+        rows,
+        index,
+        tokens.len(),
+        text.len(),
+        edition,
+        limit,
+        symbols,
+        scratch,
+    )?;
+    within(tokens, profile)
 }
 
 // Reads a script or a guard as `parse_as` does, but looks at lengths, the edition, the limit, the built-in names and the profile alone. It asks that text and list have
@@ -316,21 +344,18 @@ pub fn parse_checked(
     ensures { Parsed (profiled profile) (names_in names.now rows.now) text.now tokens.now edition limit (rooms nodes.old links.old symbols.old scratch.old) (rooms nodes.new links.new symbols.new scratch.new) result }
 {
     let mut index: [u32; INDEX] = [0; INDEX];
-    let code = admit(
+    let entry = lent(
         names,
         rows,
         &mut index,
-        tokens.len(),
-        text.len(),
+        text,
+        tokens,
+        profile,
         edition,
         limit,
         symbols.len(),
         scratch.len(),
     );
-    if code != 0 {
-        return refused(code, 0, 0, 0, codes::NO_KIND);
-    }
-    let entry = within(tokens, profile);
     enter(
         entry, names, rows, &index, text, tokens, profile, edition, limit, nodes, links, symbols,
         scratch,

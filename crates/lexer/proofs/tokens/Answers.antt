@@ -8,20 +8,20 @@ pub loop-at-preserved-then-is_blank : goal.loop-at-preserved-then-is_blank
 loop-at-preserved-then-is_blank c = made_blank c.loop-at.invariant (a_blank c.loop-at-test.true c.is_blank.ensures c.if-is_blank.true)
 
 pub returns-in_default : goal.returns-in_default
-returns-in_default c = rw c.refused.ensures (stopped c.loop-at.invariant c.requires c.loop-at-test.true (no_blank c.is_blank.ensures c.if-is_blank.false) (nothing_there c.in_default.is c.token_at-found.ensures) c.clear.ensures)
+returns-in_default c = rw c.refused.ensures (stopped c.loop-at.invariant c.requires c.loop-at-test.true (no_blank c.is_blank.ensures c.if-is_blank.false) (nothing_there c.in_default.is c.token_at.ensures) c.clear.ensures)
 
 pub keep-requires : goal.keep-requires
 keep-requires c =
-    let token = token_there c.in-Token.is c.token_at-found.ensures in
+    let token = token_there c.in-Some.is c.token_at.ensures in
     omega (arith, c.capacity-rows.ensures.rows, c.loop-at.invariant.same, c.loop-at.invariant.within, token.stands.inside, c.requires.short)
 
 pub loop-at-smaller : goal.loop-at-smaller
 loop-at-smaller c =
-    let token = token_there c.in-Token.is c.token_at-found.ensures in
+    let token = token_there c.in-Some.is c.token_at.ensures in
     omega (arith, stands_some token.stands, token.stands.inside)
 
 pub loop-at-preserved : goal.loop-at-preserved
-loop-at-preserved c = made_token c.loop-at.invariant (token_there c.in-Token.is c.token_at-found.ensures) c.keep.ensures
+loop-at-preserved c = made_token c.loop-at.invariant (token_there c.in-Some.is c.token_at.ensures) c.keep.ensures
 
 pub returns-then-rows-count : goal.returns-then-rows-count
 returns-then-rows-count c =

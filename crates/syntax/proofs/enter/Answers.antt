@@ -4,9 +4,9 @@ use Rattle.syntax.proofs.enter.Goals as goal
 
 pub answer-requires : goal.answer-requires
 answer-requires c =
-    let open-here = c.in-Open.is in
+    let open-here = c.in-Ok.is in
     let checked = c.requires in
     let_in checked.entered (checked.known open-here) open-here
 
-pub returns-in-Refused : goal.returns-in-Refused
-returns-in-Refused c = turned c.requires.entered c.in-Refused.is c.refused.ensures
+pub returns-in-Err : goal.returns-in-Err
+returns-in-Err c = turned c.requires.entered c.in-Err.is c.refused.ensures
