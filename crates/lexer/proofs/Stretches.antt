@@ -15,7 +15,7 @@ use Rattle.grammar.proofs.Patterns.{matches_sound, matches_whole}
 use Rattle.grammar.specs.Run.{run, Ran}
 use Rattle.grammar.proofs.Runs.{run_on}
 use Rattle.lexeme.proofs.Runs.{some_read, none_read}
-use Rattle.grammar.proofs.Lexemes.{at_first, at_end}
+use Rattle.grammar.proofs.Lexemes.{at_first, at_end, lexeme_drop}
 use Rattle.grammar.proofs.Matching.{Shy, byte_then, either_says, many_none, many_on, only_empty, shy_nothing, then_nothing, whole_empty}
 use Rattle.grammar.proofs.Tests.{as_true}
 use Rattle.lexer.specs.Parts.{StretchEnds}
@@ -136,6 +136,10 @@ run_cut test (x ∷ xs) (suc k) (suc m) h l = go (test x) h (λ i. run_cut test 
     go true h f = ap suc (f (omega arith))
     go false h f = refl
 
+-- what is left of a stretch after a run in it
+after_run : {test : ℕ → Bool} (text : List ℕ) (i e r : ℕ) → i ≤ e → e ≤ length text → Ran test text i e r → drop (run test (lexeme text i e)) (lexeme text i e) ≡ lexeme text r e
+after_run {test} text i e r h m ran = lexeme_drop text (run test (lexeme text i e)) i e (omega arith) m ∙ ap (λ (n : ℕ). lexeme text n e) (sym ran.counted)
+
 module _ {test : ℕ → Bool} {text : List ℕ} {i r : ℕ} (ran : Ran test text i (length text) r) where
   pub ran_to : (e : ℕ) → i ≤ r → r ≤ e → e ≤ length text → Ran test text i e r
   ran_to e o h m = record { counted = ran.counted ∙ ap (λ n. i + n) (sym (run_cut test (drop i text) (length text - i) (e - i) (omega (arith, ran.counted)) (omega arith))); within = h }
@@ -144,10 +148,10 @@ module _ {test : ℕ → Bool} {text : List ℕ} {i r : ℕ} (ran : Ran test tex
   run_forward = omega (arith, ran.counted)
 
   pub run_on_some : {q : Pattern} → Shy test q → (r ≡ i → ⊥) → Becomes (sequence (some (byte test)) q) q text i r
-  run_on_some {q} shy apart = record { onward = run_forward; alike = λ e h m. some_read test q shy text i e r (omega (arith, run_forward)) m (ran_to e run_forward h m) apart }
+  run_on_some {q} shy apart = record { onward = run_forward; alike = λ e h m. let z = ran_to e run_forward h m in some_read test q shy (lexeme text i e) (λ n. apart (omega (arith, z.counted))) ∙ ap (matches q) (after_run text i e r (omega (arith, run_forward)) m z) }
 
   pub run_none : {q : Pattern} → Shy test q → r ≡ i → (e : ℕ) → i ≤ e → e ≤ length text → matches (sequence (some (byte test)) q) (lexeme text i e) ≡ false
-  run_none {q} shy z e h m = none_read test q shy text i e r h m (ran_to e run_forward (omega arith) m) z
+  run_none {q} shy z e h m = let y = ran_to e run_forward (omega arith) m in none_read test q shy (lexeme text i e) (omega (arith, y.counted))
 
   -- a run that is all, or none
   pub run_ends : StretchEnds (maybe (some (byte test))) text i r
