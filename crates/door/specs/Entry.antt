@@ -1,5 +1,5 @@
 -- What the door answers, in terms of the grammar's Door.antt. Document 01, Refusal numbers, in order of checking; document 02, L14: '21, after 3'; L9: '17, after 7'.
-use Rattle.std.specs.Prelude.{ℕ, ◌+◌, ◌*◌, ◌/◌, ◌≤◌, ◌<◌, cond, List, ◌≡◌, eqb, length, get_or, Option, MatchOption, Result, Ok, Err}
+use Rattle.std.specs.Prelude.{ℕ, ◌*◌, ◌/◌, ◌≤◌, ◌<◌, cond, List, ◌≡◌, eqb, length, get_or, Option, MatchOption, Result, Ok, Err}
 use Rattle.builtins.specs.Known.{Known}
 use Rattle.grammar.specs.Answer.{Answer, refuse}
 use Rattle.grammar.specs.Builtin.{Builtins, built, RightNames}

@@ -1,8 +1,6 @@
-use Rattle.std.specs.Prelude.{true, false, ◌≡◌}
 use borrow.Author.Rules.{rules}
 use Rattle.std.proofs.lemmas.Iterator.{first_from_Range}
 use Rattle.grammar.specs.Door.{Sound}
-use Rattle.spelling.specs.Decides.{Decides}
 use Rattle.spelling.proofs.Deciding.{held, failed}
 use Rattle.door.proofs.Searching.{searched}
 use Rattle.door.proofs.first_unsound.Goals as goal
