@@ -16,7 +16,7 @@ use Rattle.grammar.specs.Rows.{Rows}
 use Rattle.parts.specs.Packed.{root_row, statement, keeps, kept, kept_upto, stays, rows_kept}
 use Rattle.parts.proofs.Sizes.{rows_kept_most, parent_later, parent_most, statement_stays, child_stays}
 use Rattle.packing.specs.Good.{Good}
-use Rattle.packing.specs.Kept.{one, Marked, Staying, Placed, Markable}
+use Rattle.packing.specs.Kept.{one, Marked, Staying, Placed, Markable, Counted}
 use Rattle.packing.proofs.Rooting.{root_ends, statement_below, statement_is}
 
 -- one number of the room is new, the others stay
@@ -129,10 +129,7 @@ module _ {w : Rows} {choice : List ℕ} {first n : ℕ} (p : Markable w choice f
     abbrev parent : ℕ
     parent = get_or w.nodes (node_width * here + own_width) 0
 
-    pub parent_there : node_width * here + own_width < length w.nodes
-    parent_there = omega (arith, under, good.nodes)
-
-    pub parent_below : parent ≤ root_row w
+    parent_below : parent ≤ root_row w
     parent_below = parent_most good.checked good.short here under
 
     pub row_spread : {root : ℕ} → root ≡ root_row w → (parent ≡ root → ⊥) → Spreading w choice here (set sc here (get_or sc parent 0))
@@ -169,15 +166,29 @@ module _ {w : Rows} {choice : List ℕ} {first n : ℕ} (p : Markable w choice f
             rw f (d.marked here (omega arith) ∙ ap one (sym (statement_stays good.checked good.short (keeps choice) here under (n ∙ e))))
         pick k a b false z = let f = eqb-false k here z in d.staying.each k (omega arith) b
 
+-- the same, whatever the choice was
+pub record SpreadsUpto (w : Rows) (before : List ℕ) (i : ℕ) (sc : List ℕ) : Type 0 where
+  pub says : {choice : List ℕ} {first : ℕ} → Markable w choice first (length before) → Marked (keeps choice) w (length choice) (length before) before → Spreading w choice i sc
+
+pub spreads_none : (w : Rows) (before : List ℕ) {root : ℕ} → root ≡ root_row w → SpreadsUpto w before root before
+spreads_none w before e = record { says = λ p m. none_spread p e refl m }
+
+module _ {w : Rows} {before sc : List ℕ} {i root : ℕ} (k : SpreadsUpto w before i sc) (h : 0 < i) (e : root ≡ root_row w) where
+  pub spreads_row : (get_or w.nodes (node_width * (i - 1) + own_width) 0 ≡ root → ⊥) → SpreadsUpto w before (i - 1) (set sc (i - 1) (get_or sc (get_or w.nodes (node_width * (i - 1) + own_width) 0) 0))
+  spreads_row n = record { says = λ p m. row_spread p (k.says p m) h e n }
+
+  pub spreads_kept : get_or w.nodes (node_width * (i - 1) + own_width) 0 ≡ root → SpreadsUpto w before (i - 1) sc
+  spreads_kept n = record { says = λ p m. row_kept p (k.says p m) h e n }
+
 -- rows before i have their place, those from i on are marked
-pub record Counting (w : Rows) (choice : List ℕ) (i many : ℕ) (sc : List ℕ) : Type 0 where
-  pub placed : (k : ℕ) → k < i → get_or sc k 0 ≡ rows_kept (keeps choice) w k
-  pub staying : Staying (keeps choice) w i sc
-  pub count : many ≡ rows_kept (keeps choice) w i
+pub record Counting (w : Rows) (c : ℕ → Bool) (i many : ℕ) (sc : List ℕ) : Type 0 where
+  pub placed : (k : ℕ) → k < i → get_or sc k 0 ≡ rows_kept c w k
+  pub staying : Staying c w i sc
+  pub count : many ≡ rows_kept c w i
   pub size : length sc ≡ height w
   pub most : i ≤ root_row w
 
-pub none_counted : {w : Rows} {choice : List ℕ} {sc : List ℕ} → length sc ≡ height w → Staying (keeps choice) w 0 sc → Counting w choice 0 0 sc
+pub none_counted : {w : Rows} {c : ℕ → Bool} {sc : List ℕ} → length sc ≡ height w → Staying c w 0 sc → Counting w c 0 0 sc
 unfolding rows_kept
 none_counted l s = record { placed = λ k h. absurd (omega arith); staying = s; count = refl; size = l; most = omega arith }
 
@@ -185,22 +196,22 @@ one_most : (t : Bool) → one t ≤ 1
 one_most true = omega arith
 one_most false = omega arith
 
-module _ {w : Rows} {choice : List ℕ} {i many : ℕ} {sc : List ℕ} (d : Counting w choice i many sc) where
-  rows_next : rows_kept (keeps choice) w (suc i) ≡ rows_kept (keeps choice) w i + one (stays (keeps choice) w i)
+module _ {w : Rows} {c : ℕ → Bool} {i many : ℕ} {sc : List ℕ} (d : Counting w c i many sc) where
+  rows_next : rows_kept c w (suc i) ≡ rows_kept c w i + one (stays c w i)
   unfolding rows_kept
   rows_next = refl
 
   pub mark_small : i < root_row w → many + get_or sc i 0 ≤ i + 1
-  mark_small h = omega (arith, d.count, d.staying.each i (omega arith) h, one_most (stays (keeps choice) w i), rows_kept_most (keeps choice) w i)
+  mark_small h = omega (arith, d.count, d.staying.each i (omega arith) h, one_most (stays c w i), rows_kept_most c w i)
 
-  placed_next : (x : ℕ) → x ≡ rows_kept (keeps choice) w i → i < height w → (k : ℕ) → k ≤ i → get_or (set sc i x) k 0 ≡ rows_kept (keeps choice) w k
+  placed_next : (x : ℕ) → x ≡ rows_kept c w i → i < height w → (k : ℕ) → k ≤ i → get_or (set sc i x) k 0 ≡ rows_kept c w k
   placed_next x e h k l = pick (eqb k i) refl
     where
-      pick : (t : Bool) → eqb k i ≡ t → get_or (set sc i x) k 0 ≡ rows_kept (keeps choice) w k
+      pick : (t : Bool) → eqb k i ≡ t → get_or (set sc i x) k 0 ≡ rows_kept c w k
       pick true z = let f : k ≡ i = eqb-true k i z in rw f (stored_here sc i x (omega (arith, d.size)) ∙ e)
       pick false z = let f = eqb-false k i z in stored_there sc i x f ∙ d.placed k (omega arith)
 
-  pub row_counted : i < root_row w → Counting w choice (i + 1) (many + get_or sc i 0) (set sc i many)
+  pub row_counted : i < root_row w → Counting w c (i + 1) (many + get_or sc i 0) (set sc i many)
   row_counted h = record {
     placed = λ k l. placed_next many d.count (omega arith) k (omega arith);
     staying = record { each = λ k a b. stored_there sc i many (λ z. omega arith) ∙ d.staying.each k (omega arith) b };
@@ -209,5 +220,18 @@ module _ {w : Rows} {choice : List ℕ} {i many : ℕ} {sc : List ℕ} (d : Coun
     most = omega arith;
   }
 
-  pub root_counted : 0 < height w → i ≡ root_row w → Placed (keeps choice) w (set sc i many)
+  pub root_counted : 0 < height w → i ≡ root_row w → Placed c w (set sc i many)
   root_counted s e = record { each = λ k l. placed_next many d.count (omega arith) k (omega arith) }
+
+-- the same, whatever the rows and the choice were
+pub record Counts (before : List ℕ) (i many : ℕ) (sc : List ℕ) : Type 0 where
+  pub says : {c : ℕ → Bool} {w : Rows} → length before ≡ height w → Staying c w 0 before → Counting w c i many sc
+
+pub counts_none : (before : List ℕ) → Counts before 0 0 before
+counts_none before = record { says = λ e s. none_counted e s }
+
+pub counts_row : {before sc : List ℕ} {i many : ℕ} → Counts before i many sc → i < length before - 1 → Counts before (i + 1) (many + get_or sc i 0) (set sc i many)
+counts_row k h = record { says = λ e s. row_counted (k.says e s) (omega (arith, e)) }
+
+pub counts_root : {before sc : List ℕ} {i many : ℕ} → Counts before i many sc → 0 < length before → i ≡ length before - 1 → Counted before (set sc i many)
+counts_root k l h = record { says = λ e s. root_counted (k.says e s) (omega (arith, e)) (omega (arith, e)) }

@@ -3,7 +3,7 @@ use Rattle.std.specs.Prelude.{ℕ, ◌+◌, ◌≤◌, ◌<◌, Bool, cond, List
 use Rattle.grammar.specs.Naming.{height}
 use Rattle.grammar.specs.Pattern.{among}
 use Rattle.grammar.specs.Rows.{Rows}
-use Rattle.parts.specs.Packed.{root_row, root_first, statements, kept_upto, stays, rows_kept}
+use Rattle.parts.specs.Packed.{root_row, root_first, statements, keeps, kept_upto, stays, rows_kept}
 use Rattle.packing.specs.Good.{Sound}
 
 abbrev pub one : Bool → ℕ
@@ -34,3 +34,19 @@ pub record Markable (w : Rows) (choice : List ℕ) (first numbers : ℕ) : Type 
   pub all : length choice ≡ statements w
   pub list : first ≡ root_first w
   pub rows : numbers ≡ height w
+
+-- marks are spread from the statements to what is below them, whatever the choice was
+pub record Spreads (w : Rows) (before after : List ℕ) : Type 0 where
+  pub says : {choice : List ℕ} {first : ℕ} → Markable w choice first (length before) → Marked (keeps choice) w (length choice) (length before) before → Staying (keeps choice) w 0 after
+
+-- what is asked of marks that are counted: they are those of some rows and some choice
+pub record Countable (marks : List ℕ) : Type 0 where
+  pub lines : Rows
+  pub choice : ℕ → Bool
+  pub sound : Sound lines
+  pub many : length marks ≡ height lines
+  pub staying : Staying choice lines 0 marks
+
+-- where each row goes, whatever the rows and the choice were
+pub record Counted (before after : List ℕ) : Type 0 where
+  pub says : {c : ℕ → Bool} {w : Rows} → length before ≡ height w → Staying c w 0 before → Placed c w after

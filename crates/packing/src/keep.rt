@@ -1,9 +1,9 @@
 // Which rows stay, and where each goes: a row stays as the statement does that it is below. The room has one number for each node row.
 ghost use Rattle.std.specs.Prelude.{◌≡◌, length};
 ghost use Rattle.grammar.specs.Naming.{height};
-ghost use Rattle.parts.specs.Packed.{keeps, root_first};
+ghost use Rattle.parts.specs.Packed.{keeps};
 ghost use Rattle.packing.specs.Good.{Sound};
-ghost use Rattle.packing.specs.Kept.{Marked, Staying, Placed, Markable};
+ghost use Rattle.packing.specs.Kept.{Marked, Spreads, Countable, Counted, Placed, Markable};
 ghost use Rattle.packing.specs.Seen.{seen};
 
 use crate::rows::Rows;
@@ -26,9 +26,9 @@ fn mark(rows: Rows, choice: &[u8], first: usize, marks: &mut [u32])
 
 // And at each row below one. Parents stand later, so the last row is looked at first.
 // Ruled out: a row that stays though its parent does not.
-fn spread(rows: Rows, choice: &[u8], marks: &mut [u32])
-    requires { Markable (seen rows) choice.now (root_first (seen rows)) (length marks.old) × Marked (keeps choice.now) (seen rows) (length choice.now) (length marks.old) marks.old }
-    ensures { Staying (keeps choice.now) (seen rows.entry) 0 marks.new }
+fn spread(rows: Rows, marks: &mut [u32])
+    requires { Sound (seen rows) × (length marks.old ≡ height (seen rows)) }
+    ensures { Spreads (seen rows.entry) marks.old marks.new }
 {
     let root = marks.len() - 1;
     for i in (0..root).rev() {
@@ -41,9 +41,9 @@ fn spread(rows: Rows, choice: &[u8], marks: &mut [u32])
 
 // Then how many stay before each.
 // Ruled out: a row's own place counted.
-fn count(rows: Rows, choice: &[u8], marks: &mut [u32])
-    requires { Sound (seen rows) × (length marks.old ≡ height (seen rows)) × Staying (keeps choice.now) (seen rows) 0 marks.old }
-    ensures { Placed (keeps choice.now) (seen rows.entry) marks.new }
+fn count(marks: &mut [u32])
+    requires { Countable marks.old }
+    ensures { Counted marks.old marks.new }
 {
     let root = marks.len() - 1;
     let mut before = 0;
@@ -61,6 +61,6 @@ pub(crate) fn keep(rows: Rows, choice: &[u8], first: usize, marks: &mut [u32])
     ensures { Placed (keeps choice.now) (seen rows.entry) marks.new }
 {
     mark(rows, choice, first, marks);
-    spread(rows, choice, marks);
-    count(rows, choice, marks);
+    spread(rows, marks);
+    count(marks);
 }

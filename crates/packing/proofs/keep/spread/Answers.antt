@@ -1,17 +1,35 @@
 -- `spread` meets its contract: from the last row to the first, each is marked as it stays.
+use Prim.Native.Nat.{◌-◌, ◌<◌, ◌≤◌}
 use native.Mathlib.Omega.{arith}
-use Rattle.packing.proofs.Keeping.{parent_below, row_spread, row_kept}
+use mathlib.Core.Path.{◌≡◌}
+use lib.ListN.{length, get_or}
+use Rattle.parts.specs.Packed.{root_row}
+use Rattle.parts.proofs.Sizes.{parent_most}
+use Rattle.packing.specs.Seen.{seen}
+use Rattle.packing.proofs.Keeping.{spreads_none, spreads_row, spreads_kept}
 use Rattle.packing.proofs.keep.spread.Goals as goal
 use Rattle.packing.proofs.keep.spread.Goals.{In-loop-i}
+
+root : (c : In-loop-i) → length c.args.marks.now - 1 ≡ root_row (seen c.args.rows)
+root c = omega (arith, c.requires.1)
+
+under : (c : In-loop-i) → c.loop-i.i - 1 < root_row (seen c.args.rows)
+under c = omega (arith, c.requires.1, c.loop-i-test.true, c.loop-i.auto.i)
+
+pub loop-i-init : goal.loop-i-init
+loop-i-init c = spreads_none _ _ (omega (arith, c.requires.1))
 
 pub bounds-marks-parent : goal.bounds-marks-parent
 bounds-marks-parent c =
     let b = (goal.at.bounds-marks-parent c).In-loop-i in
-    let p = b.requires.0 in
-    omega (arith, parent_below p b.loop-i.invariant b.loop-i-test.true, p.rows, b.loop-i.invariant.size, p.sound.good.checked.rooted.some)
+    let g = b.requires.0.good in
+    omega (arith, parent_most g.checked g.short (b.loop-i.i - 1) (under b), b.requires.1, b.loop-i.auto.marks, g.checked.rooted.some)
 
 pub loop-i-preserved-then-parent-root : goal.loop-i-preserved-then-parent-root
-loop-i-preserved-then-parent-root c = let b = (goal.at.loop-i-preserved-then-parent-root c).In-loop-i in row_spread b.requires.0 b.loop-i.invariant b.loop-i-test.true (omega (arith, b.requires.0.rows)) c.if-parent-root.true
+loop-i-preserved-then-parent-root c = let b = (goal.at.loop-i-preserved-then-parent-root c).In-loop-i in spreads_row b.loop-i.invariant b.loop-i-test.true (root b) c.if-parent-root.true
 
 pub loop-i-preserved : goal.loop-i-preserved
-loop-i-preserved c = let b = (goal.at.loop-i-preserved c).In-loop-i in row_kept b.requires.0 b.loop-i.invariant b.loop-i-test.true (omega (arith, b.requires.0.rows)) c.if-parent-root.false
+loop-i-preserved c = let b = (goal.at.loop-i-preserved c).In-loop-i in spreads_kept b.loop-i.invariant b.loop-i-test.true (root b) c.if-parent-root.false
+
+pub returns : goal.returns
+returns c = let l = c.loop-i in let e : l.i ≡ 0 = omega arith in record { says = λ p m. rw e at (l.invariant.says p m).staying }
