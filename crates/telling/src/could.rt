@@ -1,14 +1,14 @@
 // What could have stood at a refused token, in words: what ends or separates, then what starts something, and at last what an expression goes on with.
-ghost use Rattle.std.specs.Prelude.{◌≤◌, ◌<◌};
-ghost use Rattle.grammar.specs.Kind.{NumberLiteral};
+ghost use Rattle.std.specs.Prelude.{◌≤◌};
+ghost use Rattle.grammar.specs.Kind.{Eof};
 
-use page::hint::end_hint;
-use page::words::{least, put_cell};
-use page::{put, put_first};
+use page::Line;
+use page::hint::Style;
 use spelling::display::put_name;
 use token::kinds;
 
-// A set has a binary digit for each kind. Three groups of kinds have one word each: what starts an operand, what starts a statement, and what joins two operands.
+// A set has a binary digit for each kind, as the C interface's `kaori_expected` hands it out. Three groups of kinds have one word each: what starts an operand, what starts
+// a statement, and what joins two operands.
 pub(crate) const OPERAND: u64 = 1 << kinds::PLUS
     | 1 << kinds::MINUS
     | 1 << kinds::CARET
@@ -53,170 +53,139 @@ const OPERATOR: u64 = 1 << kinds::PLUS
 // What a chain of calls and dots goes on with.
 const LINK: u64 = 1 << kinds::DOT | 1 << kinds::LEFT_PAREN;
 
-// A group counts as one more kind: these are the numbers after the last kind's.
-const A_STATEMENT: u32 = 45;
-
-const AN_OPERAND: u32 = 46;
-
-const AN_OPERATOR: u32 = 47;
-
-const KINDS: u32 = 48;
-
-// The words of the kinds from NUMBER_LITERAL on: a cell of 20 bytes each, with `_` for a blank. A kind before it has its name of crate spelling.
-const WORDS: [u8; 160] = *b"\
-    a_number            `;`                 a_string            a_name              \
-    the_end_of_the_file a_statement         an_operand          an_operator         ";
-
-const CELL: usize = 20;
-
-const LAST_CELL: usize = 7;
-
-// The word of a kind that has a spelling.
-fn put_spelled(kind: u32, out: &mut [u8; 4096], at: usize) -> usize
-    requires { (kind < NumberLiteral) × (at ≤ 4096) }
-    ensures { result ≤ 4096 }
-{
-    let mut room = [0u8; 16];
-    let n = put_name(kind, &mut room, 0);
-    if n <= 16 {
-        return put_first(&room, n, out, at);
-    }
-    at
-}
-
-// The word of a kind, or of a group.
-pub(crate) fn put_kind(kind: u32, out: &mut [u8; 4096], at: usize) -> usize
-    requires { at ≤ 4096 }
-    ensures { result ≤ 4096 }
-{
-    if kind < kinds::NUMBER_LITERAL {
-        return put_spelled(kind, out, at);
-    }
-    let table = WORDS;
-    let from = CELL * least((kind - kinds::NUMBER_LITERAL) as usize, LAST_CELL);
-    put_cell(&table, from, from + CELL, out, at)
-}
-
-// The order in which kinds are said: these first, and then all in the order of their numbers.
-const FIRST: u32 = 8;
-
-fn kind_of(turn: u32) -> u32 {
-    if turn >= FIRST {
-        return turn - FIRST;
-    }
-    match turn {
-        0 => kinds::COMMA,
-        1 => kinds::SEMICOLON,
-        2 => kinds::RIGHT_PAREN,
-        3 => kinds::RIGHT_BRACE,
-        4 => kinds::ELSE,
-        5 => A_STATEMENT,
-        6 => AN_OPERAND,
-        _ => AN_OPERATOR,
-    }
+// The digit of a kind in a set.
+fn digit(kind: u32) -> u64 {
+    if kind <= kinds::EOF { 1 << kind } else { 0 }
 }
 
 // Whether a set has a kind.
 pub(crate) fn has(set: u64, kind: u32) -> bool {
-    if kind < KINDS {
-        return set >> kind & 1 == 1;
-    }
-    false
+    set & digit(kind) != 0
 }
 
-// A set without a kind.
-fn without(set: u64, kind: u32) -> u64 {
-    if kind < KINDS {
-        return set & !(1 << kind);
-    }
-    set
-}
-
-// What stands before a kind's word, where `left` of the set is to be said, this kind too: nothing before the first, `or` before the last, and a comma before any other.
-fn put_gap(set: u64, left: u64, kind: u32, out: &mut [u8; 4096], at: usize) -> usize
-    requires { at ≤ 4096 }
-    ensures { result ≤ 4096 }
+// The name of a kind as crate spelling has it.
+fn put_spelled(kind: u32, line: &mut Line)
+    requires { kind ≤ Eof }
 {
-    if left == set {
-        return at;
+    let mut room = [0u8; 16];
+    let n = put_name(kind, &mut room, 0);
+    if let Some(name) = room.get(..n) {
+        line.put(name);
     }
-    if without(left, kind) == 0 {
-        return put(b" or ", out, at);
-    }
-    put(b", ", out, at)
 }
 
-// The word of a kind and what stands before it, if it is to be said.
-fn put_one(set: u64, left: u64, kind: u32, out: &mut [u8; 4096], at: usize) -> usize
-    requires { at ≤ 4096 }
-    ensures { result ≤ 4096 }
-{
-    if !has(left, kind) {
-        return at;
+// The word of a kind.
+pub(crate) fn put_kind(kind: u32, line: &mut Line) {
+    match kind {
+        kinds::NUMBER_LITERAL => line.put(b"a number"),
+        kinds::STRING_LITERAL => line.put(b"a string"),
+        kinds::IDENTIFIER => line.put(b"a name"),
+        kinds::ASSIGN..=kinds::SEMICOLON => put_spelled(kind, line),
+        _ => line.put(b"the end of the file"),
     }
-    let gap = put_gap(set, left, kind, out, at);
-    put_kind(kind, out, gap)
 }
 
-// The words of a set.
-fn put_set(set: u64, out: &mut [u8; 4096], at: usize) -> usize
-    requires { at ≤ 4096 }
-    ensures { result ≤ 4096 }
-{
-    let mut left = set;
-    let mut now = at;
-    let mut turn: u32 = 0;
-    while turn < FIRST + KINDS {
-        let kind = kind_of(turn);
-        now = put_one(set, left, kind, out, now);
-        left = without(left, kind);
-        turn += 1;
-    }
-    now
+// The kinds that are said first. After them comes a group, and then the other kinds in the order of their numbers.
+const FIRST: [u32; 5] = [
+    kinds::COMMA,
+    kinds::SEMICOLON,
+    kinds::RIGHT_PAREN,
+    kinds::RIGHT_BRACE,
+    kinds::ELSE,
+];
+
+// What is left to say: the kinds of a set, and the word of a group; and whether something is said already.
+#[derive(Drop)]
+struct Words {
+    kinds: u64,
+    group: Option<&'static [u8]>,
+    said: bool,
 }
 
-// What an expression goes on with; nothing where none could.
-fn going_on(set: u64) -> u64 {
-    if set & OPERATOR == OPERATOR {
-        return set & LINK | 1 << AN_OPERATOR;
+impl Words {
+    fn new(kinds: u64, group: Option<&'static [u8]>) -> Self {
+        Words {
+            kinds,
+            group,
+            said: false,
+        }
     }
-    0
+
+    // What stands before a word: nothing before the first, `or` before the last, and a comma before any other.
+    fn put_gap(&mut self, line: &mut Line) {
+        if !self.said {
+            self.said = true;
+        } else if self.kinds == 0 && self.group.is_none() {
+            line.put(b" or ");
+        } else {
+            line.put(b", ");
+        }
+    }
+
+    // The word of a kind and what stands before it, if it is to be said.
+    fn put_one(&mut self, kind: u32, line: &mut Line) {
+        if has(self.kinds, kind) {
+            self.kinds &= !digit(kind);
+            self.put_gap(line);
+            put_kind(kind, line);
+        }
+    }
+
+    // The word of the group and what stands before it, if there is one.
+    fn put_group(&mut self, line: &mut Line) {
+        if let Some(word) = self.group.take() {
+            self.put_gap(line);
+            line.put(word);
+        }
+    }
+
+    // All words.
+    fn put(mut self, line: &mut Line) {
+        for &kind in &FIRST {
+            self.put_one(kind, line);
+        }
+        self.put_group(line);
+        for kind in kinds::ASSIGN..kinds::EOF + 1 {
+            self.put_one(kind, line);
+        }
+    }
 }
 
-// All else, with one kind for a group.
-fn all_else(set: u64) -> u64 {
-    if set & OPERATOR == OPERATOR {
-        return set & !(OPERATOR | LINK);
+// Whether an expression could go on.
+fn goes_on(set: u64) -> bool {
+    set & OPERATOR == OPERATOR
+}
+
+// All but what an expression goes on with, with one word for a group.
+fn all_else(set: u64) -> Words {
+    if goes_on(set) {
+        return Words::new(set & !(OPERATOR | LINK), None);
     }
     if set & STATEMENT == STATEMENT {
-        return set & !STATEMENT | 1 << A_STATEMENT;
+        return Words::new(set & !STATEMENT, Some(b"a statement"));
     }
     if set & OPERAND == OPERAND {
-        return set & !OPERAND | 1 << AN_OPERAND;
+        return Words::new(set & !OPERAND, Some(b"an operand"));
     }
-    set
+    Words::new(set, None)
 }
 
 // What follows where an expression could go on.
-fn put_going_on(set: u64, out: &mut [u8; 4096], at: usize) -> usize
-    requires { at ≤ 4096 }
-    ensures { result ≤ 4096 }
-{
-    if set == 0 {
-        return at;
+fn put_going_on(set: u64, line: &mut Line) {
+    if goes_on(set) {
+        line.put(b", or ");
+        Words::new(set & LINK, Some(b"an operator")).put(line);
+        line.put(b" to go on");
     }
-    let gap = put(b", or ", out, at);
-    let said = put_set(set, out, gap);
-    put(b" to go on", out, said)
 }
 
 // The line of a set; none for the empty one. The answer is the style of the next line.
-pub(crate) fn show_could(set: u64, style: u32, out: &mut [u8; 4096]) -> u32 {
+pub(crate) fn show_could(set: u64, style: Style, line: &mut Line) -> Style {
     if set == 0 {
         return style;
     }
-    let led = put(b"  expected ", out, 0);
-    let said = put_set(all_else(set), out, led);
-    let all = put_going_on(going_on(set), out, said);
-    end_hint(style, out, all)
+    line.put(b"  expected ");
+    all_else(set).put(line);
+    put_going_on(set, line);
+    line.end_hint(style)
 }

@@ -1,23 +1,20 @@
 // What a person may have meant at a refused place, and what to type: one line, by a table. The first line of the table that fits is the hint.
-ghost use Rattle.std.specs.Prelude.{◌≤◌, ◌<◌, length};
-
 use crate::could::put_kind;
-use crate::run::{byte_at, in_word};
-use crate::seen::{Seen, next_byte};
+use crate::report::put_spot;
+use crate::run::in_word;
+use crate::seen::{Seen, text_from};
 use diagnostics::line::{NEWLINE, place};
-use page::hint::end_hint;
-use page::visible::put_escape;
-use page::words::put_cell;
-use page::{put, put_byte, put_number};
+use page::Line;
+use page::hint::Style;
+use reading::codes;
+use token::kinds;
 
-// A line of the table has four marks, spellings, a tab and the hint.
+// A line of the table has four marks, spellings, a tab and the hint. The table stays a text: an array of structs would say the same at some times the length.
 // The first mark is the place where it looks: 0 the refused token, 1 the one before, 2 the one before that, 3 the first of the statement, 4 the name of the call before. Then come
-// the code, the kind that was required and a fact, as seen.rt has them; a dot is any, and code `e` is `k` or `o`. One of the spellings has to stand at the place, where there are any.
+// the code, the kind that was required and a fact, as `has_code`, `asks` and `Facts` have them; a dot is any. One of the spellings has to stand at the place, where there are any.
 // In the hint \x01 stands for the refused bytes in hex, \x02 and \x08 for the place that is named and its line, \x03 and \x07 for the places of a `}` and of the `{` that it closes,
 // \x04 for the refused letter in ASCII, \x05 for the sign before the refused token, and \x06 for the refused token's kind.
-const SIZE: usize = 5170;
-
-const HINTS: [u8; SIZE] = *b"\
+const HINTS: &[u8] = b"\
     0..n\tKaori has no comments: one may start at \x02\n\
     0e..// /*\tKaori has no comments, and no `//` or `/*`\n\
     1e..// /*\tKaori has no comments, and no `//` or `/*`\n\
@@ -114,240 +111,167 @@ const HINTS: [u8; SIZE] = *b"\
 
 const TAB: u8 = 9;
 
-// The letters of Latin-1 from 192 on, in ASCII: a cell of two bytes each.
+// The letters of Latin-1 from 192 on, in ASCII: a cell of two bytes each. It stays one text, since 64 slices would be no plainer.
 const LETTERS: [u8; 128] = *b"\
     A A A A A A AEC E E E E I I I I D N O O O O O x O U U U U Y THss\
     a a a a a a aec e e e e i i i i d n o o o o o / o u u u u y thy ";
 
-// The byte that stands so many bytes after a place; 0 past the end.
-fn byte_from(text: &[u8], place: usize, more: usize) -> u8 {
-    if more < text.len() {
-        if place < text.len() - more {
-            return text[place + more];
-        }
-    }
-    0
-}
-
-// Where the spelling ends that starts at a place of the table: at a blank or a tab.
-fn spelling_end(table: &[u8], from: usize) -> usize
-    requires { from < length table.now }
-    ensures { (from ≤ result) × (result ≤ length table.now) }
-{
-    let mut i = from;
-    while i < table.len() {
-        if table[i] <= b' ' {
-            return i;
-        }
-        i += 1;
-    }
-    i
-}
-
-// Whether a spelling of the table stands at a place of the text; where it ends as a word does, the word has to end there too.
-fn stands(table: &[u8], from: usize, upto: usize, text: &[u8], place: usize) -> bool
-    requires { (from ≤ upto) × (upto ≤ length table.now) }
-{
-    let mut word = false;
-    let mut i = from;
-    while i < upto {
-        if table[i] != byte_from(text, place, i - from) {
-            return false;
-        }
-        word = in_word(table[i]);
-        i += 1;
-    }
-    if word {
-        return !in_word(byte_from(text, place, upto - from));
-    }
-    true
-}
-
-// Whether one of the spellings that start at a place of the table stands at a place of the text.
-fn one_stands(table: &[u8], from: usize, text: &[u8], place: usize) -> bool {
-    let mut i = from;
-    while i < table.len() {
-        let end = spelling_end(table, i);
-        if stands(table, i, end, text, place) {
-            return true;
-        }
-        if byte_at(table, end) != b' ' {
-            return false;
-        }
-        i = end + 1;
-    }
-    false
-}
-
-// Whether a mark of the table is a dot, or this.
-fn is_any_or(mark: u8, this: u8) -> bool {
-    if mark == b'.' {
-        return true;
-    }
-    mark == this
-}
-
-// Whether a code is the table's.
-fn has_code(mark: u8, code: u8) -> bool {
-    if mark == b'e' {
-        return is_any_or(b'k', code) | is_any_or(b'o', code);
-    }
-    is_any_or(mark, code)
-}
-
-// Whether the table's fact holds.
-fn has_fact(mark: u8, facts: u32) -> bool {
-    match mark {
-        b'a'..=b'z' => facts >> (mark - b'a') & 1 == 1,
+// Whether a spelling stands at the start of these bytes; where it ends as a word does, the word has to end there too.
+fn stands(spelling: &[u8], rest: &[u8]) -> bool {
+    let Some(after) = rest.strip_prefix(spelling) else {
+        return false;
+    };
+    match (spelling, after) {
+        ([.., last], [next, ..]) => !(in_word(*last) && in_word(*next)),
         _ => true,
     }
 }
 
-// The place where a line of the table looks.
-fn place_of(mark: u8, s: Seen) -> usize {
-    match mark {
-        b'1' => s.last,
-        b'2' => s.second,
-        b'3' => s.lead,
-        b'4' => s.callee,
-        _ => s.here,
-    }
-}
-
-// Whether the line of the table fits that starts here.
-fn fits(table: &[u8; SIZE], i: usize, text: &[u8], s: Seen) -> bool
-    requires { i ≤ 8192 }
-{
-    if !has_code(byte_at(table, i + 1), s.code) {
-        return false;
-    }
-    if !is_any_or(byte_at(table, i + 2), s.asked) {
-        return false;
-    }
-    if !has_fact(byte_at(table, i + 3), s.facts) {
-        return false;
-    }
-    one_stands(table, i + 4, text, place_of(byte_at(table, i), s))
-}
-
-// The place after the first byte of this sort from a place of the table on; past the table's end where there is none.
-fn after(table: &[u8; SIZE], from: usize, byte: u8) -> usize
-    requires { from ≤ 8192 }
-    ensures { from < result }
-{
-    let mut i = from;
-    while i < SIZE {
-        if table[i] == byte {
-            return i + 1;
+impl Seen<'_> {
+    // Whether a code of the table is that of the refusal, whose code stays a number of the C interface's. A string that is not closed has its own among the bytes that
+    // start no token.
+    fn has_code(&self, mark: u8) -> bool {
+        match mark {
+            b'.' => true,
+            b't' => self.code == 1,
+            b'h' => self.code == 5,
+            b'k' => self.code == codes::KIND_REQUIRED,
+            b'o' => self.code == codes::OPERAND_REQUIRED,
+            b'e' => matches!(self.code, codes::KIND_REQUIRED | codes::OPERAND_REQUIRED),
+            b'f' => self.code == codes::STARTS_WITH_FOR,
+            b'd' => self.code == codes::TOO_DEEP,
+            b'u' => self.code == 16 && self.text.get(self.here) == Some(&b'"'),
+            b's' => self.code == 16 && self.text.get(self.here) != Some(&b'"'),
+            _ => false,
         }
-        i += 1;
     }
-    i + 1
-}
 
-// Where the hint of the first line starts that fits; past the table's end where none does.
-fn hint_for(table: &[u8; SIZE], text: &[u8], s: Seen) -> usize {
-    let mut i = 0;
-    while i < SIZE {
-        if fits(table, i, text, s) {
-            return after(table, i, TAB);
+    // Whether a sign of the table is that of the kind that was required, which stays a number of the C interface's too.
+    fn asks(&self, mark: u8) -> bool {
+        match mark {
+            b'.' => true,
+            b';' => self.asked == kinds::SEMICOLON,
+            b',' => self.asked == kinds::COMMA,
+            b'{' => self.asked == kinds::LEFT_BRACE,
+            b'=' => self.asked == kinds::ASSIGN,
+            b'n' => self.asked == kinds::IDENTIFIER,
+            _ => false,
         }
-        i = after(table, i, NEWLINE);
     }
-    i
-}
 
-// The bytes of a letter that is not ASCII, in hex: the first, and up to three that go on with it.
-fn put_bytes(text: &[u8], start: usize, out: &mut [u8; 4096], at: usize) -> usize
-    requires { at ≤ 4096 }
-    ensures { result ≤ 4096 }
-{
-    let mut now = put(b"byte", out, at);
-    let mut i = 0;
-    while i < 4 {
-        let byte = byte_from(text, start, i);
-        if i > 0 {
-            if byte / 64 != 2 {
-                return now;
-            }
+    // Whether a fact of the table holds.
+    fn has_fact(&self, mark: u8) -> bool {
+        mark == b'.' || self.facts.has(mark)
+    }
+
+    // The text at the place where a line of the table looks; none where there is no such place.
+    fn text_at(&self, mark: u8) -> &[u8] {
+        let place = match mark {
+            b'1' => self.last,
+            b'2' => self.second,
+            b'3' => self.lead,
+            b'4' => self.callee,
+            _ => return text_from(self.text, self.here),
+        };
+        match place {
+            Some(offset) => text_from(self.text, offset),
+            None => b"",
         }
-        now = put_escape(b" ", byte, out, now);
-        i += 1;
     }
-    now
-}
 
-// A letter of Latin-1 in ASCII, by the second of its bytes.
-fn put_letter(second: u8, out: &mut [u8; 4096], at: usize) -> usize
-    requires { at ≤ 4096 }
-    ensures { result ≤ 4096 }
-{
-    let table = LETTERS;
-    let from = 2 * (second % 64) as usize;
-    put_cell(&table, from, from + 2, out, at)
-}
-
-// Line and column of an offset.
-fn put_spot(text: &[u8], offset: usize, out: &mut [u8; 4096], at: usize) -> usize
-    requires { at ≤ 4096 }
-    ensures { result ≤ 4096 }
-{
-    let here = place(text, offset);
-    let line = put_number(here.line, out, at);
-    let colon = put_byte(b':', out, line);
-    put_number(here.column, out, colon)
-}
-
-// A byte of a hint, or what it stands for.
-fn put_piece(byte: u8, text: &[u8], s: Seen, out: &mut [u8; 4096], at: usize) -> usize
-    requires { at ≤ 4096 }
-    ensures { result ≤ 4096 }
-{
-    match byte {
-        1 => put_bytes(text, s.here, out, at),
-        2 => put_spot(text, s.mark, out, at),
-        3 => put_spot(text, s.closer, out, at),
-        7 => put_spot(text, s.opener, out, at),
-        4 => put_letter(next_byte(text, s.here), out, at),
-        5 => put_byte(byte_at(text, s.last), out, at),
-        6 => put_kind(s.found, out, at),
-        8 => put_number(place(text, s.mark).line, out, at),
-        _ => put_byte(byte, out, at),
-    }
-}
-
-// The hint that starts at a place of the table.
-fn put_hint(
-    table: &[u8; SIZE],
-    from: usize,
-    text: &[u8],
-    s: Seen,
-    out: &mut [u8; 4096],
-    at: usize,
-) -> usize
-    requires { at ≤ 4096 }
-    ensures { result ≤ 4096 }
-{
-    let mut now = at;
-    let mut i = from;
-    while i < SIZE {
-        if table[i] == NEWLINE {
-            return now;
+    // The hint of a line of the table, if the line fits.
+    fn hint_of<'a>(&self, line: &'a [u8]) -> Option<&'a [u8]> {
+        let [place, code, asked, fact, rest @ ..] = line else {
+            return None;
+        };
+        if !self.has_code(*code) || !self.asks(*asked) || !self.has_fact(*fact) {
+            return None;
         }
-        now = put_piece(table[i], text, s, out, now);
-        i += 1;
+        let mut parts = rest.split(|byte| *byte == TAB);
+        let spellings = parts.next()?;
+        let at = self.text_at(*place);
+        if spellings
+            .split(|byte| *byte == b' ')
+            .any(|spelling| stands(spelling, at))
+        {
+            parts.next()
+        } else {
+            None
+        }
     }
-    now
+
+    // The hint of the first line of the table that fits.
+    fn hint(&self) -> Option<&'static [u8]> {
+        HINTS
+            .split(|byte| *byte == NEWLINE)
+            .find_map(|line| self.hint_of(line))
+    }
+
+    // The bytes of a letter that is not ASCII, in hex: the first, and up to three that go on with it.
+    fn put_bytes(&self, line: &mut Line) {
+        line.put(b"byte");
+        let [first, rest @ ..] = text_from(self.text, self.here) else {
+            return;
+        };
+        line.put_escape(b" ", *first);
+        for byte in rest.iter().take(3).take_while(|byte| **byte / 64 == 2) {
+            line.put_escape(b" ", *byte);
+        }
+    }
+
+    // A letter of Latin-1 in ASCII, by the second of its bytes.
+    fn put_letter(&self, line: &mut Line) {
+        if let [_, second, ..] = text_from(self.text, self.here) {
+            let from = 2 * (*second % 64) as usize;
+            line.put_cell(&LETTERS[from..from + 2]);
+        }
+    }
+
+    // Line and column of a place.
+    fn put_place(&self, offset: Option<usize>, line: &mut Line) {
+        if let Some(offset) = offset {
+            put_spot(place(self.text, offset), line);
+        }
+    }
+
+    // The line of the place that is named.
+    fn put_mark(&self, line: &mut Line) {
+        if let Some(mark) = self.mark {
+            line.put_number(place(self.text, mark).line);
+        }
+    }
+
+    // The sign before the refused token.
+    fn put_sign(&self, line: &mut Line) {
+        if let Some(sign) = self.last.and_then(|last| self.text.get(last)) {
+            line.put_byte(*sign);
+        }
+    }
+
+    // A byte of a hint, or what it stands for.
+    fn put_piece(&self, byte: u8, line: &mut Line) {
+        match byte {
+            1 => self.put_bytes(line),
+            2 => self.put_place(self.mark, line),
+            3 => self.put_place(self.slip.map(|slip| slip.closer), line),
+            4 => self.put_letter(line),
+            5 => self.put_sign(line),
+            6 => put_kind(self.found, line),
+            7 => self.put_place(self.slip.map(|slip| slip.opener), line),
+            8 => self.put_mark(line),
+            _ => line.put_byte(byte),
+        }
+    }
 }
 
 // Shows the hint for what is seen, if there is one. The answer is the style of the next line.
-pub(crate) fn show_hint(text: &[u8], s: Seen, style: u32, out: &mut [u8; 4096]) -> u32 {
-    let table = HINTS;
-    let from = hint_for(&table, text, s);
-    if from >= SIZE {
+pub(crate) fn show_hint(seen: &Seen, style: Style, line: &mut Line) -> Style {
+    let Some(hint) = seen.hint() else {
         return style;
+    };
+    line.put(b"  hint: ");
+    for &byte in hint {
+        seen.put_piece(byte, line);
     }
-    let led = put(b"  hint: ", out, 0);
-    let all = put_hint(&table, from, text, s, out, led);
-    end_hint(style, out, all)
+    line.end_hint(style)
 }

@@ -1,342 +1,276 @@
 // What is open at a refused token, innermost first. The chain of crate expected has the blocks, the `if`s, the signs and the expressions that are open. What keeps an
 // expression open is a bracket: those that no token closes before the place are looked for between an entry of the chain and the next one.
-use crate::tokens::{before, end_before, one_more, previous, start_of};
+use crate::report::put_spot;
+use crate::tokens::Script;
+use diagnostics::Place;
 use diagnostics::line::place;
-use expected::{Chain, sorts};
-use page::hint::end_hint;
-use page::source::{put_place, show_line};
-use page::words::{least, put_cell};
-use page::{hint, put, put_number};
+use expected::{Chain, Opening, sorts};
+use page::Line;
+use page::hint::Style;
 use token::kinds;
-use wire::output::found;
 
-// The words of what is open: a cell of 34 bytes each, with `_` for a blank.
-const WORDS: [u8; 306] = *b"\
-    in_the_call_that_opens_at_        in_the_parameters_that_open_at_   in_the_parentheses_that_open_at_  \
-    in_the_map_that_opens_at_         in_the_block_that_opens_at_       in_the_lambda_that_starts_at_     \
-    in_the_`if`_that_starts_at_       after_the_sign_at_                in_the_expression_that_starts_at_ ";
+// What is open.
+#[derive(Clone, Copy, PartialEq, Eq)]
+pub enum Open {
+    Call,
+    Parameters,
+    Parentheses,
+    Map,
+    Block,
+    Lambda,
+    If,
+    Sign,
+    Expression,
+}
 
-const CELL: usize = 34;
-
-const CALL: usize = 0;
-
-const PARAMETERS: usize = 1;
-
-const PARENTHESES: usize = 2;
-
-const MAP: usize = 3;
-
-const BLOCK: usize = 4;
-
-const LAMBDA: usize = 5;
-
-const IF: usize = 6;
-
-const SIGN: usize = 7;
-
-const EXPRESSION: usize = 8;
-
-// No word: of this nothing is said.
-const NOTHING: usize = 9;
+impl Open {
+    // What it is said as.
+    fn words(self) -> &'static [u8] {
+        match self {
+            Open::Call => b"  in the call that opens at ",
+            Open::Parameters => b"  in the parameters that open at ",
+            Open::Parentheses => b"  in the parentheses that open at ",
+            Open::Map => b"  in the map that opens at ",
+            Open::Block => b"  in the block that opens at ",
+            Open::Lambda => b"  in the lambda that starts at ",
+            Open::If => b"  in the `if` that starts at ",
+            Open::Sign => b"  after the sign at ",
+            Open::Expression => b"  in the expression that starts at ",
+        }
+    }
+}
 
 // At most so many lines are shown.
 const MOST: u32 = 5;
 
-// How far a walk from the place back to the first token is: how many brackets were met that close one further back, whether a line speaks for the expression around
-// what was met last, how many lines there are, with those that are not shown, the style of the next one, and where the last token ends if the file ends at the place, else 0.
+impl Script<'_> {
+    // The last `|` before a token.
+    fn bar_before(self, token: u32) -> Option<u32> {
+        (0..token).rev().find(|t| self.kind(*t) == kinds::PIPE)
+    }
+
+    // The first `|` of a lambda whose names are open at a token: between its two `|` there are only names and commas, so that every second one before the token closes.
+    fn names_before(self, token: u32) -> Option<u32> {
+        let mut bar = None;
+        for t in 0..token {
+            if self.kind(t) == kinds::PIPE {
+                bar = bar.xor(Some(t));
+            }
+        }
+        bar
+    }
+
+    // What a `(` opens: a call after a name or a `)`, but after `fun` and a name the parameters.
+    fn parenthesis(self, token: u32) -> Open {
+        match self.before(token, 1) {
+            Some(kinds::RIGHT_PAREN) => Open::Call,
+            Some(kinds::IDENTIFIER) if self.before(token, 2) == Some(kinds::FUNCTION) => {
+                Open::Parameters
+            }
+            Some(kinds::IDENTIFIER) => Open::Call,
+            _ => Open::Parentheses,
+        }
+    }
+
+    // What a `{` opens.
+    fn brace(self, token: u32) -> Open {
+        match self.before(token, 1) {
+            Some(kinds::HASH) => Open::Map,
+            _ => Open::Block,
+        }
+    }
+
+    // The first token of a construct that is met at this one: a map's is the `#` before its brace, and a lambda's the first `|` of the two before its body.
+    fn first_of(self, open: Open, token: u32) -> u32 {
+        let last = token.saturating_sub(1);
+        match open {
+            Open::Map => last,
+            Open::Lambda => self.bar_before(last).unwrap_or(last),
+            _ => token,
+        }
+    }
+}
+
+// A walk from the refused token `at` back to the first one. `all` says whether signs, and expressions that nothing else speaks for, are said. Then come how many
+// brackets were met that close one further back, whether a line speaks for the expression around what was met last, how many lines there are, with those that are not
+// shown, the style of the next one, and where the last token ends if the file ends at the place.
 #[derive(Clone, Copy)]
-pub struct Walk {
-    pub closed: u32,
-    pub kept: bool,
-    pub lines: u32,
-    pub style: u32,
-    pub mark: usize,
-}
-
-// The last `|` before a token.
-fn bar_before(list: &[u32], token: u32) -> u32 {
-    let mut t = token;
-    while t > 0 {
-        t -= 1;
-        if found(list, t) == kinds::PIPE {
-            return t;
-        }
-    }
-    t
-}
-
-// Whether a lambda's names are open after a token of this kind, by whether they were before it.
-fn past(before: bool, kind: u32) -> bool {
-    if kind == kinds::PIPE {
-        return !before;
-    }
-    before
-}
-
-// Whether the names of a lambda are open at a token: between its two `|` there are only names and commas, so that every second one before the token closes.
-fn in_names(list: &[u32], token: u32) -> bool {
-    let mut inside = false;
-    let mut t: u32 = 0;
-    while t < token {
-        inside = past(inside, found(list, t));
-        t += 1;
-    }
-    inside
-}
-
-// What a `(` opens: a call after a name or a `)`, but after `fun` and a name the parameters.
-fn parenthesis_word(list: &[u32], token: u32) -> usize {
-    let last = before(list, token, 1);
-    if last == kinds::RIGHT_PAREN {
-        return CALL;
-    }
-    if last != kinds::IDENTIFIER {
-        return PARENTHESES;
-    }
-    if before(list, token, 2) == kinds::FUNCTION {
-        return PARAMETERS;
-    }
-    CALL
-}
-
-// What a `{` opens.
-fn brace_word(list: &[u32], token: u32) -> usize {
-    if before(list, token, 1) == kinds::HASH {
-        return MAP;
-    }
-    BLOCK
-}
-
-// What an entry of the chain is said as. A block's `{` speaks for it. An expression or a block after a `|` is the body of a lambda. `all` says whether signs, and
-// expressions that nothing else speaks for, are said; what opens at the refused token is not.
-fn entry_word(list: &[u32], sort: u32, token: u32, at: u32, all: bool, kept: bool) -> usize {
-    if token == at {
-        return NOTHING;
-    }
-    if sort < sorts::IF {
-        if before(list, token, 1) == kinds::PIPE {
-            return LAMBDA;
-        }
-    }
-    if sort == sorts::IF {
-        return IF;
-    }
-    if !all {
-        return NOTHING;
-    }
-    if sort == sorts::SIGN {
-        return SIGN;
-    }
-    if sort == sorts::BLOCK {
-        return NOTHING;
-    }
-    if kept {
-        return NOTHING;
-    }
-    EXPRESSION
-}
-
-// Where a construct starts that is met at this token: a map at the `#` before its brace, and a lambda at the first `|` of the two before its body.
-fn start_token(list: &[u32], word: usize, token: u32) -> u32 {
-    if word == MAP {
-        return previous(token);
-    }
-    if word == LAMBDA {
-        return bar_before(list, previous(token));
-    }
-    token
-}
-
-// A line: what is open, and where it starts. The answer is the style of the next line.
-fn show(
-    text: &[u8],
-    list: &[u32],
-    word: usize,
-    token: u32,
-    style: u32,
-    out: &mut [u8; 4096],
-) -> u32 {
-    let table = WORDS;
-    let from = CELL * least(word, EXPRESSION);
-    let led = put(b"  ", out, 0);
-    let said = put_cell(&table, from, from + CELL, out, led);
-    let all = put_place(text, start_of(list, token), out, said);
-    end_hint(style, out, all)
-}
-
-// The line of what is open at the end of the file, with a caret below its start, unless the last token ends on that line.
-fn show_opening(text: &[u8], start: usize, w: Walk, out: &mut [u8; 4096]) {
-    let here = place(text, start);
-    if here.line < place(text, w.mark).line {
-        if w.style == hint::LINES {
-            show_line(text, start, here.column, out);
-        }
-    }
-}
-
-// The walk after one more line, which is shown if few enough are.
-fn say(text: &[u8], list: &[u32], word: usize, token: u32, w: Walk, out: &mut [u8; 4096]) -> Walk {
-    let mut next = w;
-    next.lines = one_more(w.lines);
-    next.kept = word != EXPRESSION;
-    if w.lines < MOST {
-        next.style = show(text, list, word, token, w.style, out);
-    }
-    if w.lines == 0 {
-        show_opening(text, start_of(list, token) as usize, w, out);
-    }
-    next
-}
-
-// The walk after a bracket that opens something, unless one was met that closes it.
-fn pass_opener(
-    text: &[u8],
-    list: &[u32],
-    word: usize,
-    token: u32,
-    w: Walk,
-    out: &mut [u8; 4096],
-) -> Walk {
-    if w.closed == 0 {
-        return say(text, list, word, start_token(list, word, token), w, out);
-    }
-    let mut next = w;
-    next.closed = w.closed - 1;
-    next
-}
-
-// The walk after a token.
-fn pass_token(text: &[u8], list: &[u32], token: u32, w: Walk, out: &mut [u8; 4096]) -> Walk {
-    let kind = found(list, token);
-    match kind {
-        kinds::LEFT_PAREN => {
-            pass_opener(text, list, parenthesis_word(list, token), token, w, out)
-        }
-        kinds::LEFT_BRACE => pass_opener(text, list, brace_word(list, token), token, w, out),
-        kinds::RIGHT_PAREN | kinds::RIGHT_BRACE => {
-            let mut next = w;
-            next.closed = one_more(w.closed);
-            next
-        }
-        _ => w,
-    }
-}
-
-// The walk after the tokens from one up to another, the last first.
-fn pass_tokens(
-    text: &[u8],
-    list: &[u32],
-    from: u32,
-    upto: u32,
-    w: Walk,
-    out: &mut [u8; 4096],
-) -> Walk {
-    let mut now = w;
-    let mut t = upto;
-    while t > from {
-        t -= 1;
-        now = pass_token(text, list, t, now, out);
-    }
-    now
-}
-
-// The walk after an entry of the chain.
-fn pass_entry(
-    text: &[u8],
-    list: &[u32],
-    sort: u32,
-    token: u32,
+struct Walk<'a> {
+    script: Script<'a>,
     at: u32,
     all: bool,
-    w: Walk,
-    out: &mut [u8; 4096],
-) -> Walk {
-    let word = entry_word(list, sort, token, at, all, w.kept);
-    if word != NOTHING {
-        return say(text, list, word, start_token(list, word, token), w, out);
-    }
-    let mut next = w;
-    if sort == sorts::EXPRESSION {
-        next.kept = false;
-    }
-    next
+    closed: u32,
+    kept: bool,
+    lines: u32,
+    style: Style,
+    mark: Option<usize>,
 }
 
-// Where the last token ends, if the file ends at this one; else 0.
-fn end_of_last(list: &[u32], at: u32) -> usize {
-    if found(list, at) == kinds::EOF {
-        return end_before(list, at);
+impl Walk<'_> {
+    // What an entry of the chain is said as. A block's `{` speaks for it. An expression or a block after a `|` is the body of a lambda. What opens at the refused token
+    // is not said.
+    fn entry(&self, entry: Opening) -> Option<Open> {
+        if entry.at == self.at {
+            return None;
+        }
+        let is_body = self.script.before(entry.at, 1) == Some(kinds::PIPE);
+        match entry.sort {
+            sorts::EXPRESSION | sorts::BLOCK if is_body => Some(Open::Lambda),
+            sorts::IF => Some(Open::If),
+            sorts::SIGN if self.all => Some(Open::Sign),
+            sorts::EXPRESSION if self.all && !self.kept => Some(Open::Expression),
+            _ => None,
+        }
     }
-    0
+
+    // A line: what is open, and where it starts.
+    fn show(&mut self, open: Open, here: Place, line: &mut Line) {
+        line.put(open.words());
+        put_spot(here, line);
+        self.style = line.end_hint(self.style);
+    }
+
+    // The line of the text of what is open at the end of the file, with a caret below its start, unless the last token ends on that line.
+    fn show_start(&self, start: usize, here: Place, line: &mut Line) {
+        let Some(mark) = self.mark else {
+            return;
+        };
+        let text = self.script.text;
+        if self.style == Style::Lines && here.line < place(text, mark).line {
+            line.show_line(text, start, here.column);
+        }
+    }
+
+    // Goes on with one more line, which is shown if few enough are.
+    fn say(&mut self, open: Open, token: u32, line: &mut Line) {
+        let start = self.script.start(token).unwrap_or(0);
+        let here = place(self.script.text, start);
+        if self.lines < MOST {
+            self.show(open, here, line);
+        }
+        if self.lines == 0 {
+            self.show_start(start, here, line);
+        }
+        self.lines = self.lines.saturating_add(1);
+        self.kept = open != Open::Expression;
+    }
+
+    // Goes on over a bracket that opens something, unless one was met that closes it.
+    fn pass_opener(&mut self, open: Open, token: u32, line: &mut Line) {
+        if self.closed == 0 {
+            self.say(open, self.script.first_of(open, token), line);
+        } else {
+            self.closed -= 1;
+        }
+    }
+
+    // Goes on over a token.
+    fn pass_token(&mut self, token: u32, line: &mut Line) {
+        match self.script.kind(token) {
+            kinds::LEFT_PAREN => self.pass_opener(self.script.parenthesis(token), token, line),
+            kinds::LEFT_BRACE => self.pass_opener(self.script.brace(token), token, line),
+            kinds::RIGHT_PAREN | kinds::RIGHT_BRACE => self.closed = self.closed.saturating_add(1),
+            _ => {}
+        }
+    }
+
+    // Goes on over the tokens from one up to another, the last first.
+    fn pass_tokens(&mut self, from: u32, upto: u32, line: &mut Line) {
+        for t in (from..upto).rev() {
+            self.pass_token(t, line);
+        }
+    }
+
+    // Goes on over an entry of the chain.
+    fn pass_entry(&mut self, entry: Opening, line: &mut Line) {
+        if let Some(open) = self.entry(entry) {
+            self.say(open, self.script.first_of(open, entry.at), line);
+        } else if entry.sort == sorts::EXPRESSION {
+            self.kept = false;
+        }
+    }
+
+    // The first step: a lambda whose names are open, or whose body is to start at the place.
+    fn pass_lambda(&mut self, line: &mut Line) {
+        if let Some(bar) = self.script.names_before(self.at) {
+            self.say(Open::Lambda, bar, line);
+        } else if self.script.before(self.at, 1) == Some(kinds::PIPE) {
+            self.say(
+                Open::Lambda,
+                self.script.first_of(Open::Lambda, self.at),
+                line,
+            );
+        }
+    }
+
+    // The whole walk.
+    fn pass_all(&mut self, chain: &Chain, line: &mut Line) {
+        self.pass_lambda(line);
+        let mut upto = self.at;
+        for entry in chain.entries[..chain.count.min(64)].iter().rev() {
+            self.pass_tokens(entry.at, upto, line);
+            self.pass_entry(*entry, line);
+            upto = entry.at;
+        }
+        self.pass_tokens(0, upto, line);
+    }
 }
 
-// The walk's first step: a lambda whose names are open, or whose body is to start at the place.
-fn pass_lambda(text: &[u8], list: &[u32], at: u32, style: u32, out: &mut [u8; 4096]) -> Walk {
-    let w = Walk {
+// Where the last token ends, if the file ends at this one.
+fn end_of_last(script: Script, at: u32) -> Option<usize> {
+    if script.kind(at) != kinds::EOF {
+        return None;
+    }
+    script.end_before(at)
+}
+
+// Shows what is open at a token. The answer is the walk at its end.
+fn walked<'a>(
+    script: Script<'a>,
+    chain: &Chain,
+    at: u32,
+    all: bool,
+    style: Style,
+    line: &mut Line,
+) -> Walk<'a> {
+    let mut walk = Walk {
+        script,
+        at,
+        all,
         closed: 0,
         kept: false,
         lines: 0,
-        style: style,
-        mark: end_of_last(list, at),
+        style,
+        mark: end_of_last(script, at),
     };
-    if in_names(list, at) {
-        return say(text, list, LAMBDA, bar_before(list, at), w, out);
-    }
-    if before(list, at, 1) == kinds::PIPE {
-        return say(text, list, LAMBDA, start_token(list, LAMBDA, at), w, out);
-    }
-    w
-}
-
-// Shows what is open at a token. The answer is the whole walk.
-fn show_lines(
-    text: &[u8],
-    list: &[u32],
-    chain: Chain,
-    at: u32,
-    all: bool,
-    style: u32,
-    out: &mut [u8; 4096],
-) -> Walk {
-    let mut w = pass_lambda(text, list, at, style, out);
-    let mut upto = at;
-    let mut i = least(chain.count, 64);
-    while i > 0 {
-        i -= 1;
-        let entry = chain.entries[i];
-        w = pass_tokens(text, list, entry.at, upto, w, out);
-        w = pass_entry(text, list, entry.sort, entry.at, at, all, w, out);
-        upto = entry.at;
-    }
-    pass_tokens(text, list, 0, upto, w, out)
+    walk.pass_all(chain, line);
+    walk
 }
 
 // What is said of the lines that are not shown. The answer is the style of the next line.
-fn conclude(lines: u32, style: u32, out: &mut [u8; 4096]) -> u32 {
-    if lines > MOST {
-        let led = put(b"  and ", out, 0);
-        let counted = put_number(lines - MOST, out, led);
-        let all = put(b" more around it", out, counted);
-        return end_hint(style, out, all);
+fn conclude(walk: Walk, line: &mut Line) -> Style {
+    if walk.lines <= MOST {
+        return walk.style;
     }
-    style
+    line.put(b"  and ");
+    line.put_number(walk.lines - MOST);
+    line.put(b" more around it");
+    line.end_hint(walk.style)
 }
 
 // Shows what is open at a token; `all` of it, where the depth is what is wrong. Where nothing else is open, signs and expressions are said too. The answer is the style
 // of the next line.
 pub(crate) fn show_open(
-    text: &[u8],
-    list: &[u32],
-    chain: Chain,
+    script: Script,
+    chain: &Chain,
     at: u32,
     all: bool,
-    style: u32,
-    out: &mut [u8; 4096],
-) -> u32 {
-    let w = show_lines(text, list, chain, at, all, style, out);
-    if w.lines == 0 {
-        let more = show_lines(text, list, chain, at, true, w.style, out);
-        return conclude(more.lines, more.style, out);
+    style: Style,
+    line: &mut Line,
+) -> Style {
+    let short = walked(script, chain, at, all, style, line);
+    if short.lines > 0 {
+        return conclude(short, line);
     }
-    conclude(w.lines, w.style, out)
+    conclude(walked(script, chain, at, true, short.style, line), line)
 }

@@ -1,55 +1,68 @@
 // What is said of a script that is refused: the place, the message, the line of the text, and a caret.
-ghost use Rattle.std.specs.Prelude.{◌≤◌};
-
+use crate::tokens::Script;
+use diagnostics::Place;
 use diagnostics::line::place;
 use diagnostics::reason::reason;
-use page::source::{put_where, show_line};
-use page::visible::put_path;
-use page::{end_line, put, put_first};
+use page::Line;
+use reading::codes;
+use syntax::Numbers;
+use token::kinds;
 
-// A refusal: its code, its place in the text, the kind that was required, and the kind that was found.
-#[derive(Clone, Copy)]
-pub struct Why {
-    pub code: u32,
-    pub start: u32,
-    pub expected: u32,
-    pub found: u32,
+// Whether reading the tokens is what is refused by this code.
+pub(crate) fn is_of_tokens(code: u32) -> bool {
+    matches!(code, codes::KIND_REQUIRED..=codes::TOO_DEEP)
+}
+
+// Where the caret stands: at the refused token, but at the end of the file after the last one.
+fn caret_of(script: Script, a: Numbers) -> usize {
+    let start = a.start as usize;
+    if is_of_tokens(a.code) && script.kind(a.at) == kinds::EOF {
+        return script.end_before(a.at).unwrap_or(start);
+    }
+    start
 }
 
 // The message of a refusal, as the library has it.
-pub(crate) fn put_why(text: &[u8], why: Why, out: &mut [u8; 4096], at: usize) -> usize
-    requires { at ≤ 4096 }
-    ensures { result ≤ 4096 }
-{
+pub(crate) fn put_why(script: Script, a: Numbers, line: &mut Line) {
     let mut room = [0u8; 64];
     let told = reason(
-        text,
-        why.code,
-        why.start,
-        why.expected,
-        why.found,
+        script.text,
+        a.code,
+        a.start,
+        a.expected,
+        script.kind(a.at),
         &mut room,
     );
-    let k = told.length;
-    if k <= 64 {
-        return put_first(&room, k, out, at);
+    if let Some(message) = room.get(..told.length) {
+        line.put(message);
     }
-    at
 }
 
-// Says what is wrong with the file `path`, and shows a line of it with a caret below an offset.
-pub(crate) fn report(path: &[u8], text: &[u8], why: Why, caret: usize, out: &mut [u8; 4096]) {
-    if why.code < 3 {
-        let named = put_path(path, out, 0);
-        let gap = put(b": ", out, named);
-        let all = put_why(text, why, out, gap);
-        end_line(out, all);
+// Line and column of a place.
+pub(crate) fn put_spot(here: Place, line: &mut Line) {
+    line.put_number(here.line);
+    line.put_byte(b':');
+    line.put_number(here.column);
+}
+
+// The line of the text where the caret stands, with the caret below it.
+fn show_caret(script: Script, a: Numbers, line: &mut Line) {
+    let caret = caret_of(script, a);
+    let there = place(script.text, caret);
+    line.show_line(script.text, caret, there.column);
+}
+
+// Says what is wrong with the file `path`, and shows a line of it. A text that is too long, or that has too many tokens, has no place.
+pub(crate) fn report(path: &[u8], script: Script, a: Numbers, line: &mut Line) {
+    if a.code < 3 {
+        line.put_path(path);
+        line.put(b": ");
+        put_why(script, a, line);
+        line.end();
         return;
     }
-    let here = place(text, why.start as usize);
-    let led = put_where(path, here, out);
-    let all = put_why(text, why, out, led);
-    end_line(out, all);
-    let there = place(text, caret);
-    show_line(text, caret, there.column, out);
+    line.put_where(path, place(script.text, a.start as usize));
+    put_why(script, a, line);
+    line.end();
+    show_caret(script, a, line);
 }

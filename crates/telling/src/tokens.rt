@@ -1,53 +1,68 @@
-// The tokens around a place: their kinds, and where they start and end.
+// A script: its text and its tokens.
 use token::kinds;
 use wire::output::found;
 
-// One more. There are fewer tokens than this can count.
-pub(crate) fn one_more(n: u32) -> u32 {
-    if n < 65536 {
-        return n + 1;
-    }
-    n
+// The text, and the list of its tokens: three numbers each, which are its kind and where it starts and ends.
+#[derive(Clone, Copy)]
+pub struct Script<'a> {
+    pub text: &'a [u8],
+    pub list: &'a [u32],
 }
 
-// Where a token starts; 0 where there is none.
-pub(crate) fn start_of(list: &[u32], token: u32) -> u32 {
-    let i = 3 * (token as usize) + 1;
-    if i < list.len() {
-        return list[i];
+impl<'a> Script<'a> {
+    // The kind of a token.
+    pub(crate) fn kind(self, token: u32) -> u32 {
+        found(self.list, token)
     }
-    0
-}
 
-// The kind of the token that stands so many before another; Eof where there is none.
-pub(crate) fn before(list: &[u32], token: u32, back: u32) -> u32 {
-    if token < back {
-        return kinds::EOF;
+    // The kind of the token that stands so many before another.
+    pub(crate) fn before(self, token: u32, back: u32) -> Option<u32> {
+        let other = token.checked_sub(back)?;
+        Some(self.kind(other))
     }
-    found(list, token - back)
-}
 
-// The token before another, if there is one.
-pub(crate) fn previous(token: u32) -> u32 {
-    if token == 0 {
-        return 0;
+    // Where a token starts.
+    pub(crate) fn start(self, token: u32) -> Option<usize> {
+        let start = self.list.get(3 * token as usize + 1)?;
+        Some(*start as usize)
     }
-    token - 1
-}
 
-// Where a token ends; 0 where there is none.
-fn end_of(list: &[u32], token: u32) -> u32 {
-    let i = 3 * (token as usize) + 2;
-    if i < list.len() {
-        return list[i];
+    // Where the token starts that stands so many before another.
+    pub(crate) fn start_before(self, token: u32, back: u32) -> Option<usize> {
+        self.start(token.checked_sub(back)?)
     }
-    0
-}
 
-// Where the token before another ends; 0 where there is none.
-pub(crate) fn end_before(list: &[u32], token: u32) -> usize {
-    if token == 0 {
-        return 0;
+    // Where the token before another ends.
+    pub(crate) fn end_before(self, token: u32) -> Option<usize> {
+        let last = token.checked_sub(1)?;
+        let end = self.list.get(3 * last as usize + 2)?;
+        Some(*end as usize)
     }
-    end_of(list, token - 1) as usize
+
+    // The bracket that a closing one would close: the last of its sort before it that is open there.
+    pub(crate) fn opener_of(self, token: u32, opener: u32, closer: u32) -> Option<u32> {
+        let mut closed: u32 = 0;
+        for t in (0..token).rev() {
+            let kind = self.kind(t);
+            if kind == closer {
+                closed = closed.saturating_add(1);
+            } else if kind == opener {
+                if closed == 0 {
+                    return Some(t);
+                }
+                closed -= 1;
+            }
+        }
+        None
+    }
+
+    // The `{` that a `}` would close.
+    pub(crate) fn brace_of(self, token: u32) -> Option<u32> {
+        self.opener_of(token, kinds::LEFT_BRACE, kinds::RIGHT_BRACE)
+    }
+
+    // The `(` that a `)` would close.
+    pub(crate) fn parenthesis_of(self, token: u32) -> Option<u32> {
+        self.opener_of(token, kinds::LEFT_PAREN, kinds::RIGHT_PAREN)
+    }
 }
