@@ -5,7 +5,7 @@ use mathlib.Core.Bool.{Bool, true, false, cond, ◌&&◌}
 use mathlib.Core.List.{List, [], ◌∷◌, ◌++◌, append-nil}
 use mathlib.Core.Path.{◌≡◌, refl, sym, ap, ◌∙◌}
 use lib.Dec.{eqb, ltb, leb, leb→le}
-use borrow.Author.Tests.{eqb-true, eqb-false, ltb-true, lt-ltb, ne_eqb}
+use borrow.Author.Tests.{eq-eqb, eqb-true, eqb-false, ltb-true, lt-ltb, ne_eqb}
 use lib.ListN.{length, get_or, set, drop, length-set}
 use lib.Seq.{get_or-set_same, get_or-set_other, get_or-drop}
 use Rattle.grammar.specs.Edition.{Edition}
@@ -14,7 +14,7 @@ use Rattle.grammar.specs.Naming.{linked_nodes, linked_entries, named_by, times}
 use Rattle.grammar.specs.Room.{node_width, own_width, link_width}
 use Rattle.grammar.proofs.Pieces.{Piece, single, list, pieces, rows as piece-rows, naming_pieces, none_of_leaf}
 use Rattle.grammar.proofs.Tests.{both}
-use Rattle.parents.specs.Adopted.{rows, claim, claims}
+use Rattle.parents.specs.Adopted.{rows, claim, claims, listed}
 
 -- one list and then another
 pub claims_append : (row : ℕ) (xs ys ns : List ℕ) → claims row (xs ++ ys) ns ≡ claims row ys (claims row xs ns)
@@ -96,6 +96,13 @@ pub no_entries : {row from : ℕ} {ls ns : List ℕ} → Claimed linked_entries 
 unfolding linked_entries claims
 no_entries = record { taken = refl; size = refl }
 
+pub none_listed : (each : ℕ) {row from : ℕ} {ls ns : List ℕ} → Claimed (listed each) row ls from 0 ns ns
+none_listed each {row} {from} {ls} {ns} = pick (eqb each 2)
+  where
+    pick : (b : Bool) → Claimed (cond b linked_entries linked_nodes) row ls from 0 ns ns
+    pick true = no_entries
+    pick false = no_nodes
+
 module _ {row from i : ℕ} {ls before now : List ℕ} where
   pub node_more : {after : List ℕ} → Claimed linked_nodes row ls from i before now → after ≡ claim row (get_or ls (link_width * (from + i)) 0) now → Claimed linked_nodes row ls from (i + 1) before after
   unfolding claims
@@ -118,6 +125,14 @@ module _ {row from i : ℕ} {ls before now : List ℕ} where
         taken = f ∙ rw (e, j, two_more i (drop (link_width * from) ls), claims_append row (linked_entries i (drop (link_width * from) ls)), n, link_at ls from i 1, t.taken) refl;
         size = ap (λ (xs : List ℕ). length xs) f ∙ claim_length row _ between ∙ ap (λ (xs : List ℕ). length xs) e ∙ claim_length row _ now ∙ t.size;
       }
+
+  -- as either
+  pub listed_two : (each : ℕ) {between after : List ℕ} → each ≡ 2 → Claimed (listed each) row ls from i before now → between ≡ claim row (get_or ls (link_width * (from + i)) 0) now →
+      after ≡ claim row (get_or ls (link_width * (from + i) + 1) 0) between → Claimed (listed each) row ls from (i + 1) before after
+  listed_two each n t e f = let two = eq-eqb each 2 n in rw two (entry_more (rw two at t) e f)
+
+  pub listed_one : (each : ℕ) {after : List ℕ} → (each ≡ 2 → ⊥) → Claimed (listed each) row ls from i before now → after ≡ claim row (get_or ls (link_width * (from + i)) 0) now → Claimed (listed each) row ls from (i + 1) before after
+  listed_one each n t e = let one = ne_eqb each 2 n in rw one (node_more (rw one at t) e)
 
 -- what a row's numbers after its kind and span are in the room
 field : (ns : List ℕ) (row i : ℕ) → get_or (drop (node_width * row + 3) ns) i 0 ≡ get_or ns (node_width * row + (3 + i)) 0

@@ -1,7 +1,7 @@
 -- Parents put into the node room, once all rows are written. Document 02, L11: 'the tenth is the parent's row, absent at the root'.
-use Rattle.std.specs.Prelude.{ℕ, ◌+◌, ◌*◌, ◌≤◌, ◌<◌, cond, List, [], ◌∷◌, ◌++◌, ◌≡◌, ltb, length, set, take, drop}
+use Rattle.std.specs.Prelude.{ℕ, ◌+◌, ◌*◌, ◌≤◌, ◌<◌, cond, List, [], ◌∷◌, ◌++◌, ◌≡◌, eqb, ltb, length, set, take, drop}
 use Rattle.grammar.specs.Handle.{absent}
-use Rattle.grammar.specs.Naming.{named_by, Rising}
+use Rattle.grammar.specs.Naming.{linked_nodes, linked_entries, named_by, Rising}
 use Rattle.grammar.specs.Parent.{parented}
 use Rattle.grammar.specs.Room.{node_width, own_width}
 use Rattle.grammar.specs.Rows.{Rows}
@@ -20,6 +20,10 @@ claim row x ns = cond (ltb x row) (set ns (node_width * x + own_width) row) ns
 unfoldable pub claims : (row : ℕ) (xs : List ℕ) → List ℕ → List ℕ
 claims row [] ns = ns
 claims row (x ∷ xs) ns = claims row xs (claim row x ns)
+
+-- the rows that so many links name: one each, or two where they are entries
+abbrev pub listed : (each count : ℕ) (links : List ℕ) → List ℕ
+listed each = cond (eqb each 2) linked_entries linked_nodes
 
 -- a row has no parent
 abbrev pub orphaned : (row : ℕ) → List ℕ → List ℕ

@@ -3,9 +3,9 @@
 // and Naming.antt have it; any numbers have an answer, if the room has the row.
 ghost use Rattle.std.specs.Prelude.{◌*◌, ◌&&◌, ◌∷◌, [], ◌≡◌, leb, drop, get_or};
 ghost use Rattle.grammar.specs.Label.{Node as Form, number_of};
-ghost use Rattle.grammar.specs.Naming.{linked_nodes, linked_entries, named_by};
+ghost use Rattle.grammar.specs.Naming.{named_by};
 ghost use Rattle.grammar.specs.Room.{link_width};
-ghost use Rattle.parents.specs.Adopted.{rows, claim, claims, orphaned, InRoom, Adoptable, Adopted};
+ghost use Rattle.parents.specs.Adopted.{rows, claim, claims, listed, orphaned, InRoom, Adoptable, Adopted};
 
 use ast::{ABSENT, NODE_WIDTH, PARENT, kinds};
 
@@ -24,39 +24,21 @@ fn take(nodes: &mut [u32], row: u32, x: u32)
 fn held(links: &[u32], at: usize) -> u32
     ensures { result ≡ get_or links.now at 0 }
 {
-    if at < links.len() {
-        return links[at];
-    }
-    0
+    links.get(at).copied().unwrap_or(0)
 }
 
-// So have the rows that `count` link rows from row `from` on name, one each.
-fn take_nodes(nodes: &mut [u32], links: &[u32], row: u32, from: u32, count: u32)
+// So have the rows that `count` link rows from row `from` on name, EACH of them: one, or two, where they are map entries, a key and a value.
+fn take_listed<const EACH: usize>(nodes: &mut [u32], links: &[u32], row: u32, from: u32, count: u32)
     requires { InRoom row nodes.old }
-    ensures { nodes.new ≡ claims row (linked_nodes count (drop (link_width * from) links.now)) nodes.old }
+    ensures { nodes.new ≡ claims row (listed EACH count (drop (link_width * from) links.now)) nodes.old }
 {
     let first = from as usize;
-    let n = count as usize;
-    let mut i = 0;
-    while i < n {
-        take(nodes, row, held(links, 3 * (first + i)));
-        i += 1;
-    }
-}
-
-// And those that map entries name, a key and a value each.
-fn take_entries(nodes: &mut [u32], links: &[u32], row: u32, from: u32, count: u32)
-    requires { InRoom row nodes.old }
-    ensures { nodes.new ≡ claims row (linked_entries count (drop (link_width * from) links.now)) nodes.old }
-{
-    let first = from as usize;
-    let n = count as usize;
-    let mut i = 0;
-    while i < n {
+    for i in 0..count as usize {
         let at = 3 * (first + i);
         take(nodes, row, held(links, at));
-        take(nodes, row, held(links, at + 1));
-        i += 1;
+        if EACH == 2 {
+            take(nodes, row, held(links, at + 1));
+        }
     }
 }
 
@@ -73,10 +55,7 @@ fn take_two(nodes: &mut [u32], row: u32, x: u32, y: u32)
 fn is_leaf(kind: u32) -> bool
     ensures { result ≡ (leb (number_of Form.Identifier) kind && leb kind (number_of Form.Nil)) }
 {
-    if kind < kinds::IDENTIFIER {
-        return false;
-    }
-    kind <= kinds::NIL
+    matches!(kind, kinds::IDENTIFIER..=kinds::NIL)
 }
 
 // The rows that a row names have it as their parent.
@@ -104,13 +83,13 @@ fn family(nodes: &mut [u32], links: &[u32], row: u32)
         kinds::VARIABLE..=kinds::REF => take(nodes, row, d),
         kinds::FUNCTION_CALL => {
             take(nodes, row, a);
-            take_nodes(nodes, links, row, b, c)
+            take_listed::<1>(nodes, links, row, b, c)
         }
-        kinds::MAP => take_entries(nodes, links, row, a, b),
+        kinds::MAP => take_listed::<2>(nodes, links, row, a, b),
         kinds::FUNCTION => take(nodes, row, f),
         kinds::LAMBDA => take(nodes, row, c),
         kinds::BLOCK => {
-            take_nodes(nodes, links, row, a, b);
+            take_listed::<1>(nodes, links, row, a, b);
             take(nodes, row, c)
         }
         kinds::IF => {
@@ -136,10 +115,8 @@ pub fn adopt(nodes: &mut [u32], links: &[u32], count: u32)
     requires { Adoptable count links.now nodes.old }
     ensures { Adopted count links.now nodes.old nodes.new }
 {
-    let mut row = 0;
-    while row < count {
+    for row in 0..count {
         orphan(nodes, row);
         family(nodes, links, row);
-        row += 1;
     }
 }

@@ -7,20 +7,20 @@ use Rattle.parents.proofs.Adopting.{begun, room, next, done}
 use Rattle.parents.proofs.adopt.Goals as goal
 
 pub loop-row-init : goal.loop-row-init
-loop-row-init c = (begun _ _ _, omega arith)
+loop-row-init c = begun _ _ _
 
 pub orphan-requires : goal.orphan-requires
-orphan-requires c = room c.requires (omega arith) (omega arith) c.loop-row.invariant.0
+orphan-requires c = room c.requires (omega arith) (omega arith) c.loop-row.invariant
 
 pub family-requires : goal.family-requires
-family-requires c = omega (arith, room c.requires (omega arith) (omega arith) c.loop-row.invariant.0, c.orphan.auto.nodes)
+family-requires c = omega (arith, room c.requires (omega arith) (omega arith) c.loop-row.invariant, c.orphan.auto.nodes)
 
 pub loop-row-preserved : goal.loop-row-preserved
 loop-row-preserved c =
     let o = c.orphan.ensures in
     let l = c.loop-row in
     let a = c.args in
-    (next c.requires (omega arith) (omega arith) l.invariant.0 (c.family.ensures ∙ ap (λ xs. claims l.row (named_by (rows xs a.links.now) l.row) xs) o), omega arith)
+    next c.requires (omega arith) (omega arith) l.invariant (c.family.ensures ∙ ap (λ xs. claims l.row (named_by (rows xs a.links.now) l.row) xs) o)
 
 pub returns : goal.returns
-returns c = done c.requires (omega arith) (omega arith) c.loop-row.invariant.0
+returns c = done c.requires (omega arith) (omega arith) c.loop-row.invariant

@@ -24,11 +24,11 @@ returns-in-5 c = names_one _ _ _ 1 (rw c.in-5.is refl) c.take-in-5.ensures
 
 pub returns-in-15 : goal.returns-in-15
 unfolding layout pieces
-returns-in-15 c = names_row_list _ _ _ 0 1 (rw c.in-15.is refl) c.take-in-15.ensures c.take_nodes.ensures
+returns-in-15 c = names_row_list _ _ _ 0 1 (rw c.in-15.is refl) c.take-in-15.ensures c.take_listed.ensures
 
 pub returns-in-17 : goal.returns-in-17
 unfolding layout pieces
-returns-in-17 c = names_entries _ _ _ 0 (rw c.in-17.is refl) c.take_entries.ensures
+returns-in-17 c = names_entries _ _ _ 0 (rw c.in-17.is refl) c.take_listed-in-17.ensures
 
 pub returns-in-18 : goal.returns-in-18
 unfolding layout pieces
@@ -40,7 +40,7 @@ returns-in-19 c = names_one _ _ _ 2 (rw c.in-19.is refl) c.take-in-19.ensures
 
 pub returns-in-20 : goal.returns-in-20
 unfolding layout pieces
-returns-in-20 c = names_list_row _ _ _ 0 2 (rw c.in-20.is refl) c.take_nodes-in-20.ensures c.take-in-20.ensures
+returns-in-20 c = names_list_row _ _ _ 0 2 (rw c.in-20.is refl) c.take_listed-in-20.ensures c.take-in-20.ensures
 
 pub returns-in-21 : goal.returns-in-21
 unfolding layout pieces
