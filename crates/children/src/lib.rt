@@ -8,16 +8,19 @@ ghost use Rattle.children.specs.Below.{Number, three, Below, Linked, Places, Chi
 
 use ast::{ABSENT, LINK_WIDTH, NODE_WIDTH, kinds};
 
+// A number of a room.
+fn number(room: &[u32], at: usize) -> u32
+    ensures { Number room.now at result }
+{
+    room.get(at).copied().unwrap_or(ABSENT)
+}
+
 // Number i of a node row.
 // Ruled out: the number before it; 0 past the room.
 pub fn node(nodes: &[u32], row: u32, i: u32) -> u32
     ensures { Number nodes.now (node_width * row + i) result }
 {
-    let at = NODE_WIDTH * (row as usize) + (i as usize);
-    if at < nodes.len() {
-        return nodes[at];
-    }
-    ABSENT
+    number(nodes, NODE_WIDTH * (row as usize) + (i as usize))
 }
 
 // Number i of a link row, or of the rows after it.
@@ -28,14 +31,11 @@ pub fn link(links: &[u32], row: usize, i: u32) -> u32
     if row >= links.len() {
         return ABSENT;
     }
-    let at = LINK_WIDTH * row + (i as usize);
-    if at < links.len() {
-        return links[at];
-    }
-    ABSENT
+    number(links, LINK_WIDTH * row + (i as usize))
 }
 
-// What stands below a row: a child, links that hold so many children each, and two more children. Each of the three may be ABSENT.
+// What stands below a row: a child, links that hold so many children each, and two more children. Each of the three may be ABSENT. They are numbers, no Option and no enum: `child`
+// hands them on to the C interface as they stand in a row (`kaori_child`), and the specs' `placed` has `each` as the number 0, 1 or 2.
 #[derive(Clone, Copy)]
 pub struct Children {
     pub first: u32,
@@ -51,12 +51,12 @@ fn fixed(first: u32, second: u32, third: u32) -> Children
     ensures { result ≡ three first second third }
 {
     Children {
-        first: first,
+        first,
         from: 0,
         count: 0,
         each: 0,
-        second: second,
-        third: third,
+        second,
+        third,
     }
 }
 
@@ -65,11 +65,11 @@ fn listed(first: u32, from: u32, count: u32, each: u32, second: u32) -> Children
     ensures { result ≡ record { first = first; from = from; count = count; each = each; second = second; third = absent } }
 {
     Children {
-        first: first,
-        from: from,
-        count: count,
-        each: each,
-        second: second,
+        first,
+        from,
+        count,
+        each,
+        second,
         third: ABSENT,
     }
 }

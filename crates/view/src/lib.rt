@@ -1,6 +1,8 @@
 #![tactic(auto)]
 // A look at the finished rows: the last row, and the kind, span and parent of a row. The functions on a slice of node numbers and a count come first; a view holds
 // the two together.
+ghost use Rattle.std.specs.Prelude.{◌*◌, ◌<◌, ◌≤◌, ◌↔◌, IsTrue, length};
+ghost use Rattle.grammar.specs.Room.{node_width};
 ghost use Rattle.view.specs.View.{LastTold, KindTold, SpanTold, ParentTold};
 
 // The numbers of a node row, and which of them is its parent's row.
@@ -8,7 +10,7 @@ const WIDTH: usize = 10;
 
 const PARENT: usize = 9;
 
-// The answers: code 0, or refusal 15 with the other numbers 0.
+// The answers: code 0, or refusal 15 with the other numbers 0. They are no Result: document 01 has the other numbers of a refusal 0, as `Told` says (edit refusal_with_a_row).
 #[derive(Drop)]
 pub struct RowAnswer {
     pub code: u32,
@@ -34,17 +36,20 @@ pub struct ParentAnswer {
     pub parent: u32,
 }
 
+// Whether a row is below the count, in a room that has so many rows.
+fn has_row(nodes: &[u32], count: usize, row: usize) -> bool
+    ensures { IsTrue result ↔ ((node_width * count ≤ length nodes.now) × (row < count)) }
+{
+    count <= nodes.len() / WIDTH && row < count
+}
+
 // The number of the last of `count` rows.
 // Ruled out: the count itself; row 0 of no rows.
 pub fn last_row(nodes: &[u32], count: usize) -> RowAnswer
     ensures { LastTold nodes.now count result }
 {
-    let refused = RowAnswer { code: 15, row: 0 };
-    if nodes.len() / WIDTH < count {
-        return refused;
-    }
-    if count == 0 {
-        return refused;
+    if count == 0 || !has_row(nodes, count, count - 1) {
+        return RowAnswer { code: 15, row: 0 };
     }
     RowAnswer {
         code: 0,
@@ -57,17 +62,12 @@ pub fn last_row(nodes: &[u32], count: usize) -> RowAnswer
 pub fn kind_of(nodes: &[u32], count: usize, row: usize) -> KindAnswer
     ensures { KindTold nodes.now count row result }
 {
-    let refused = KindAnswer { code: 15, kind: 0 };
-    if nodes.len() / WIDTH < count {
-        return refused;
+    if !has_row(nodes, count, row) {
+        return KindAnswer { code: 15, kind: 0 };
     }
-    if row >= count {
-        return refused;
-    }
-    let at = WIDTH * row;
     KindAnswer {
         code: 0,
-        kind: nodes[at],
+        kind: nodes[WIDTH * row],
     }
 }
 
@@ -76,16 +76,12 @@ pub fn kind_of(nodes: &[u32], count: usize, row: usize) -> KindAnswer
 pub fn span_of(nodes: &[u32], count: usize, row: usize) -> SpanAnswer
     ensures { SpanTold nodes.now count row result }
 {
-    let refused = SpanAnswer {
-        code: 15,
-        start: 0,
-        end: 0,
-    };
-    if nodes.len() / WIDTH < count {
-        return refused;
-    }
-    if row >= count {
-        return refused;
+    if !has_row(nodes, count, row) {
+        return SpanAnswer {
+            code: 15,
+            start: 0,
+            end: 0,
+        };
     }
     let at = WIDTH * row;
     SpanAnswer {
@@ -100,20 +96,15 @@ pub fn span_of(nodes: &[u32], count: usize, row: usize) -> SpanAnswer
 pub fn parent_of(nodes: &[u32], count: usize, row: usize) -> ParentAnswer
     ensures { ParentTold nodes.now count row result }
 {
-    let refused = ParentAnswer {
-        code: 15,
-        parent: 0,
-    };
-    if nodes.len() / WIDTH < count {
-        return refused;
+    if !has_row(nodes, count, row) {
+        return ParentAnswer {
+            code: 15,
+            parent: 0,
+        };
     }
-    if row >= count {
-        return refused;
-    }
-    let at = WIDTH * row;
     ParentAnswer {
         code: 0,
-        parent: nodes[at + PARENT],
+        parent: nodes[WIDTH * row + PARENT],
     }
 }
 

@@ -1,6 +1,5 @@
 -- `take_listed` meets its contract: a claim for each link, or two for each.
-use native.Mathlib.Omega.{arith}
-use mathlib.Core.Path.{◌≡◌, refl, ◌∙◌}
+use mathlib.Core.Path.{refl, ◌∙◌}
 use Rattle.parents.proofs.Laws.{none_listed, listed_one, listed_two}
 use Rattle.parents.proofs.take_listed.Goals as goal
 use Rattle.parents.proofs.take_listed.Goals.{then-this-eq2, else-this-eq2}
