@@ -6,15 +6,9 @@ pub mod json;
 pub mod source;
 pub mod visible;
 pub mod words;
+mod writing;
 
 ghost use Rattle.std.specs.Prelude.{◌≤◌};
-
-use diagnostics::line::NEWLINE;
-
-// The descriptors of standard output and of standard error.
-const STDOUT_FILENO: i32 = 1;
-
-const STDERR_FILENO: i32 = 2;
 
 // What is not written yet of a line: the first bytes of a room. It is written to a descriptor.
 #[derive(Drop)]
@@ -23,88 +17,4 @@ pub struct Line {
     at: usize,
     to: i32,
     ghost fits: { at ≤ 4096 },
-}
-
-impl Line {
-    // An empty line of a descriptor.
-    fn empty(to: i32) -> Self {
-        Line {
-            room: [0; 4096],
-            at: 0,
-            to,
-        }
-    }
-
-    // An empty line of standard output.
-    pub fn new() -> Self {
-        Self::empty(STDOUT_FILENO)
-    }
-
-    // An empty line of standard error.
-    pub fn error() -> Self {
-        Self::empty(STDERR_FILENO)
-    }
-
-    // What is not written yet.
-    pub fn bytes(&self) -> &[u8] {
-        &self.room[..self.at]
-    }
-
-    // Nothing of it is written.
-    fn clear(&mut self) {
-        self.at = 0;
-    }
-
-    // Adds a byte.
-    pub fn put_byte(&mut self, byte: u8) {
-        if self.at < 4096 {
-            self.room[self.at] = byte;
-            self.at += 1;
-        } else {
-            self.write();
-            self.room[0] = byte;
-            self.at = 1;
-        }
-    }
-
-    // Adds bytes.
-    pub fn put(&mut self, part: &[u8]) {
-        for &byte in part {
-            self.put_byte(byte);
-        }
-    }
-
-    // Adds blanks up to a column, and one where the column is passed already.
-    pub fn pad(&mut self, column: usize) {
-        let next = self.at + 1;
-        self.put_byte(b' ');
-        for _ in next..column {
-            self.put_byte(b' ');
-        }
-    }
-
-    // Adds a number in decimal.
-    pub fn put_number(&mut self, n: u32) {
-        let mut digits = [0u8; 20];
-        let k = io::decimal(n as u64, &mut digits);
-        self.put(&digits[..k]);
-    }
-
-    // Writes what is not written yet.
-    pub fn write(&mut self) {
-        io::write_all(self.to, &self.room[..self.at]);
-        self.at = 0;
-    }
-
-    // Ends the line, and writes it.
-    pub fn end(&mut self) {
-        self.put_byte(NEWLINE);
-        self.write();
-    }
-
-    // A line of its own.
-    pub fn put_line(&mut self, part: &[u8]) {
-        self.put(part);
-        self.end();
-    }
 }
