@@ -42,16 +42,6 @@ fn breaks(text: &[u8], from: u32, upto: u32) -> bool
     false
 }
 
-// Whether a token stands on another line than the one before it, in no parentheses and no map.
-fn on_new_line(text: &[u8], tokens: &[u32], k: usize) -> bool
-    ensures { Decides (OnNewLine text.now tokens.now k) result }
-{
-    if k == 0 || k >= tokens.len() / 3 {
-        return false;
-    }
-    in_block(tokens, k) && breaks(text, end_at(tokens, k - 1), start_at(tokens, k))
-}
-
 // Whether a row of this kind is an `and` or an `or`.
 fn joins(kind: u32) -> bool
     ensures { result ≡ among joining kind }
@@ -65,25 +55,6 @@ pub fn reached(tokens: &[u32], nodes: &[u32], row: u32, x: u32) -> bool
     ensures { Decides (Reached tokens.now nodes.now row x) result }
 {
     joins(node(nodes, x, 0)) && brackets(tokens, node(nodes, row, 1), sign(tokens, nodes, x)) == 0
-}
-
-// Rule ReachingNot.
-fn is_reaching(tokens: &[u32], nodes: &[u32], row: u32) -> bool
-    ensures { Decides (ReachingNot tokens.now nodes.now row) result }
-{
-    if node(nodes, row, 0) != kinds::LOGICAL_NOT {
-        return false;
-    }
-    let mut above = row;
-    let mut x = last(nodes, row);
-    while x < above {
-        if reached(tokens, nodes, row, x) {
-            return true;
-        }
-        above = x;
-        x = last(nodes, x);
-    }
-    false
 }
 
 // Whether a token of this kind may start an operand, and go on with one.
@@ -116,56 +87,116 @@ fn is_closed(kind: u32) -> bool
     )
 }
 
-// Rule CutOff.
-fn is_cut_off(tokens: &[u32], nodes: &[u32], row: u32) -> bool
-    ensures { Decides (CutOff tokens.now nodes.now row) result }
-{
-    if !is_closed(node(nodes, row, 0)) {
-        return false;
-    }
-    let parent = node(nodes, row, PARENT as u32);
-    if node(nodes, parent, 0) != kinds::BLOCK {
-        return false;
-    }
-    let end = node(nodes, row, 2);
-    for k in 0..(tokens.len() / 3).saturating_sub(1) {
-        if is_cut(tokens, end, k) {
-            return true;
-        }
-    }
-    false
+// A text, its tokens and the rows that were read from them.
+#[derive(Clone, Copy)]
+struct Script<'a> {
+    text: &'a [u8],
+    tokens: &'a [u32],
+    nodes: &'a [u32],
 }
 
-// Rule GoingOn.
-fn is_going_on(text: &[u8], tokens: &[u32], nodes: &[u32], row: u32) -> bool
-    ensures { Decides (GoingOn text.now tokens.now nodes.now row) result }
-{
-    match node(nodes, row, 0) {
-        kinds::FUNCTION_CALL => {
-            on_new_line(text, tokens, first_past(tokens, node(nodes, row, 1)))
+impl<'a> Script<'a> {
+    // Whether a token stands on another line than the one before it, in no parentheses and no map.
+    fn on_new_line(self, k: usize) -> bool
+        ensures { Decides (OnNewLine self.entry.text.now self.entry.tokens.now k) result }
+    {
+        if k == 0 || k >= self.tokens.len() / 3 {
+            return false;
         }
-        kinds::BINARY => {
-            node(nodes, row, 3) <= 1 && on_new_line(text, tokens, sign(tokens, nodes, row))
-        }
-        _ => false,
+        in_block(self.tokens, k)
+            && breaks(
+                self.text,
+                end_at(self.tokens, k - 1),
+                start_at(self.tokens, k),
+            )
     }
-}
 
-// Rule LongString.
-fn is_long(text: &[u8], nodes: &[u32], row: u32) -> bool
-    ensures { Decides (LongString text.now nodes.now row) result }
-{
-    node(nodes, row, 0) == kinds::STRING && breaks(text, node(nodes, row, 1), node(nodes, row, 2))
-}
+    // Rule ReachingNot.
+    fn is_reaching(self, row: u32) -> bool
+        ensures { Decides (ReachingNot self.entry.tokens.now self.entry.nodes.now row) result }
+    {
+        if node(self.nodes, row, 0) != kinds::LOGICAL_NOT {
+            return false;
+        }
+        let mut above = row;
+        let mut x = last(self.nodes, row);
+        while x < above {
+            if reached(self.tokens, self.nodes, row, x) {
+                return true;
+            }
+            above = x;
+            x = last(self.nodes, x);
+        }
+        false
+    }
 
-// Rule Any.
-fn is_any(text: &[u8], tokens: &[u32], nodes: &[u32], row: u32) -> bool
-    ensures { Decides (Any text.now tokens.now nodes.now row) result }
-{
-    is_reaching(tokens, nodes, row)
-        || is_cut_off(tokens, nodes, row)
-        || is_going_on(text, tokens, nodes, row)
-        || is_long(text, nodes, row)
+    // Rule CutOff.
+    fn is_cut_off(self, row: u32) -> bool
+        ensures { Decides (CutOff self.entry.tokens.now self.entry.nodes.now row) result }
+    {
+        if !is_closed(node(self.nodes, row, 0)) {
+            return false;
+        }
+        let parent = node(self.nodes, row, PARENT as u32);
+        if node(self.nodes, parent, 0) != kinds::BLOCK {
+            return false;
+        }
+        let end = node(self.nodes, row, 2);
+        for k in 0..(self.tokens.len() / 3).saturating_sub(1) {
+            if is_cut(self.tokens, end, k) {
+                return true;
+            }
+        }
+        false
+    }
+
+    // Rule GoingOn.
+    fn is_going_on(self, row: u32) -> bool
+        ensures { Decides (GoingOn self.entry.text.now self.entry.tokens.now self.entry.nodes.now row) result }
+    {
+        match node(self.nodes, row, 0) {
+            kinds::FUNCTION_CALL => {
+                self.on_new_line(first_past(self.tokens, node(self.nodes, row, 1)))
+            }
+            kinds::BINARY => {
+                node(self.nodes, row, 3) <= 1
+                    && self.on_new_line(sign(self.tokens, self.nodes, row))
+            }
+            _ => false,
+        }
+    }
+
+    // Rule LongString.
+    fn is_long(self, row: u32) -> bool
+        ensures { Decides (LongString self.entry.text.now self.entry.nodes.now row) result }
+    {
+        node(self.nodes, row, 0) == kinds::STRING
+            && breaks(
+                self.text,
+                node(self.nodes, row, 1),
+                node(self.nodes, row, 2),
+            )
+    }
+
+    // Rule Any.
+    fn is_any(self, row: u32) -> bool
+        ensures { Decides (Any self.entry.text.now self.entry.tokens.now self.entry.nodes.now row) result }
+    {
+        self.is_reaching(row) || self.is_cut_off(row) || self.is_going_on(row) || self.is_long(row)
+    }
+
+    // Whether a row meets a rule.
+    fn meets(self, rule: Rule, row: u32) -> bool
+        ensures { Decides (Meets rule self.entry.text.now self.entry.tokens.now self.entry.nodes.now row) result }
+    {
+        match rule {
+            Rule::ReachingNot => self.is_reaching(row),
+            Rule::CutOff => self.is_cut_off(row),
+            Rule::GoingOn => self.is_going_on(row),
+            Rule::LongString => self.is_long(row),
+            Rule::Any => self.is_any(row),
+        }
+    }
 }
 
 // Whether a row meets a rule.
@@ -173,13 +204,12 @@ fn is_any(text: &[u8], tokens: &[u32], nodes: &[u32], row: u32) -> bool
 pub fn meets(rule: Rule, text: &[u8], tokens: &[u32], nodes: &[u32], row: u32) -> bool
     ensures { Decides (Meets rule text.now tokens.now nodes.now row) result }
 {
-    match rule {
-        Rule::ReachingNot => is_reaching(tokens, nodes, row),
-        Rule::CutOff => is_cut_off(tokens, nodes, row),
-        Rule::GoingOn => is_going_on(text, tokens, nodes, row),
-        Rule::LongString => is_long(text, nodes, row),
-        Rule::Any => is_any(text, tokens, nodes, row),
+    Script {
+        text,
+        tokens,
+        nodes,
     }
+    .meets(rule, row)
 }
 
 // The first of `count` rows, from row `from` on, that meets a rule; ABSENT where none does.
@@ -187,8 +217,13 @@ pub fn meets(rule: Rule, text: &[u8], tokens: &[u32], nodes: &[u32], row: u32) -
 pub fn next(rule: Rule, text: &[u8], tokens: &[u32], nodes: &[u32], count: u32, from: u32) -> u32
     ensures { Next (Meets rule text.now tokens.now nodes.now) from count result }
 {
+    let script = Script {
+        text,
+        tokens,
+        nodes,
+    };
     for row in from..count {
-        if meets(rule, text, tokens, nodes, row) {
+        if script.meets(rule, row) {
             return row;
         }
     }

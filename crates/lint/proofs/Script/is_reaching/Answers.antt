@@ -1,8 +1,8 @@
--- `is_reaching` meets its contract: one row after another of what the `not` took.
+-- `Script::is_reaching` meets its contract: one row after another of what the `not` took.
 use Rattle.spelling.proofs.Deciding.{held, failed, said}
 use Rattle.children.proofs.Laws.{number_is}
 use Rattle.lint.proofs.Laws.{a_step, reaching_from, reaching_nothing, no_not}
-use Rattle.lint.proofs.is_reaching.Goals as goal
+use Rattle.lint.proofs.Script.is_reaching.Goals as goal
 
 pub returns-then-node-ne-LOGICAL_NOT : goal.returns-then-node-ne-LOGICAL_NOT
 returns-then-node-ne-LOGICAL_NOT c = no_not (number_is c.node.ensures) c.if-node-ne-LOGICAL_NOT.true

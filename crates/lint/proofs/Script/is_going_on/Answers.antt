@@ -1,9 +1,9 @@
--- `is_going_on` meets its contract: by the kind of the row, and by where its token stands.
+-- `Script::is_going_on` meets its contract: by the kind of the row, and by where its token stands.
 use native.Mathlib.Omega.{arith}
 use Rattle.std.proofs.lemmas.Bool.{lt-leb}
 use Rattle.children.proofs.Laws.{number_is}
 use Rattle.lint.proofs.Laws.{call_goes_on, sum_goes_on, neither, other_sign}
-use Rattle.lint.proofs.is_going_on.Goals as goal
+use Rattle.lint.proofs.Script.is_going_on.Goals as goal
 
 pub returns-in-15 : goal.returns-in-15
 returns-in-15 c = call_goes_on (number_is c.node.ensures) c.in-15.is (number_is c.node-in-15.ensures) c.first_past.ensures c.on_new_line.ensures

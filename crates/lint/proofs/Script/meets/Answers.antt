@@ -1,6 +1,6 @@
--- `meets` meets its contract: each rule has its own function.
+-- `Script::meets` meets its contract: each rule has its own function.
 use Rattle.lint.specs.Rules.{Meets}
-use Rattle.lint.proofs.meets.Goals as goal
+use Rattle.lint.proofs.Script.meets.Goals as goal
 
 pub returns-in-ReachingNot : goal.returns-in-ReachingNot
 unfolding Meets

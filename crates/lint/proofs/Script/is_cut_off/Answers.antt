@@ -1,9 +1,9 @@
--- `is_cut_off` meets its contract: a statement that ends at its own `}`, and one token after another.
+-- `Script::is_cut_off` meets its contract: a statement that ends at its own `}`, and one token after another.
 use native.Mathlib.Omega.{arith}
 use Rattle.spelling.proofs.Deciding.{held, failed, said}
 use Rattle.children.proofs.Laws.{number_is}
 use Rattle.lint.proofs.Laws.{one_more, not_closed, no_statement, cut_found, cut_nowhere}
-use Rattle.lint.proofs.is_cut_off.Goals as goal
+use Rattle.lint.proofs.Script.is_cut_off.Goals as goal
 
 pub returns-then-not-is_closed : goal.returns-then-not-is_closed
 returns-then-not-is_closed c = not_closed (number_is c.node.ensures) c.is_closed.ensures c.if-not-is_closed.true
