@@ -2,7 +2,7 @@
 ghost use Rattle.std.specs.Prelude.{◌+◌, ◌≤◌, ◌≡◌, length};
 ghost use Rattle.grammar.specs.Pattern.{from_to};
 ghost use Rattle.spelling.specs.Display.{Put};
-ghost use Rattle.diagnostics.specs.Reason.{last, tabled, table, begins, PlacedAt, ReasonGiven};
+ghost use Rattle.diagnostics.specs.Reason.{last, tabled, begins, PlacedAt, ReasonGiven};
 
 use crate::Message;
 use crate::text::message;
@@ -11,7 +11,7 @@ use spelling::display::put;
 // Codes are numbers, and no enum: the C interface takes any u32 (station's `kaori_reason`; `ReasonGiven`).
 // The texts one after the other: those of the codes, and then that of a string that is not closed. One table is checked faster than an arm with bytes of its own for each
 // code.
-const TEXTS: [u8; 603] = *b"\
+static TEXTS: [u8; 603] = *b"\
     too many tokens: a script has at most 4,095\
     file too large: a script has at most 65,536 bytes\
     the depth limit is not from 1 to 64\
@@ -32,7 +32,7 @@ const TEXTS: [u8; 603] = *b"\
     a string that is not closed";
 
 // Where the text of each code up to 22 starts, and then that of a string; and where they end. That of a code without one starts where the next does.
-const STARTS: [u16; 25] = [
+static STARTS: [u16; 25] = [
     0, 0, 43, 92, 127, 155, 179, 221, 268, 268, 268, 268, 268, 268, 298, 330, 349, 369, 397, 425,
     468, 514, 544, 576, 603,
 ];
@@ -96,13 +96,6 @@ fn which(text: &[u8], code: u32, start: u32) -> usize
     }
 }
 
-// The texts, to be lent: to name a constant array copies it.
-fn texts() -> [u8; 603]
-    ensures { result ≡ table }
-{
-    TEXTS
-}
-
 // Where the text at a place of the table starts; after the last place, where the table ends.
 fn start_of(i: usize) -> usize
     requires { i ≤ last + 1 }
@@ -116,8 +109,7 @@ fn put_tabled(i: usize, room: &mut [u8]) -> usize
     requires { (i ≤ last) × (52 ≤ length room.old) }
     ensures { Put (tabled i) 0 room.old room.new result }
 {
-    let table = texts();
     let from = start_of(i);
     let upto = start_of(i + 1);
-    put(&table[from..upto], room, 0)
+    put(&TEXTS[from..upto], room, 0)
 }
