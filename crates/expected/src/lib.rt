@@ -234,6 +234,7 @@ fn opened_by(number: usize) -> usize
 
 // What is told at a token up to which all tokens are taken within the limit: the cells from the top on are left, with so many constructs open. The kind there is taken,
 // and only an opening that passes the limit is a refusal; or nothing is left; or it is barred, by the code that the table says.
+// The call's own numbers stay parameters: a struct of them would be made once, in `expected`, and taken apart once, here.
 fn tell(
     tokens: &[u32],
     edition: u32,

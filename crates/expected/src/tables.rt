@@ -9,6 +9,7 @@ use token::{editions, kinds};
 
 // The numbers of the table. A kind is barred: a token is missing, or an operand, or it is `for`; the operand is missing in an expression that opens at this token, or a
 // brace in a block that does. Or the state passes the kind on to what stands below it. From TAKES on it takes it, and a list stands for the state.
+// Numbers, and no enum: they are the bytes of the table, which `Acts` reads as they stand (specs/Cells.antt).
 pub(crate) const NO_TOKEN: usize = 0;
 
 pub(crate) const NO_OPERAND: usize = 1;

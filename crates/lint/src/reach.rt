@@ -1,4 +1,5 @@
 // How far a row reaches, and which token joins its operands. Every function answers for any rows and tokens.
+// Tokens and rows are lent apart, and no struct: crate warning calls these with the ones that it has.
 ghost use Rattle.std.specs.Prelude.{◌+◌, ◌≤◌, ◌<◌, ◌≡◌};
 ghost use Rattle.grammar.specs.Token.{count};
 ghost use Rattle.spelling.specs.Decides.{Decides};
