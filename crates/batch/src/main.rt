@@ -7,21 +7,16 @@
 ghost use Rattle.std.specs.Prelude.{◌+◌, ◌*◌, ◌≤◌, length};
 ghost use Rattle.wire.specs.Scanned.{Sizes};
 
-use frames::{Frame, read, write};
+use expected::expected;
+use frames::numbers::{lend, take_all};
+use frames::{each, write};
 use listing::{answer, blank};
 use spelling::display::put;
-use syntax::{Numbers, parse_as};
+use syntax::parse_as;
 use token::editions::FIRST;
 use token::profiles::Profile;
 use wire::input::{Script, fill, four, scan};
 use wire::output::numbers;
-
-// Writes the first n bytes of a room as a frame, and says whether it could.
-fn sent(room: &[u8], n: usize) -> bool
-    requires { n ≤ length room.now }
-{
-    write(&room[..n])
-}
 
 // A line of numbers, each after a blank.
 fn line(values: &[u32], out: &mut [u8], at: usize) -> usize
@@ -32,77 +27,77 @@ fn line(values: &[u32], out: &mut [u8], at: usize) -> usize
     put(b"\n", out, end)
 }
 
-// What a call answered, and the rooms as it left them: a line each.
-fn told(
-    a: Numbers,
-    nodes: &[u32],
-    links: &[u32],
-    symbols: &[u32],
-    scratch: &[u32],
-    out: &mut [u8; 262144],
-) -> usize
-    requires { (length nodes.now ≤ 5129) × (length links.now ≤ 1538) × (length symbols.now ≤ 1025) × (length scratch.now ≤ 1538) }
-    ensures { result ≤ 262144 }
+// The n tokens of an input whose text has this size, in a list.
+fn filled<'a>(input: &[u8], size: usize, n: usize, tokens: &'a mut [u32; 1536]) -> &'a [u32]
+    requires { Sizes input.now size n }
 {
-    let values = [
-        a.code, a.nodes, a.links, a.symbols, a.at, a.start, a.end, a.expected,
-    ];
-    let b = line(&values, out, 0);
-    let c = line(nodes, out, b);
-    let d = line(links, out, c);
-    let e = line(symbols, out, d);
-    line(scratch, out, e)
+    fill(input, 6 + size, n, tokens);
+    &tokens[..3 * n]
 }
 
-// The answer to an input of a text of this size and n tokens, read so, beside these built-in names, in this edition and in these rooms.
+// How an input is read: beside these built-in names, as a script or a guard, and in this edition.
+#[derive(Drop)]
+struct Terms<'a> {
+    names: &'a [u8],
+    rows: &'a [u32],
+    profile: Profile,
+    edition: u32,
+}
+
+// The rooms that a call is lent.
+struct Rooms<'a> {
+    nodes: &'a mut [u32],
+    links: &'a mut [u32],
+    symbols: &'a mut [u32],
+    scratch: &'a mut [u32],
+}
+
+// What a call answers to an input of a text of this size and n tokens, and the rooms as it left them: a line each.
 fn called(
-    names: &[u8],
-    rows: &[u32],
     input: &[u8],
     size: usize,
     n: usize,
-    profile: Profile,
-    edition: u32,
+    terms: Terms,
     limit: u32,
-    nodes: &mut [u32],
-    links: &mut [u32],
-    symbols: &mut [u32],
-    scratch: &mut [u32],
+    rooms: Rooms,
     out: &mut [u8; 262144],
 ) -> usize
-    requires { Sizes input.now size n × (length nodes.old ≤ 5129) × (length links.old ≤ 1538) × (length symbols.old ≤ 1025) × (length scratch.old ≤ 1538) }
+    requires input { Sizes input.now size n }
+    requires nodes { length rooms.nodes.now ≤ 5129 }
+    requires links { length rooms.links.now ≤ 1538 }
+    requires symbols { length rooms.symbols.now ≤ 1025 }
+    requires scratch { length rooms.scratch.now ≤ 1538 }
     ensures { result ≤ 262144 }
 {
-    let from = 6 + size;
-    let used = 3 * n;
-    let mut tokens: [u32; 1536] = [0; 1536];
-    fill(input, from, n, &mut tokens);
+    let Rooms {
+        nodes,
+        links,
+        symbols,
+        scratch,
+    } = rooms;
+    let mut tokens = [0; 1536];
+    let tokens = filled(input, size, n, &mut tokens);
     let a = parse_as(
-        names,
-        rows,
-        &input[6..from],
-        &tokens[..used],
-        profile,
-        edition,
+        terms.names,
+        terms.rows,
+        &input[6..6 + size],
+        tokens,
+        terms.profile,
+        terms.edition,
         limit,
         nodes,
         links,
         symbols,
         scratch,
     );
-    told(a, nodes, links, symbols, scratch, out)
-}
-
-// How many numbers a room has: four bytes of a case say it, but no more than `most`.
-fn sized(case: &[u8], at: usize, most: usize) -> usize
-    requires { at + 4 ≤ length case.now }
-    ensures { result ≤ most }
-{
-    let n = four(case, at) as usize;
-    if n < most {
-        return n;
-    }
-    most
+    let values = [
+        a.code, a.nodes, a.links, a.symbols, a.at, a.start, a.end, a.expected,
+    ];
+    let at = line(&values, out, 0);
+    let at = line(nodes, out, at);
+    let at = line(links, out, at);
+    let at = line(symbols, out, at);
+    line(scratch, out, at)
 }
 
 // The answer to what is no case.
@@ -112,62 +107,36 @@ fn bad(out: &mut [u8; 262144]) -> usize
     put(b"bad input\n", out, 0)
 }
 
-// Where the limit and the four sizes of a case that has them stand, and the input of one that has no names.
+// Where the limit of a case that has one stands, and the input of one that has no names.
 const LIMIT: usize = 2;
-
-const NODES: usize = 6;
-
-const LINKS: usize = 10;
-
-const SYMBOLS: usize = 14;
-
-const SCRATCH: usize = 18;
 
 const INPUT: usize = 22;
 
-// The answer to a case with a limit and rooms of its own, whose input stands from `at` on and is read so, beside these built-in names and in this edition. After the mark stand the
-// limit, and how many numbers the rooms of nodes, links, symbols and scratch have (4 bytes each, little-endian; at most 512 rows and what can be left over). Each number
-// of the rooms is 7 before the call.
-fn lent(
-    case: &[u8],
-    at: usize,
-    names: &[u8],
-    rows: &[u32],
-    profile: Profile,
-    edition: u32,
-    out: &mut [u8; 262144],
-) -> usize
+// The answer to a case with a limit and rooms of its own, whose input stands from `at` on and is read so. After the mark stand the limit, and how many numbers the rooms of
+// nodes, links, symbols and scratch have (4 bytes each, little-endian; at most 512 rows and what can be left over). Each number of the rooms is 7 before the call.
+fn lent(case: &[u8], at: usize, terms: Terms, out: &mut [u8; 262144]) -> usize
     requires { (22 ≤ length case.now) × (at ≤ length case.now) }
     ensures { result ≤ 262144 }
 {
-    let form = scan(&case[at..]);
+    let input = &case[at..];
+    let form = scan(input);
     let Script::Sized(size, n) = form else {
         return bad(out);
     };
-    let limit = four(case, LIMIT);
-    let ns = sized(case, NODES, 5129);
-    let ls = sized(case, LINKS, 1538);
-    let ys = sized(case, SYMBOLS, 1025);
-    let ss = sized(case, SCRATCH, 1538);
-    let mut nodes: [u32; 5129] = [7; 5129];
-    let mut links: [u32; 1538] = [7; 1538];
-    let mut symbols: [u32; 1025] = [7; 1025];
-    let mut scratch: [u32; 1538] = [7; 1538];
-    called(
-        names,
-        rows,
-        &case[at..],
-        size,
-        n,
-        profile,
-        edition,
-        limit,
-        &mut nodes[..ns],
-        &mut links[..ls],
-        &mut symbols[..ys],
-        &mut scratch[..ss],
-        out,
-    )
+    let mut head = [0; 5];
+    take_all(case, LIMIT, &mut head);
+    let [limit, a, b, c, d] = head;
+    let mut nodes = [7; 5129];
+    let mut links = [7; 1538];
+    let mut symbols = [7; 1025];
+    let mut scratch = [7; 1538];
+    let rooms = Rooms {
+        nodes: lend(&mut nodes, a),
+        links: lend(&mut links, b),
+        symbols: lend(&mut symbols, c),
+        scratch: lend(&mut scratch, d),
+    };
+    called(input, size, n, terms, limit, rooms, out)
 }
 
 // Where a case with built-in names says how many bytes their text has and how many numbers their rows, and where the text stands; and the most of both.
@@ -181,17 +150,6 @@ const MOST_BYTES: usize = 8192;
 
 const MOST_NUMBERS: usize = 133;
 
-// Writes the n numbers that stand from a place on into a list.
-fn listed(case: &[u8], from: usize, n: usize, rows: &mut [u32])
-    requires { (from + 4 * n ≤ length case.now) × (n ≤ length rows.old) }
-{
-    let mut i = 0;
-    while i < n {
-        rows[i] = four(case, from + 4 * i);
-        i += 1;
-    }
-}
-
 // The answer to a case with built-in names, read so, in this edition. After the sizes of the rooms stand those of the names' text and rows, then the text, the numbers of the
 // rows (4 bytes each, little-endian), and an input.
 fn beside(case: &[u8], profile: Profile, edition: u32, out: &mut [u8; 262144]) -> usize
@@ -202,28 +160,20 @@ fn beside(case: &[u8], profile: Profile, edition: u32, out: &mut [u8; 262144]) -
     }
     let size = four(case, TEXT_SIZE) as usize;
     let n = four(case, ROWS_SIZE) as usize;
-    if MOST_BYTES < size {
+    if size > MOST_BYTES || n > MOST_NUMBERS || case.len() < TEXT + size + 4 * n {
         return bad(out);
     }
-    if MOST_NUMBERS < n {
-        return bad(out);
-    }
-    let from = TEXT + size;
-    let at = from + 4 * n;
-    if case.len() < at {
-        return bad(out);
-    }
-    let mut rows: [u32; MOST_NUMBERS] = [0; MOST_NUMBERS];
-    listed(case, from, n, &mut rows);
-    lent(
-        case,
-        at,
-        &case[TEXT..from],
-        &rows[..n],
+    let mut rows = [0; MOST_NUMBERS];
+    let rows = &mut rows[..n];
+    let names = &case[TEXT..TEXT + size];
+    let at = take_all(case, TEXT + size, rows);
+    let terms = Terms {
+        names,
+        rows,
         profile,
         edition,
-        out,
-    )
+    };
+    lent(case, at, terms, out)
 }
 
 // The halves of a number.
@@ -235,64 +185,24 @@ fn high(x: u64) -> u32 {
     (x / 4294967296) as u32
 }
 
-// The entries of a chain, sort and token each: a line.
-fn chained(c: expected::Chain, out: &mut [u8; 262144], at: usize) -> usize
-    requires { at ≤ 1000 }
+// What could have stood at a token, and what was open there: a line with the halves of the set, how many kinds, the lowest and how many constructs, and a line with the
+// chain, sort and token of each entry.
+fn stood(a: expected::Told, out: &mut [u8; 262144]) -> usize
     ensures { result ≤ 262144 }
 {
-    let mut pairs: [u32; 128] = [0; 128];
-    let mut i = 0;
-    while i < 64 {
-        let entry = c.entries[i];
+    let open = a.chain.count as u64;
+    let values = [low(a.kinds), high(a.kinds), a.count, a.lowest, low(open)];
+    let at = line(&values, out, 0);
+    let mut pairs = [0; 128];
+    for (i, entry) in a.chain.entries.iter().enumerate() {
         pairs[2 * i] = entry.sort;
         pairs[2 * i + 1] = entry.at;
-        i += 1;
     }
     line(&pairs, out, at)
 }
 
-// What could have stood at a token, and what was open there: a line with the halves of the set, how many kinds, the lowest and how many constructs, and a line with the
-// chain.
-fn stood(a: expected::Told, out: &mut [u8; 262144]) -> usize
-    ensures { result ≤ 262144 }
-{
-    let c = a.chain;
-    let open = c.count as u64;
-    let values = [low(a.kinds), high(a.kinds), a.count, a.lowest, low(open)];
-    let b = line(&values, out, 0);
-    chained(c, out, b)
-}
-
-// The answer to an input of a text of this size and n tokens, of this edition and limit, about a code and a token.
-fn asked(
-    input: &[u8],
-    size: usize,
-    n: usize,
-    edition: u32,
-    limit: u32,
-    code: u32,
-    at: u32,
-    out: &mut [u8; 262144],
-) -> usize
-    requires { Sizes input.now size n }
-    ensures { result ≤ 262144 }
-{
-    let from = 6 + size;
-    let used = 3 * n;
-    let mut tokens: [u32; 1536] = [0; 1536];
-    fill(input, from, n, &mut tokens);
-    let a = expected::expected(&tokens[..used], edition, limit, code, at);
-    stood(a, out)
-}
-
 // Where the edition, the limit, the code and the token of a case about a refused token stand (4 bytes each, little-endian), and its input.
-const OF_EDITION: usize = 2;
-
-const WITHIN: usize = 6;
-
-const CODE: usize = 10;
-
-const TOKEN: usize = 14;
+const QUESTION: usize = 2;
 
 const REFUSED: usize = 18;
 
@@ -301,15 +211,17 @@ fn refused(case: &[u8], out: &mut [u8; 262144]) -> usize
     requires { 22 ≤ length case.now }
     ensures { result ≤ 262144 }
 {
-    let form = scan(&case[REFUSED..]);
+    let input = &case[REFUSED..];
+    let form = scan(input);
     let Script::Sized(size, n) = form else {
         return bad(out);
     };
-    let edition = four(case, OF_EDITION);
-    let limit = four(case, WITHIN);
-    let code = four(case, CODE);
-    let at = four(case, TOKEN);
-    asked(&case[REFUSED..], size, n, edition, limit, code, at, out)
+    let mut question = [0; 4];
+    take_all(case, QUESTION, &mut question);
+    let [edition, limit, code, at] = question;
+    let mut tokens = [0; 1536];
+    let tokens = filled(input, size, n, &mut tokens);
+    stood(expected(tokens, edition, limit, code, at), out)
 }
 
 // The first byte of a case that is no input of `rows`; the second tells whether it has names, and an edition, and reads a guard, or is about a refused token.
@@ -330,47 +242,37 @@ fn marked(case: &[u8], out: &mut [u8; 262144]) -> usize
     requires { 22 ≤ length case.now }
     ensures { result ≤ 262144 }
 {
-    if case[1] == ROOMS {
-        let names: [u8; 0] = [0; 0];
-        let rows: [u32; 0] = [0; 0];
-        return lent(case, INPUT, &names, &rows, Profile::Script, FIRST, out);
+    match case[1] {
+        ROOMS => {
+            let terms = Terms {
+                names: &[],
+                rows: &[],
+                profile: Profile::Script,
+                edition: FIRST,
+            };
+            lent(case, INPUT, terms, out)
+        }
+        NAMES => beside(case, Profile::Script, FIRST, out),
+        KINDS => refused(case, out),
+        // the last two bytes of the edition stand where the mark would
+        EDITION => beside(&case[4..], Profile::Script, four(case, 2), out),
+        GUARD => beside(&case[4..], Profile::Guard, four(case, 2), out),
+        _ => bad(out),
     }
-    if case[1] == NAMES {
-        return beside(case, Profile::Script, FIRST, out);
-    }
-    if case[1] == KINDS {
-        return refused(case, out);
-    }
-    // the last two bytes of the edition stand where the mark would
-    if case[1] == EDITION {
-        return beside(&case[4..], Profile::Script, four(case, 2), out);
-    }
-    if case[1] == GUARD {
-        return beside(&case[4..], Profile::Guard, four(case, 2), out);
-    }
-    bad(out)
 }
 
-// Answers one case, and says whether there was one.
-fn turn(case: &mut [u8], out: &mut [u8; 262144]) -> bool {
-    let frame = read(case);
-    let Frame::Bytes(n) = frame else {
-        return false;
+// Answers one case, and says whether the answer was written.
+fn answered(case: &[u8], out: &mut [u8; 262144]) -> bool {
+    let k = if case.len() < INPUT || case[0] != MARK {
+        answer(case, out)
+    } else {
+        marked(case, out)
     };
-    if n < INPUT || case[0] != MARK {
-        let k = answer(&case[..n], out);
-        return sent(out, k);
-    }
-    let k = marked(&case[..n], out);
-    sent(out, k)
+    write(&out[..k])
 }
 
-// A proved loop has to end, and nothing says that a stream does: so it counts its turns down, from a number that no run uses up.
 fn main() {
     let mut case = io::large_buffer();
     let mut out = blank();
-    let mut turns = u64::MAX;
-    while turns > 0 && turn(&mut case, &mut out) {
-        turns -= 1;
-    }
+    each(&mut case, |case| answered(case, &mut out));
 }

@@ -1,12 +1,27 @@
--- One number more that is put, and one more that is taken: what is left makes the whole.
-use Prim.Native.Nat.{ℕ, suc, ◌+◌, ◌-◌, ◌*◌, ◌<◌}
+-- Four bytes that are put as one part; and one number more that is put, and one more that is taken: what is left makes the whole.
+use Prim.Native.Nat.{ℕ, zero, suc, ◌+◌, ◌-◌, ◌*◌, ◌<◌, ◌≤◌}
 use native.Mathlib.Omega.{arith}
-use mathlib.Core.List.{List}
+use mathlib.Core.List.{List, [], ◌∷◌, ◌++◌}
 use mathlib.Core.Path.{◌≡◌, refl, ap, sym, ◌∙◌}
-use lib.ListN.{length, get_or, drop, set}
+use lib.ListN.{length, get_or, take, drop, set}
 use lib.Seq.{drop-cons, drop-length}
 use Rattle.wire.specs.Number.{number}
 use Rattle.frames.specs.Numbers.{put_at, put_from, taken}
+
+-- four bytes in the place of those from a place on are four writes
+pub put_part : (at : ℕ) (out : List ℕ) (a b c d : ℕ) → at + 4 ≤ length out →
+    take at out ++ ((a ∷ b ∷ c ∷ d ∷ []) ++ drop 4 (drop at out)) ≡ set (set (set (set out at a) (at + 1) b) (at + 2) c) (at + 3) d
+put_part zero [] a b c d h = absurd (omega arith)
+put_part zero (x ∷ []) a b c d h = absurd (omega arith)
+put_part zero (x ∷ y ∷ []) a b c d h = absurd (omega arith)
+put_part zero (x ∷ y ∷ z ∷ []) a b c d h = absurd (omega arith)
+put_part zero (x ∷ y ∷ z ∷ w ∷ out) a b c d h = refl
+put_part (suc at) [] a b c d h = absurd (omega arith)
+put_part (suc at) (x ∷ out) a b c d h =
+    let one : suc at + 1 ≡ suc (at + 1) = omega arith in
+    let two : suc at + 2 ≡ suc (at + 2) = omega arith in
+    let three : suc at + 3 ≡ suc (at + 3) = omega arith in
+    rw (one, two, three) (ap (λ (l : List ℕ). x ∷ l) (put_part at out a b c d (omega arith)))
 
 -- what is put from number i on makes the whole
 pub record Putting (list out₀ : List ℕ) (from : ℕ) (out : List ℕ) (i : ℕ) : Type 0 where

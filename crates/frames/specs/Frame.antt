@@ -1,20 +1,13 @@
 -- What is known of a frame. Which bytes the system has for it, and whether it takes those that it is given, no contract can say.
-use Rattle.std.specs.Prelude.{ℕ, ◌≤◌, ◌<◌, Bool, true, List, ◌≡◌, length, drop}
-use Rattle.frames.specs.declared.Frame.{Frame}
-use Rattle.frames.specs.declared.Frame.TheVariants.{Bytes, None}
+use Rattle.std.specs.Prelude.{ℕ, ◌≤◌, ◌<◌, Bool, true, List, ◌≡◌, length, take, drop, Option, MatchOption}
 
--- n bytes at the start of a room: they lie in it, and those after them are as they were
-pub record Stands (before after : List ℕ) (n : ℕ) : Type 0 where
-  pub fits : n ≤ length after
-  pub rest : drop n after ≡ drop n before
+-- n bytes at the start of a room: they lie in it, and those after them are as they were. That its part of so many bytes has so many follows, and spares a caller the proof
+abbrev pub Stands : (before after : List ℕ) (n : ℕ) → Type 0
+Stands before after n = (n ≤ length after) × (n ≡ length (take n after)) × (drop n after ≡ drop n before)
 
 -- a frame that was read
-abbrev pub FrameCase : (before after : List ℕ) → Frame → Type 0
-FrameCase before after (Bytes n) = Stands before after n
-FrameCase before after None = Unit {0}
-
-pub record Framed (before after : List ℕ) (r : Frame) : Type 0 where
-  pub says : FrameCase before after r
+abbrev pub Framed : (before after : List ℕ) → Option ℕ → Type 0
+Framed before after r = MatchOption r (Unit {0}) (Stands before after)
 
 -- a frame that was written has a length that four bytes can say
 pub record Sent (part : List ℕ) (r : Bool) : Type 0 where

@@ -6,32 +6,20 @@ ghost use Rattle.frames.specs.Frame.{Framed, Sent};
 
 use wire::input::four;
 
-// What is read: a frame of so many bytes, or none that fits.
-#[derive(Drop)]
-pub enum Frame {
-    Bytes(usize),
-    None,
-}
-
-// Reads a frame into a room. Where there is none, nothing is said of the room.
+// Reads a frame into a room, and says how many bytes it has. Where there is none that fits, nothing is said of the room.
 // Ruled out: a frame that is longer than the room; a byte after the frame that changes.
-pub fn read(room: &mut [u8]) -> Frame
+pub fn read(room: &mut [u8]) -> Option<usize>
     ensures { Framed room.old room.new result }
 {
-    let mut head: [u8; 4] = [0; 4];
-    let got = io::read_full(0, &mut head);
-    if got < 4 {
-        return Frame::None;
+    let mut head = [0; 4];
+    if io::read_full(0, &mut head) < 4 {
+        return None;
     }
     let size = four(&head, 0) as usize;
-    if room.len() < size {
-        return Frame::None;
+    if room.len() < size || io::read_full(0, &mut room[..size]) < size {
+        return None;
     }
-    let had = io::read_full(0, &mut room[..size]);
-    if had < size {
-        return Frame::None;
-    }
-    Frame::Bytes(size)
+    Some(size)
 }
 
 // Writes a frame, and says whether it could.
@@ -39,18 +27,24 @@ pub fn read(room: &mut [u8]) -> Frame
 pub fn write(part: &[u8]) -> bool
     ensures { Sent part.now result }
 {
-    let n = part.len();
-    if n > 4294967295 {
+    let Ok(n) = u32::try_from(part.len()) else {
         return false;
+    };
+    io::write_all(1, &n.to_le_bytes()) && io::write_all(1, part)
+}
+
+// Answers the frames that are read, each in the room, up to the first that is not read or not answered.
+// A proved loop has to end, and nothing says that a stream does: so there is a last turn, which no run comes to.
+// Ruled out: an answer to more than the frame; one that is asked where no frame was read.
+pub fn each<F: FnMut(&[u8]) -> bool>(room: &mut [u8], mut answered: F)
+    requires { F.IsAlwaysCallable answered }
+{
+    for _ in 0..u64::MAX {
+        let Some(n) = read(room) else {
+            return;
+        };
+        if !answered(&room[..n]) {
+            return;
+        }
     }
-    let head = [
-        (n % 256) as u8,
-        (n / 256 % 256) as u8,
-        (n / 65536 % 256) as u8,
-        (n / 16777216 % 256) as u8,
-    ];
-    if io::write_all(1, &head) {
-        return io::write_all(1, part);
-    }
-    false
 }

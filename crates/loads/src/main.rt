@@ -5,41 +5,9 @@
 // rooms of nodes, links, symbols, scratch and answers. Then stand the names' text, their rows, the joined text, the joined list and the cuts.
 ghost use Rattle.std.specs.Prelude.{◌+◌, ◌*◌, ◌≤◌, length};
 
-use frames::numbers::{put_all, take_all};
-use frames::{Frame, read, write};
+use frames::numbers::{lend, mark, put_all, take_all};
+use frames::{each, write};
 use scripts::{parse_scripts, read_scripts};
-use wire::input::four;
-
-// Where the numbers of a frame's head stand, and what comes after them.
-const SOURCE: usize = 0;
-
-const EDITION: usize = 4;
-
-const LIMIT: usize = 8;
-
-const PART: usize = 12;
-
-const NAMES_SIZE: usize = 16;
-
-const ROWS_SIZE: usize = 20;
-
-const TEXT_SIZE: usize = 24;
-
-const LIST_SIZE: usize = 28;
-
-const CUTS_SIZE: usize = 32;
-
-const NODES_SIZE: usize = 36;
-
-const LINKS_SIZE: usize = 40;
-
-const SYMBOLS_SIZE: usize = 44;
-
-const SCRATCH_SIZE: usize = 48;
-
-const ANSWERS_SIZE: usize = 52;
-
-const HEAD: usize = 56;
 
 // The most bytes or numbers of each: two texts that are as long as one may be; a list of 4,200 tokens; 35 scripts; and 4,100 rows with something left over.
 const NAMES: usize = 8192;
@@ -62,319 +30,156 @@ const SCRATCH: usize = 12400;
 
 const ANSWERS: usize = 300;
 
-// The bytes of the largest frame, and of the largest answer.
+// The bytes of a frame before the names' text, of the largest frame, and of the largest answer.
+const HEAD: usize = 56;
+
 const FRAME: usize = 190660;
 
 const ANSWER: usize = 348404;
 
-// How large something is: a number of the head says it, but no more than `most`.
-fn size(case: &[u8], at: usize, most: usize) -> usize
-    requires { at + 4 ≤ length case.now }
-    ensures { result ≤ most }
-{
-    let n = four(case, at) as usize;
-    if n < most {
-        return n;
-    }
-    most
+// What a call reads beside its list, and whether the list is given.
+struct Call<'a> {
+    is_given: bool,
+    names: &'a [u8],
+    rows: &'a [u32],
+    text: &'a [u8],
+    cuts: &'a [u32],
+    edition: u32,
+    limit: u32,
+    part: u32,
 }
 
-// Puts i + 1 at each number i of a room, so that a number that is kept can be told from a zero and from one that was moved.
-fn mark(room: &mut [u32])
-    requires { length room.old ≤ 41100 }
-{
-    let mut i = 0;
-    while i < room.len() {
-        room[i] = (i + 1) as u32;
-        i += 1;
-    }
+// What a call writes to.
+struct Rooms<'a> {
+    list: &'a mut [u32],
+    nodes: &'a mut [u32],
+    links: &'a mut [u32],
+    symbols: &'a mut [u32],
+    scratch: &'a mut [u32],
+    answers: &'a mut [u32],
 }
 
-// Marks all rooms that a call writes to but the list.
-fn mark_all(
-    nodes: &mut [u32],
-    links: &mut [u32],
-    symbols: &mut [u32],
-    scratch: &mut [u32],
-    answers: &mut [u32],
-)
-    requires { (length nodes.old ≤ 41100) × (length links.old ≤ 12400) × (length symbols.old ≤ 8300) × (length scratch.old ≤ 12400) × (length answers.old ≤ 300) }
+// Makes a call in rooms that are marked but for the list, and writes its code, and all numbers of the list and the rooms one behind the other. Says whether it could.
+fn told(call: Call, rooms: Rooms, out: &mut [u8; ANSWER]) -> bool
+    requires list { length rooms.list.now ≤ 12600 }
+    requires nodes { length rooms.nodes.now ≤ 41100 }
+    requires links { length rooms.links.now ≤ 12400 }
+    requires symbols { length rooms.symbols.now ≤ 8300 }
+    requires scratch { length rooms.scratch.now ≤ 12400 }
+    requires answers { length rooms.answers.now ≤ 300 }
 {
-    mark(nodes);
-    mark(links);
-    mark(symbols);
-    mark(scratch);
-    mark(answers);
-}
-
-// Puts the code, and all numbers of the list and the rooms one behind the other.
-fn lay(
-    code: u32,
-    list: &[u32],
-    nodes: &[u32],
-    links: &[u32],
-    symbols: &[u32],
-    scratch: &[u32],
-    answers: &[u32],
-    out: &mut [u8; ANSWER],
-)
-    requires { (length list.now ≤ 12600) × (length nodes.now ≤ 41100) × (length links.now ≤ 12400) × (length symbols.now ≤ 8300) × (length scratch.now ≤ 12400) × (length answers.now ≤ 300) }
-{
-    let first = [code];
-    let a = 4 + 4 * list.len();
-    let b = a + 4 * nodes.len();
-    let c = b + 4 * links.len();
-    let d = c + 4 * symbols.len();
-    let e = d + 4 * scratch.len();
-    put_all(&first, out, 0);
-    put_all(list, out, 4);
-    put_all(nodes, out, a);
-    put_all(links, out, b);
-    put_all(symbols, out, c);
-    put_all(scratch, out, d);
-    put_all(answers, out, e);
-}
-
-// Writes the first n bytes of a room as a frame, and says whether it could.
-fn sent(room: &[u8], n: usize) -> bool
-    requires { n ≤ length room.now }
-{
-    write(&room[..n])
-}
-
-// Writes the code, the list and the rooms, and says whether it could.
-fn tell(
-    code: u32,
-    list: &[u32],
-    nodes: &[u32],
-    links: &[u32],
-    symbols: &[u32],
-    scratch: &[u32],
-    answers: &[u32],
-    out: &mut [u8; ANSWER],
-) -> bool
-    requires { (length list.now ≤ 12600) × (length nodes.now ≤ 41100) × (length links.now ≤ 12400) × (length symbols.now ≤ 8300) × (length scratch.now ≤ 12400) × (length answers.now ≤ 300) }
-{
-    let rooms = nodes.len() + links.len() + symbols.len() + scratch.len();
-    let end = 4 + 4 * (list.len() + rooms + answers.len());
-    lay(code, list, nodes, links, symbols, scratch, answers, out);
-    sent(out, end)
-}
-
-// The call that a frame asks for.
-fn load(
-    case: &[u8],
-    names: &[u8],
-    rows: &[u32],
-    text: &[u8],
-    list: &mut [u32],
-    cuts: &[u32],
-    nodes: &mut [u32],
-    links: &mut [u32],
-    symbols: &mut [u32],
-    scratch: &mut [u32],
-    answers: &mut [u32],
-) -> u32
-    requires { 56 ≤ length case.now }
-{
-    let source = four(case, SOURCE);
-    let edition = four(case, EDITION);
-    let limit = four(case, LIMIT);
-    let part = four(case, PART);
-    if source == 0 {
-        return parse_scripts(
-            names, rows, text, list, cuts, edition, limit, part, nodes, links, symbols, scratch,
-            answers,
-        );
-    }
-    read_scripts(
-        names, rows, text, list, cuts, edition, limit, part, nodes, links, symbols, scratch,
-        answers,
-    )
-}
-
-// Fills the lists of a frame: the built-in rows, the joined list and the cuts. Before the rows stand `names` bytes, and between them and the list `text` bytes.
-fn fill(
-    case: &[u8],
-    names: usize,
-    text: usize,
-    rows: &mut [u32],
-    list: &mut [u32],
-    cuts: &mut [u32],
-)
-    requires { 56 + names + 4 * length rows.old + text + 4 * length list.old + 4 * length cuts.old ≤ length case.now }
-{
-    let a = HEAD + names;
-    let b = a + 4 * rows.len() + text;
-    let c = b + 4 * list.len();
-    take_all(case, a, rows);
-    take_all(case, b, list);
-    take_all(case, c, cuts);
-}
-
-// Makes the call with the parts of a frame: `names` bytes behind its head, and `text` bytes behind the rows.
-fn run(
-    case: &[u8],
-    names: usize,
-    text: usize,
-    rows: &[u32],
-    list: &mut [u32],
-    cuts: &[u32],
-    nodes: &mut [u32],
-    links: &mut [u32],
-    symbols: &mut [u32],
-    scratch: &mut [u32],
-    answers: &mut [u32],
-) -> u32
-    requires { 56 + names + 4 * length rows.now + text ≤ length case.now }
-{
-    let a = HEAD + names;
-    let b = a + 4 * rows.len();
-    let c = b + text;
-    load(
-        case,
-        &case[HEAD..a],
+    let Call {
+        is_given,
+        names,
         rows,
-        &case[b..c],
-        list,
+        text,
         cuts,
+        edition,
+        limit,
+        part,
+    } = call;
+    let Rooms {
+        list,
         nodes,
         links,
         symbols,
         scratch,
         answers,
-    )
-}
-
-// Makes the call in rooms that are marked, and writes what it answers and leaves.
-fn told(
-    case: &[u8],
-    names: usize,
-    text: usize,
-    rows: &[u32],
-    list: &mut [u32],
-    cuts: &[u32],
-    nodes: &mut [u32],
-    links: &mut [u32],
-    symbols: &mut [u32],
-    scratch: &mut [u32],
-    answers: &mut [u32],
-    out: &mut [u8; ANSWER],
-) -> bool
-    requires { (56 + names + 4 * length rows.now + text ≤ length case.now) × (length list.old ≤ 12600) × (length nodes.old ≤ 41100) × (length links.old ≤ 12400) × (length symbols.old ≤ 8300) × (length scratch.old ≤ 12400) × (length answers.old ≤ 300) }
-{
-    mark_all(nodes, links, symbols, scratch, answers);
-    let code = run(
-        case, names, text, rows, list, cuts, nodes, links, symbols, scratch, answers,
-    );
-    tell(code, list, nodes, links, symbols, scratch, answers, out)
-}
-
-// Answers a frame in lists and rooms of just its sizes, and says whether the answer was written.
-fn answer(
-    case: &[u8],
-    names: usize,
-    text: usize,
-    rows: &mut [u32],
-    list: &mut [u32],
-    cuts: &mut [u32],
-    nodes: &mut [u32],
-    links: &mut [u32],
-    symbols: &mut [u32],
-    scratch: &mut [u32],
-    answers: &mut [u32],
-    out: &mut [u8; ANSWER],
-) -> bool
-    requires { (56 + names + 4 * length rows.old + text + 4 * length list.old + 4 * length cuts.old ≤ length case.now) × (length list.old ≤ 12600) × (length nodes.old ≤ 41100) × (length links.old ≤ 12400) × (length symbols.old ≤ 8300) × (length scratch.old ≤ 12400) × (length answers.old ≤ 300) }
-{
-    fill(case, names, text, rows, list, cuts);
-    told(
-        case, names, text, rows, list, cuts, nodes, links, symbols, scratch, answers, out,
-    )
-}
-
-// Answers a frame in rooms of the sizes that it tells, and says whether the answer was written.
-fn roomed(
-    case: &[u8],
-    names: usize,
-    text: usize,
-    rows: &mut [u32],
-    list: &mut [u32],
-    cuts: &mut [u32],
-    out: &mut [u8; ANSWER],
-) -> bool
-    requires { (56 + names + 4 * length rows.old + text + 4 * length list.old + 4 * length cuts.old ≤ length case.now) × (length list.old ≤ 12600) }
-{
-    let n = size(case, NODES_SIZE, NODES);
-    let l = size(case, LINKS_SIZE, LINKS);
-    let y = size(case, SYMBOLS_SIZE, SYMBOLS);
-    let s = size(case, SCRATCH_SIZE, SCRATCH);
-    let a = size(case, ANSWERS_SIZE, ANSWERS);
-    let mut nodes: [u32; NODES] = [0; NODES];
-    let mut links: [u32; LINKS] = [0; LINKS];
-    let mut symbols: [u32; SYMBOLS] = [0; SYMBOLS];
-    let mut scratch: [u32; SCRATCH] = [0; SCRATCH];
-    let mut answers: [u32; ANSWERS] = [0; ANSWERS];
-    answer(
-        case,
-        names,
-        text,
-        rows,
-        list,
-        cuts,
-        &mut nodes[..n],
-        &mut links[..l],
-        &mut symbols[..y],
-        &mut scratch[..s],
-        &mut answers[..a],
-        out,
-    )
-}
-
-// Answers a frame whose length is the one that its head tells, and says whether it is one and the answer was written.
-fn sized(case: &[u8], out: &mut [u8; ANSWER]) -> bool
-    requires { 56 ≤ length case.now }
-{
-    let names = size(case, NAMES_SIZE, NAMES);
-    let text = size(case, TEXT_SIZE, TEXT);
-    let r = size(case, ROWS_SIZE, ROWS);
-    let l = size(case, LIST_SIZE, LIST);
-    let c = size(case, CUTS_SIZE, CUTS);
-    if case.len() != HEAD + names + 4 * r + text + 4 * l + 4 * c {
-        return false;
-    }
-    let mut rows: [u32; ROWS] = [0; ROWS];
-    let mut list: [u32; LIST] = [0; LIST];
-    let mut cuts: [u32; CUTS] = [0; CUTS];
-    roomed(
-        case,
-        names,
-        text,
-        &mut rows[..r],
-        &mut list[..l],
-        &mut cuts[..c],
-        out,
-    )
-}
-
-// Reads a frame and answers it. Says whether there was one.
-fn turn(room: &mut [u8], out: &mut [u8; ANSWER]) -> bool {
-    let frame = read(room);
-    let Frame::Bytes(n) = frame else {
-        return false;
+    } = rooms;
+    mark(nodes);
+    mark(links);
+    mark(symbols);
+    mark(scratch);
+    mark(answers);
+    let code = if is_given {
+        parse_scripts(
+            names, rows, text, list, cuts, edition, limit, part, nodes, links, symbols, scratch,
+            answers,
+        )
+    } else {
+        read_scripts(
+            names, rows, text, list, cuts, edition, limit, part, nodes, links, symbols, scratch,
+            answers,
+        )
     };
-    if n < HEAD {
-        return false;
-    }
-    sized(&room[..n], out)
+    let at = put_all(&[code], out, 0);
+    let at = put_all(list, out, at);
+    let at = put_all(nodes, out, at);
+    let at = put_all(links, out, at);
+    let at = put_all(symbols, out, at);
+    let at = put_all(scratch, out, at);
+    let end = put_all(answers, out, at);
+    write(&out[..end])
 }
 
-// As in `batch`, the loop counts its turns down.
-fn main() {
-    let mut room: [u8; FRAME] = [0; FRAME];
-    let mut out: [u8; ANSWER] = [0; ANSWER];
-    let mut turns = u64::MAX;
-    while turns > 0 && turn(&mut room, &mut out) {
-        turns -= 1;
+// Answers a frame in lists and rooms of the sizes that it tells, and says whether it is one and the answer was written.
+fn answered(case: &[u8], out: &mut [u8; ANSWER]) -> bool {
+    if case.len() < HEAD {
+        return false;
     }
+    let mut head = [0; 14];
+    take_all(case, 0, &mut head);
+    let [
+        source,
+        edition,
+        limit,
+        part,
+        name_bytes,
+        r,
+        text_bytes,
+        l,
+        c,
+        n,
+        m,
+        s,
+        k,
+        a,
+    ] = head;
+    let mut rows = [0; ROWS];
+    let mut list = [0; LIST];
+    let mut cuts = [0; CUTS];
+    let rows = lend(&mut rows, r);
+    let list = lend(&mut list, l);
+    let cuts = lend(&mut cuts, c);
+    let rows_at = HEAD + NAMES.min(name_bytes as usize);
+    let text_at = rows_at + 4 * rows.len();
+    let list_at = text_at + TEXT.min(text_bytes as usize);
+    if case.len() != list_at + 4 * (list.len() + cuts.len()) {
+        return false;
+    }
+    take_all(case, rows_at, rows);
+    let cuts_at = take_all(case, list_at, list);
+    take_all(case, cuts_at, cuts);
+    let mut nodes = [0; NODES];
+    let mut links = [0; LINKS];
+    let mut symbols = [0; SYMBOLS];
+    let mut scratch = [0; SCRATCH];
+    let mut answers = [0; ANSWERS];
+    told(
+        Call {
+            is_given: source == 0,
+            names: &case[HEAD..rows_at],
+            rows,
+            text: &case[text_at..list_at],
+            cuts,
+            edition,
+            limit,
+            part,
+        },
+        Rooms {
+            list,
+            nodes: lend(&mut nodes, n),
+            links: lend(&mut links, m),
+            symbols: lend(&mut symbols, s),
+            scratch: lend(&mut scratch, k),
+            answers: lend(&mut answers, a),
+        },
+        out,
+    )
+}
+
+fn main() {
+    let mut room = [0; FRAME];
+    let mut out = [0; ANSWER];
+    each(&mut room, |case| answered(case, &mut out));
 }

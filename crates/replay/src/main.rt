@@ -1,35 +1,14 @@
 #![tactic(auto)]
 // Replays the Rust's answers: a stream of frames, of a case and its answer in turn. Prints how many of them the program `rows` agrees with.
-ghost use Rattle.std.specs.Prelude.{◌≤◌, length};
-
-use check::same;
-use frames::{Frame, read};
+use frames::read;
 use listing::{answer, blank};
 
-// Whether the first n bytes of a room are these.
-fn agrees(room: &[u8], n: usize, given: &[u8]) -> bool
-    requires { n ≤ length room.now }
-{
-    same(&room[..n], given)
-}
-
-// Answers one case and compares: 1 if the answers agree, 0 if not, 2 if no case is left.
-fn turn(case: &mut [u8], given: &mut [u8], out: &mut [u8; 262144]) -> u64
-    ensures { result ≤ 2 }
-{
-    let first = read(case);
-    let Frame::Bytes(n) = first else {
-        return 2;
-    };
-    let second = read(given);
-    let Frame::Bytes(m) = second else {
-        return 2;
-    };
+// Answers one case and says whether the answers agree; None if no case is left.
+fn agrees(case: &mut [u8], given: &mut [u8], out: &mut [u8; 262144]) -> Option<bool> {
+    let n = read(case)?;
+    let m = read(given)?;
     let k = answer(&case[..n], out);
-    if agrees(out, k, &given[..m]) {
-        return 1;
-    }
-    0
+    Some(out[..k] == given[..m])
 }
 
 // At most 1,000,000 cases.
@@ -37,14 +16,13 @@ fn main() {
     let mut case = io::large_buffer();
     let mut given = blank();
     let mut out = blank();
-    let mut agree: u64 = 0;
-    let mut all: u64 = 0;
-    'cases: while all < 1000000 {
-        let found = turn(&mut case, &mut given, &mut out);
-        if found > 1 {
-            break 'cases;
-        }
-        agree += found;
+    let mut agree = 0;
+    let mut all = 0;
+    for _ in 0..1000000u32 {
+        let Some(same) = agrees(&mut case, &mut given, &mut out) else {
+            break;
+        };
+        agree += u64::from(same);
         all += 1;
     }
     io::print_decimal(1, agree);

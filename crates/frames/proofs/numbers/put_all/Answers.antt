@@ -5,10 +5,10 @@ use Rattle.frames.proofs.Listing.{putting, put_more, put_done}
 use Rattle.frames.proofs.numbers.put_all.Goals as goal
 
 pub loop-i-init : goal.loop-i-init
-loop-i-init c = (putting _ _ _, search rules, search rules)
+loop-i-init c = putting _ _ _
 
 pub loop-i-preserved : goal.loop-i-preserved
-loop-i-preserved c = (put_more (omega arith) c.put.ensures c.loop-i.invariant.0, search rules, search rules)
+loop-i-preserved c = put_more (omega arith) c.put.ensures c.loop-i.invariant
 
 pub returns : goal.returns
-returns c = put_done (omega arith) c.loop-i.invariant.0
+returns c = record { numbers = put_done (omega arith) c.loop-i.invariant; end = search rules }

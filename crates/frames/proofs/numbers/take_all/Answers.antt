@@ -7,10 +7,10 @@ use Rattle.frames.proofs.Listing.{taking, take_more, take_done}
 use Rattle.frames.proofs.numbers.take_all.Goals as goal
 
 pub loop-i-init : goal.loop-i-init
-loop-i-init c = (taking _ _ _, search rules, search rules)
+loop-i-init c = taking _ _ _
 
 pub loop-i-preserved : goal.loop-i-preserved
-loop-i-preserved c = let l = c.loop-i in (take_more (omega arith) (ap (set l.list l.i) c.four.ensures) l.invariant.0, search rules, search rules)
+loop-i-preserved c = let l = c.loop-i in take_more (omega arith) (ap (set l.list l.i) c.four.ensures) l.invariant
 
 pub returns : goal.returns
-returns c = take_done (omega arith) c.loop-i.invariant.0
+returns c = record { numbers = take_done (omega arith) c.loop-i.invariant; end = search rules }

@@ -1,12 +1,6 @@
 -- `numbers::take_all` meets its contract: number by number, what is left makes the whole.
-use Prim.Native.Nat.{◌-◌, ◌≤◌}
-use mathlib.Core.Path.{◌≡◌}
-use lib.ListN.{length}
 use Rattle.frames.proofs.Listing.{Taking}
 use Rattle.frames.proofs.numbers.take_all.Given as goal
 
 abbrev pub invariant-loop-i : goal.invariant-loop-i
-invariant-loop-i l = Taking l.frame l.from l.initial.list l.list l.i × (length l.list ≡ length l.initial.list) × (l.i ≤ length l.initial.list)
-
-abbrev pub decreases-loop-i : goal.decreases-loop-i
-decreases-loop-i l = length l.initial.list - l.i
+invariant-loop-i l = Taking l.frame l.from l.initial.list l.list l.i
