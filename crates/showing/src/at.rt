@@ -1,43 +1,44 @@
 // What stands at an offset: the innermost row that covers it, and then outward to the root, a line each.
-use crate::Tree;
+use crate::{Row, Tree};
 use page::Line;
 
-impl<'a> Tree<'a> {
-    // The innermost row that covers an offset: children stand before their parents, so it is the first that does. The root where no other does.
-    fn innermost(&self, root: u32, offset: usize) -> u32 {
-        (0..root)
-            .find(|&row| self.part_of(row).holds(offset))
-            .unwrap_or(root)
+impl Row<'_, '_> {
+    // The innermost row that covers an offset, of those before this one: children stand before their parents, so it is the first that does. This one where no other does.
+    fn innermost(self, offset: usize) -> Self {
+        let tree = self.tree;
+        match (0..self.id).find(|&id| tree.part_of(id).holds(offset)) {
+            Some(id) => Row { tree, id },
+            None => self,
+        }
     }
 
     // The line of a row. The root is the script.
-    fn show_role(&self, row: u32, root: u32, line: &mut Line) {
-        let part = self.part_of(row);
-        self.lead(part, 0, line);
-        if row == root {
+    fn show_role(self, line: &mut Line) {
+        self.lead(0, line);
+        if self.is_root() {
             line.put(b"Script");
         } else {
-            self.put_node(row, line);
+            self.put_node(line);
         }
-        self.finish(part, line);
+        self.finish(line);
     }
 
     // The lines of a row and of all rows that it stands below, up to the root.
-    fn show_outward(&self, first: u32, root: u32, line: &mut Line) {
-        let mut row = first;
-        while row <= root {
-            self.show_role(row, root, line);
-            let Some(above) = self.parent(row) else {
-                return;
-            };
+    fn show_outward(self, line: &mut Line) {
+        let mut row = self;
+        row.show_role(line);
+        while let Some(above) = row.parent() {
+            above.show_role(line);
             row = above;
         }
     }
+}
 
+impl Tree<'_> {
     // Shows what stands at an offset.
     pub fn show_at(&self, offset: usize, line: &mut Line) {
         if let Some(root) = self.root() {
-            self.show_outward(self.innermost(root, offset), root, line);
+            root.innermost(offset).show_outward(line);
         }
     }
 }

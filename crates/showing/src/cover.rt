@@ -1,7 +1,7 @@
 // The text that a row covers: from the leftmost start to the rightmost end of the row and of all that stands below it, with the parentheses that were
 // opened or closed in between. (A row's own span is less: that of a call starts at its `(`.) Children stand before their parents, so one pass over the rows
 // finds all.
-use crate::Tree;
+use crate::{Row, Tree};
 use token::kinds;
 
 // Offsets in the text.
@@ -92,25 +92,11 @@ pub(crate) fn up_to_end(list: &[u32]) -> &[u32] {
     }
 }
 
-impl<'a> Tree<'a> {
+impl Tree<'_> {
     // The tokens, three numbers each.
     fn each_token(&self) -> &[[u32; 3]] {
         let (tokens, _) = self.tokens.as_chunks::<3>();
         tokens
-    }
-
-    // A row with all that stands below it.
-    fn reach(&self, row: u32) -> Part {
-        let mut part = Part {
-            start: self.node(row, 1),
-            end: self.node(row, 2),
-        };
-        for place in 0..self.places(row) {
-            if let Some(kid) = self.child(row, place) {
-                part = part.joined(self.part_of(kid));
-            }
-        }
-        part
     }
 
     // A part with the counterparts of its lone parentheses: those of `(` are looked for from the left, those of `)` from the right.
@@ -131,9 +117,25 @@ impl<'a> Tree<'a> {
         }
         s.part
     }
+}
 
-    // What a row covers, where that is noted of all that stands below it.
-    pub(crate) fn whole(&self, row: u32) -> Part {
-        self.balanced(self.reach(row))
+impl Row<'_, '_> {
+    // The row with all that stands below it.
+    fn reach(self) -> Part {
+        let mut part = Part {
+            start: self.number(1),
+            end: self.number(2),
+        };
+        for place in 0..self.places() {
+            if let Some(kid) = self.child(place) {
+                part = part.joined(kid.part());
+            }
+        }
+        part
+    }
+
+    // What the row covers, where that is noted of all that stands below it.
+    pub(crate) fn whole(self) -> Part {
+        self.tree.balanced(self.reach())
     }
 }

@@ -15,7 +15,7 @@ ghost use Rattle.children.specs.Below.{Number};
 ghost use Rattle.showing.specs.Noted.{Noted};
 
 use ast::PARENT;
-use children::{Children, below, node, places};
+use children::{Children, below, child, node, places};
 use cover::{Part, up_to_end};
 
 // A script that is read, or a guard: its text; the numbers of its tokens up to Eof; its rows and links; how many rows there are, and how many of the names are built in;
@@ -57,68 +57,119 @@ impl<'a> Tree<'a> {
             built,
             covers: [Part::NONE; 4096],
         };
-        for row in 0..rows {
-            let part = tree.whole(row);
-            if let Some(noted) = tree.covers.get_mut(row as usize) {
+        for id in 0..rows {
+            let part = tree.row(id).whole();
+            if let Some(noted) = tree.covers.get_mut(id as usize) {
                 *noted = part;
             }
         }
         tree
     }
 
+    // A row.
+    // Ruled out: the row before it; a row of another tree.
+    pub fn row(&self, id: u32) -> Row<'_, 'a>
+        ensures tree { result.tree.now ≡ self.now }
+        ensures id { result.id ≡ id }
+    {
+        Row { tree: self, id }
+    }
+
     // The last row: the root of a script, or of a guard.
-    pub(crate) fn root(&self) -> Option<u32> {
-        self.rows.checked_sub(1)
+    pub(crate) fn root(&self) -> Option<Row<'_, 'a>> {
+        let id = self.rows.checked_sub(1)?;
+        Some(self.row(id))
     }
 
     // Number i of a row.
     // Ruled out: the number before it; 0 past the room.
-    pub fn node(&self, row: u32, i: u32) -> u32
-        ensures { Number self.now.nodes.now (node_width * row + i) result }
+    pub fn node(&self, id: u32, i: u32) -> u32
+        ensures { Number self.now.nodes.now (node_width * id + i) result }
     {
-        node(self.nodes, row, i)
-    }
-
-    // The kind of a row.
-    pub(crate) fn kind(&self, row: u32) -> u32 {
-        self.node(row, 0)
-    }
-
-    // The row above one. A parent has a greater number than its child, or it is left out.
-    // Ruled out: the row itself; a row before it.
-    pub fn parent(&self, row: u32) -> Option<u32>
-        ensures { MatchOption result (Unit {0}) (λ above. (row < above) × Number self.now.nodes.now (node_width * row + 9) above) }
-    {
-        let above = self.node(row, PARENT as u32);
-        if row < above { Some(above) } else { None }
-    }
-
-    // What stands below a row.
-    pub(crate) fn below(&self, row: u32) -> Children {
-        below(self.nodes, row)
-    }
-
-    // How many places for children a row has.
-    pub(crate) fn places(&self, row: u32) -> usize {
-        places(self.below(row))
-    }
-
-    // The child at a place of a row. A child has a lower number than its parent, or it is left out.
-    pub(crate) fn child(&self, row: u32, place: usize) -> Option<u32>
-        ensures { MatchOption result (Unit {0}) (λ kid. kid < row) }
-    {
-        let kid = children::child(self.links, self.below(row), place);
-        if kid < row { Some(kid) } else { None }
+        node(self.nodes, id, i)
     }
 
     // What a row covers, where it is known; the empty part at 0 where it is not.
     // Ruled out: the part of the row before it; the row's own span.
-    pub fn part_of(&self, row: u32) -> Part
-        ensures { Noted self.now.covers row result }
+    pub fn part_of(&self, id: u32) -> Part
+        ensures { Noted self.now.covers id result }
     {
-        match self.covers.get(row as usize) {
+        match self.covers.get(id as usize) {
             Some(part) => *part,
             None => Part::NONE,
+        }
+    }
+}
+
+// A row of a tree.
+#[derive(Clone, Copy)]
+pub struct Row<'a, 't> {
+    pub tree: &'a Tree<'t>,
+    pub id: u32,
+}
+
+impl Row<'_, '_> {
+    // Number i of the row.
+    // Ruled out: the number before it; 0 past the room.
+    pub fn number(self, i: u32) -> u32
+        ensures { Number self.entry.tree.now.nodes.now (node_width * self.entry.id + i) result }
+    {
+        self.tree.node(self.id, i)
+    }
+
+    // Its kind, a number of the C interface (`Node` in ast.rs).
+    // Ruled out: the kind of the row before it; the number of its operator.
+    pub fn kind(self) -> u32
+        ensures { Number self.entry.tree.now.nodes.now (node_width * self.entry.id) result }
+    {
+        self.number(0)
+    }
+
+    // What it covers, where that is known; the empty part at 0 where it is not.
+    // Ruled out: the part of the row before it; the row's own span.
+    pub fn part(self) -> Part
+        ensures { Noted self.entry.tree.now.covers self.entry.id result }
+    {
+        self.tree.part_of(self.id)
+    }
+
+    // Whether it is the last row.
+    pub(crate) fn is_root(self) -> bool {
+        self.tree.rows.checked_sub(1) == Some(self.id)
+    }
+
+    // The row above it. A parent has a greater number than its child, or it is left out.
+    // Ruled out: the row itself; a row before it.
+    pub fn parent(self) -> Option<Self>
+        ensures { MatchOption result (Unit {0}) (λ above. (self.entry.id < above.id) × Number self.entry.tree.now.nodes.now (node_width * self.entry.id + 9) above.id) }
+    {
+        let id = self.number(PARENT as u32);
+        if self.id < id && id < self.tree.rows {
+            Some(self.tree.row(id))
+        } else {
+            None
+        }
+    }
+
+    // What stands below it.
+    pub(crate) fn below(self) -> Children {
+        below(self.tree.nodes, self.id)
+    }
+
+    // How many places for children it has.
+    pub(crate) fn places(self) -> usize {
+        places(self.below())
+    }
+
+    // The child at a place. A child has a lower number than its parent, or it is left out.
+    pub(crate) fn child(self, place: usize) -> Option<Self>
+        ensures { MatchOption result (Unit {0}) (λ kid. kid.id < self.entry.id) }
+    {
+        let id = child(self.tree.links, self.below(), place);
+        if id < self.id {
+            Some(self.tree.row(id))
+        } else {
+            None
         }
     }
 }

@@ -2,7 +2,7 @@
 // left to right in any case.
 ghost use Rattle.std.specs.Prelude.{◌<◌};
 
-use crate::Tree;
+use crate::Row;
 use crate::words::{DEEPEST, indent};
 use ast::{ABSENT, kinds};
 use children::{Children, link, linked};
@@ -74,96 +74,100 @@ fn is_ended(b: Children, place: usize, kid: u32) -> bool {
     place <= many && (!is_closed(kid) || place == many && b.second == ABSENT)
 }
 
-impl<'a> Tree<'a> {
+impl Row<'_, '_> {
     // The name that a row has: its start and its end are the row's numbers from `start` on.
-    fn put_named(&self, row: u32, start: u32, line: &mut Line)
+    fn put_named(self, start: u32, line: &mut Line)
         requires { start < 9 }
     {
-        line.put_text(self.text, self.node(row, start), self.node(row, start + 1));
+        line.put_text(self.tree.text, self.number(start), self.number(start + 1));
     }
 
     // The names of a list, with a comma or a dot between two. The row's numbers from `list` on say which links have them.
-    fn put_names(&self, row: u32, list: u32, between: &[u8], line: &mut Line)
+    fn put_names(self, list: u32, between: &[u8], line: &mut Line)
         requires { list < 9 }
     {
-        let from = self.node(row, list) as usize;
-        for i in 0..self.node(row, list + 1) as usize {
+        let from = self.number(list) as usize;
+        for i in 0..self.number(list + 1) as usize {
             if i > 0 {
                 line.put(between);
             }
             let k = from + i;
-            line.put_text(self.text, link(self.links, k, 1), link(self.links, k, 2));
+            line.put_text(
+                self.tree.text,
+                link(self.tree.links, k, 1),
+                link(self.tree.links, k, 2),
+            );
         }
     }
 
     // `let`, `const` or `ref`, a name, and `=`.
-    fn put_binding(&self, lead: &[u8], row: u32, line: &mut Line) {
+    fn put_binding(self, lead: &[u8], line: &mut Line) {
         line.put(lead);
-        self.put_named(row, 4, line);
+        self.put_named(4, line);
         line.put(b" = ");
     }
 
     // `fun`, a name, and the names in parentheses.
-    fn put_function(&self, row: u32, line: &mut Line) {
+    fn put_function(self, line: &mut Line) {
         line.put(b"fun ");
-        self.put_named(row, 4, line);
+        self.put_named(4, line);
         line.put_byte(b'(');
-        self.put_names(row, 6, b", ", line);
+        self.put_names(6, b", ", line);
         line.put(b") ");
     }
 
     // The names of a lambda between bars.
-    fn put_bars(&self, row: u32, line: &mut Line) {
+    fn put_bars(self, line: &mut Line) {
         line.put_byte(b'|');
-        self.put_names(row, 3, b", ", line);
+        self.put_names(3, b", ", line);
         line.put(b"| ");
     }
 
     // A whole import: its path, and its bindings where it has some.
-    fn put_import(&self, row: u32, line: &mut Line) {
+    fn put_import(self, line: &mut Line) {
         line.put(b"import ");
-        self.put_names(row, 3, b".", line);
-        if self.node(row, 6) > 0 {
+        self.put_names(3, b".", line);
+        if self.number(6) > 0 {
             line.put(b": ");
-            self.put_names(row, 5, b", ", line);
+            self.put_names(5, b", ", line);
         }
     }
 
     // `return`, with a blank before its value where it has one.
-    fn put_return(&self, row: u32, line: &mut Line) {
+    fn put_return(self, line: &mut Line) {
         line.put(b"return");
-        if self.node(row, 3) != ABSENT {
+        if self.number(3) != ABSENT {
             line.put_byte(b' ');
         }
     }
 
     // What a row starts with, before its first child; all of a row that has no child.
-    fn opening(&self, row: u32, line: &mut Line) {
-        match self.kind(row) {
+    fn opening(self, line: &mut Line) {
+        match self.kind() {
             kinds::LOGICAL_NOT => line.put(b"not "),
-            kinds::UNARY => self.put_sign(row, line),
-            kinds::VARIABLE => self.put_binding(b"let ", row, line),
-            kinds::CONSTANT => self.put_binding(b"const ", row, line),
-            kinds::REF => self.put_binding(b"ref ", row, line),
+            kinds::UNARY => self.put_sign(line),
+            kinds::VARIABLE => self.put_binding(b"let ", line),
+            kinds::CONSTANT => self.put_binding(b"const ", line),
+            kinds::REF => self.put_binding(b"ref ", line),
             kinds::IDENTIFIER..=kinds::NIL | kinds::BREAK..=kinds::CONTINUE => {
-                self.put_named(row, 1, line)
+                self.put_named(1, line)
             }
             kinds::MAP => line.put(b"#{"),
-            kinds::FUNCTION => self.put_function(row, line),
-            kinds::LAMBDA => self.put_bars(row, line),
+            kinds::FUNCTION => self.put_function(line),
+            kinds::LAMBDA => self.put_bars(line),
             kinds::BLOCK => line.put_byte(b'{'),
             kinds::IF => line.put(b"if "),
             kinds::WHILE_LOOP => line.put(b"while "),
-            kinds::RETURN => self.put_return(row, line),
-            kinds::IMPORT => self.put_import(row, line),
+            kinds::RETURN => self.put_return(line),
+            kinds::IMPORT => self.put_import(line),
             _ => {}
         }
     }
 
     // The level of a row that joins two operands.
-    fn level(&self, row: u32) -> Option<u32> {
-        match self.kind(row) {
-            kinds::BINARY => Some(level_of(self.node(row, 3))),
+    fn level(self) -> Option<u32> {
+        match self.kind() {
+            kinds::BINARY => Some(level_of(self.number(3))),
             kinds::LOGICAL_AND => Some(5),
             kinds::LOGICAL_OR => Some(6),
             _ => None,
@@ -171,20 +175,17 @@ impl<'a> Tree<'a> {
     }
 
     // Whether the operand of an operator is put in parentheses. The left one of two is not, where it is of the operator's own level: it is read first in any case.
-    fn is_operand_grouped(&self, row: u32, place: usize, kid: u32) -> bool {
-        let same = match self.level(kid) {
-            Some(level) => self.level(row) == Some(level),
-            None => false,
-        };
-        is_compound(self.kind(kid)) && !(place == 0 && same)
+    fn is_operand_grouped(self, place: usize, kid: Self) -> bool {
+        let same = kid.level().is_some() && kid.level() == self.level();
+        is_compound(kid.kind()) && !(place == 0 && same)
     }
 
     // Whether a child is put in parentheses: the operand of an operator, and the body of a lambda; what a block or `=` follows, where it would not end there; and what a
     // call or a dot follows, where it is no chain.
-    fn is_grouped(&self, row: u32, place: usize, kid: u32) -> bool {
-        let sort = self.kind(kid);
-        match self.kind(row) {
-            kinds::BINARY..=kinds::UNARY => self.is_operand_grouped(row, place, kid),
+    fn is_grouped(self, place: usize, kid: Self) -> bool {
+        let sort = kid.kind();
+        match self.kind() {
+            kinds::BINARY..=kinds::UNARY => self.is_operand_grouped(place, kid),
             kinds::LAMBDA => sort != kinds::BLOCK && is_compound(sort),
             kinds::FUNCTION_CALL..=kinds::PROPERTY_ACCESS => place == 0 && !is_chain(sort),
             kinds::ASSIGN | kinds::IF..=kinds::WHILE_LOOP => place == 0 && is_open(sort),
@@ -193,8 +194,8 @@ impl<'a> Tree<'a> {
     }
 
     // The level of what stands below a row: a block's is one deeper, up to the deepest indent.
-    fn deeper(&self, row: u32, level: u32) -> u32 {
-        if self.kind(row) == kinds::BLOCK && level < DEEPEST {
+    fn deeper(self, level: u32) -> u32 {
+        if self.kind() == kinds::BLOCK && level < DEEPEST {
             level + 1
         } else {
             level
@@ -202,40 +203,38 @@ impl<'a> Tree<'a> {
     }
 
     // A row's sign between blanks.
-    fn put_between(&self, row: u32, line: &mut Line) {
+    fn put_between(self, line: &mut Line) {
         line.put_byte(b' ');
-        self.put_sign(row, line);
+        self.put_sign(line);
         line.put_byte(b' ');
     }
 
     // What stands before the child at a place of a row.
-    fn before(&self, row: u32, place: usize, level: u32, line: &mut Line) {
-        match self.kind(row) {
+    fn before(self, place: usize, level: u32, line: &mut Line) {
+        match self.kind() {
             kinds::BINARY..=kinds::LOGICAL_OR | kinds::ASSIGN if place > 0 => {
-                self.put_between(row, line)
+                self.put_between(line)
             }
             kinds::FUNCTION_CALL if place > 1 => line.put(b", "),
             kinds::MAP => before_entry(place, line),
-            kinds::BLOCK => new_line(self.deeper(row, level), line),
+            kinds::BLOCK => new_line(self.deeper(level), line),
             kinds::IF..=kinds::WHILE_LOOP => before_block(place, line),
             _ => {}
         }
     }
 
     // What stands after the child at a place of a row.
-    fn after(&self, row: u32, place: usize, kid: u32, line: &mut Line) {
-        match self.kind(row) {
+    fn after(self, place: usize, kid: Self, line: &mut Line) {
+        match self.kind() {
             kinds::FUNCTION_CALL if place == 0 => line.put_byte(b'('),
-            kinds::BLOCK if is_ended(self.below(row), place, self.kind(kid)) => {
-                line.put_byte(b';')
-            }
+            kinds::BLOCK if is_ended(self.below(), place, kid.kind()) => { line.put_byte(b';') }
             _ => {}
         }
     }
 
     // The end of a block: its own line, where the block holds something.
-    fn close_block(&self, row: u32, level: u32, line: &mut Line) {
-        let b = self.below(row);
+    fn close_block(self, level: u32, line: &mut Line) {
+        let b = self.below();
         if b.count > 0 || b.second != ABSENT {
             new_line(level, line);
         }
@@ -243,44 +242,44 @@ impl<'a> Tree<'a> {
     }
 
     // The end of a map.
-    fn close_map(&self, row: u32, line: &mut Line) {
-        if self.below(row).count > 0 {
+    fn close_map(self, line: &mut Line) {
+        if self.below().count > 0 {
             line.put_byte(b' ');
         }
         line.put_byte(b'}');
     }
 
     // What a row ends with, after its last child.
-    fn closing(&self, row: u32, level: u32, line: &mut Line) {
-        match self.kind(row) {
+    fn closing(self, level: u32, line: &mut Line) {
+        match self.kind() {
             kinds::FUNCTION_CALL => line.put_byte(b')'),
             kinds::PROPERTY_ACCESS => {
                 line.put_byte(b'.');
-                self.put_named(row, 5, line);
+                self.put_named(5, line);
             }
-            kinds::MAP => self.close_map(row, line),
-            kinds::BLOCK => self.close_block(row, level, line),
+            kinds::MAP => self.close_map(line),
+            kinds::BLOCK => self.close_block(level, line),
             _ => {}
         }
     }
 
     // A row as it is read. A child has a lower number than its parent: so the walk ends.
-    pub(crate) fn say(&self, row: u32, level: u32, line: &mut Line) {
-        self.opening(row, line);
-        for place in 0..self.places(row) {
-            if let Some(kid) = self.child(row, place) {
-                let grouped = self.is_grouped(row, place, kid);
-                self.before(row, place, level, line);
+    pub(crate) fn say(self, level: u32, line: &mut Line) {
+        self.opening(line);
+        for place in 0..self.places() {
+            if let Some(kid) = self.child(place) {
+                let grouped = self.is_grouped(place, kid);
+                self.before(place, level, line);
                 if grouped {
                     line.put_byte(b'(');
                 }
-                self.say(kid, self.deeper(row, level), line);
+                kid.say(self.deeper(level), line);
                 if grouped {
                     line.put_byte(b')');
                 }
-                self.after(row, place, kid, line);
+                self.after(place, kid, line);
             }
         }
-        self.closing(row, level, line);
+        self.closing(level, line);
     }
 }

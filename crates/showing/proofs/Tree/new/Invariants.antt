@@ -2,6 +2,6 @@
 use mathlib.Core.Path.{◌≡◌}
 use Rattle.showing.proofs.Tree.new.Given as goal
 
-abbrev pub invariant-loop-row : goal.invariant-loop-row
-invariant-loop-row l =
+abbrev pub invariant-loop-id : goal.invariant-loop-id
+invariant-loop-id l =
     (l.tree.text.now ≡ l.text) × (l.tree.nodes.now ≡ l.nodes) × (l.tree.links.now ≡ l.links) × (l.tree.rows ≡ l.rows) × (l.tree.built ≡ l.built)

@@ -2,7 +2,6 @@
 use native.Mathlib.Omega.{arith}
 use Rattle.wire.proofs.Lines.{row_there}
 use borrow.Author.Rules.{rules}
-use Prim.Native.Nat.{◌-◌, ◌≤◌}
 use Rattle.showing.proofs.listing.lines.Goals as goal
 
 pub row-k-requires : goal.row-k-requires

@@ -1,5 +1,0 @@
--- `Tree::say` ends, since a child's number is below its parent's.
-use Rattle.showing.proofs.Tree.+say.Given as goal
-
-abbrev pub decreases-say : goal.decreases-say
-decreases-say l = l.row
