@@ -16,14 +16,21 @@ use interner::{Interned, get_or_intern};
 use token::kinds;
 use token::list::{end_at, kind_at, start_at};
 
+// What words are looked up in and what they stand in: the built-in names with their rows and their index, the text, and its tokens.
+#[derive(Clone, Copy)]
+struct Source<'a> {
+    names: &'a [u8],
+    rows: &'a [u32],
+    index: &'a [u32],
+    text: &'a [u8],
+    tokens: &'a [u32],
+}
+
 // The symbol of the word from `start` up to `end` of the text, and how many rows of the script's own are in use now: a built-in name's, or that of its row in `own`,
 // the symbol room behind the built-in rows; None where the row does not fit. `built` is the number of built-in names: where there are none,
 // nothing is looked up among them.
 fn name(
-    names: &[u8],
-    rows: &[u32],
-    index: &[u32],
-    text: &[u8],
+    source: Source,
     own: &mut [u32],
     scratch: &mut [u32],
     built: usize,
@@ -32,12 +39,12 @@ fn name(
     start: u32,
     end: u32,
 ) -> Option<Interned>
-    requires { Free (names_in names.now rows.now) built index.now text.now start end size known own.old scratch.old }
-    ensures { LookedUp (names_in names.now rows.now) text.now start end size known own.old own.new scratch.old scratch.new result }
+    requires { Free (names_in source.names.now source.rows.now) built source.index.now source.text.now start end size known own.old scratch.old }
+    ensures { LookedUp (names_in source.entry.names.now source.entry.rows.now) source.entry.text.now start end size known own.old own.new scratch.old scratch.new result }
 {
     if 0 < built {
-        let word = &text[start as usize..end as usize];
-        if let Some(i) = find(names, rows, index, word) {
+        let word = &source.text[start as usize..end as usize];
+        if let Some(i) = find(source.names, source.rows, source.index, word) {
             let symbol = i as u32;
             return Some(Interned {
                 symbol,
@@ -45,18 +52,23 @@ fn name(
             });
         }
     }
-    get_or_intern(text, own, scratch, built as u32, size, known, start, end)
+    get_or_intern(
+        source.text,
+        own,
+        scratch,
+        built as u32,
+        size,
+        known,
+        start,
+        end,
+    )
 }
 
 // The symbol of token `at`, and how many rows of the script's own are in use now. The two kinds that have a word are neighbours: a string's is between its quotes, an
 // identifier's is the whole. It is None where a word's row does not fit, and a token that has no word has symbol 0. `built` is the number of built-in names, `size` that
 // of tokens.
 fn word(
-    names: &[u8],
-    rows: &[u32],
-    index: &[u32],
-    text: &[u8],
-    tokens: &[u32],
+    source: Source,
     own: &mut [u32],
     scratch: &mut [u32],
     built: usize,
@@ -64,20 +76,17 @@ fn word(
     known: usize,
     at: usize,
 ) -> Option<Interned>
-    requires { Before (names_in names.now rows.now) built index.now text.now tokens.now size at known own.old scratch.old }
-    ensures { Named (names_in names.now rows.now) text.now tokens.now size at known own.old own.new scratch.old scratch.new result }
+    requires { Before (names_in source.names.now source.rows.now) built source.index.now source.text.now source.tokens.now size at known own.old scratch.old }
+    ensures { Named (names_in source.entry.names.now source.entry.rows.now) source.entry.text.now source.entry.tokens.now size at known own.old own.new scratch.old scratch.new result }
 {
-    let kind = kind_at(tokens, at);
+    let kind = kind_at(source.tokens, at);
     match kind {
         kinds::STRING_LITERAL..=kinds::IDENTIFIER => {
             let quote = kinds::IDENTIFIER - kind;
-            let start = start_at(tokens, at);
-            let end = end_at(tokens, at);
+            let start = start_at(source.tokens, at);
+            let end = end_at(source.tokens, at);
             name(
-                names,
-                rows,
-                index,
-                text,
+                source,
                 own,
                 scratch,
                 built,
@@ -118,27 +127,17 @@ fn leave_out(tokens: &[u32], scratch: &mut [u32], size: usize, from: usize)
 
 // The rows of the script's own names, in `own`, the symbol room behind the built-in rows, and the symbol of token i in the top third of the scratch room, at
 // 2 * count + i: how many rows there are.
-fn script_names(
-    names: &[u8],
-    rows: &[u32],
-    index: &[u32],
-    text: &[u8],
-    tokens: &[u32],
-    own: &mut [u32],
-    scratch: &mut [u32],
-) -> usize
-    requires { Open (names_in names.now rows.now) index.now text.now tokens.now scratch.old }
-    ensures { Owned (names_in names.now rows.now) text.now tokens.now own.old scratch.old own.new scratch.new result }
+fn script_names(source: Source, own: &mut [u32], scratch: &mut [u32]) -> usize
+    requires { Open (names_in source.names.now source.rows.now) source.index.now source.text.now source.tokens.now scratch.old }
+    ensures { Owned (names_in source.entry.names.now source.entry.rows.now) source.entry.text.now source.entry.tokens.now own.old scratch.old own.new scratch.new result }
 {
-    let count = tokens.len() / 3;
-    let built = rows.len() / NAME_WIDTH;
+    let count = source.tokens.len() / 3;
+    let built = source.rows.len() / NAME_WIDTH;
     zero(scratch, count, 2 * count);
     let mut known = 0;
     for i in 0..count {
-        let Some(found) = word(
-            names, rows, index, text, tokens, own, scratch, built, count, known, i,
-        ) else {
-            leave_out(tokens, scratch, count, i);
+        let Some(found) = word(source, own, scratch, built, count, known, i) else {
+            leave_out(source.tokens, scratch, count, i);
             return known;
         };
         scratch[2 * count + i] = found.symbol;
@@ -167,15 +166,14 @@ pub fn resolve(
     let built = rows.len() / NAME_WIDTH;
     let first = NAME_WIDTH * built;
     copy(symbols, 0, rows, 0, first);
-    let known = script_names(
+    let source = Source {
         names,
         rows,
         index,
         text,
         tokens,
-        &mut symbols[first..],
-        scratch,
-    );
+    };
+    let known = script_names(source, &mut symbols[first..], scratch);
     built + known
 }
 

@@ -18,8 +18,8 @@ returns-in-Some c =
 pub returns : goal.returns
 returns c =
     let a = c.args in
-    let low = seek_below a.names.now (lexeme a.text.now a.start a.end) a.rows.now in
-    let none : seek a.names.now (lexeme a.text.now a.start a.end) a.rows.now ≡ built (builtins a.names.now a.rows.now) =
+    let low = seek_below a.source.names.now (lexeme a.source.text.now a.start a.end) a.source.rows.now in
+    let none : seek a.source.names.now (lexeme a.source.text.now a.start a.end) a.source.rows.now ≡ built (builtins a.source.names.now a.source.rows.now) =
     elim c.if-built-gt0.branch [ then-built-gt0+in_default w ↦ sym w.in_default.ensures.is | else-built-gt0 w ↦ omega (arith, low, c.requires.built_is) ]
     in
     own_found c.requires none c.get_or_intern.ensures

@@ -4,4 +4,4 @@ use Rattle.names.proofs.Passing.{Passed}
 use Rattle.names.proofs.script_names.Given as goal
 
 abbrev pub invariant-loop-i : goal.invariant-loop-i
-invariant-loop-i l = Passed (builtins l.names l.rows) l.text l.tokens l.i l.initial.own l.initial.scratch l.own l.scratch l.known
+invariant-loop-i l = Passed (builtins l.source.names.now l.source.rows.now) l.source.text.now l.source.tokens.now l.i l.initial.own l.initial.scratch l.own l.scratch l.known
