@@ -5,9 +5,9 @@ use native.Mathlib.Omega.{arith}
 use borrow.Author.Count.{below_more}
 use mathlib.Core.Bool.{Bool, true, false}
 use mathlib.Core.List.{List}
-use mathlib.Core.Path.{◌≡◌, refl, sym, ◌∙◌}
+use mathlib.Core.Path.{◌≡◌, refl, sym, ap, ◌∙◌}
 use lib.ListN.{length, get_or, length-replicate, get_or-replicate}
-use Rattle.std.specs.Prelude.{Option, IfSome}
+use Rattle.std.specs.Prelude.{Option, Some, None, IfSome}
 use Rattle.grammar.specs.Builtin.{Builtins, built, RightNames}
 use Rattle.grammar.specs.Kind.{Identifier}
 use Rattle.grammar.specs.Lexeme.{Fits}
@@ -114,3 +114,10 @@ one_right {r = false} {s = false} x y = refl
 pub one_index : {names : Builtins} {ix iy : List ℕ} → Known names ix → Known names iy →
     ((i : ℕ) → i < built names → get_or ix i 0 ≡ get_or iy i 0) × ((b : ℕ) → most ≤ b → b < 2 * most → get_or ix b 0 ≡ get_or iy b 0)
 one_index x y = (λ i h. x.indexed.index_is.next i h ∙ sym (y.indexed.index_is.next i h), λ b l h. x.indexed.index_is.heads b l h ∙ sym (y.indexed.index_is.heads b l h))
+
+-- and so are two answers of a search
+pub one_found : {names : Builtins} {x : List ℕ} {r q : Option ℕ} → FoundIn names x r → FoundIn names x q → r ≡ q
+one_found {r = Some i} {q = Some j} a b = ap Some (a.is ∙ sym b.is)
+one_found {r = Some i} {q = None} a b = let l = a.there in absurd (omega (arith, a.is, b.is))
+one_found {r = None} {q = Some j} a b = let l = b.there in absurd (omega (arith, a.is, b.is))
+one_found {r = None} {q = None} a b = refl
