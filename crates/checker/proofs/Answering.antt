@@ -2,6 +2,7 @@
 use Prim.Native.Nat.{ℕ, ◌+◌, ◌-◌, ◌*◌, ◌/◌, ◌≤◌, ◌<◌}
 use native.Mathlib.Omega.{arith}
 use mathlib.Core.List.{List}
+use Rattle.std.specs.Prelude.{Result, Ok, Err}
 use mathlib.Core.Logic.{⊎_elim}
 use mathlib.Core.Path.{◌≡◌, sym, ap, ◌∙◌}
 use lib.ListN.{length, take, replicate}
@@ -15,11 +16,17 @@ use Rattle.ast.proofs.Rooms.{row_number}
 use Rattle.foreign.specs.Check.{Given, Lends, Checks}
 use Rattle.checker.specs.Slots.{table, rows}
 use Rattle.checker.specs.Verdict.{rooms, given, Tells, Judgeable, Judges, Judged}
+use Rattle.checker.specs.Pass.{number}
 use Rattle.checker.specs.declared.Verdict.{Verdict}
+use Rattle.checker.specs.declared.rule.Broken.{Broken}
 
--- an answer that has a code alone
+-- an answer that has a code alone, and what is told of the rules
 abbrev pub bare : (code : ℕ) → Verdict
 bare c = record { code = c; rule = 0; row = 0 }
+
+abbrev pub told : Result (Unit {0}) Broken → Verdict
+told (Ok u) = bare 0
+told (Err b) = record { code = 22; rule = number b.rule; row = b.row }
 
 module _ (e n m s : ℕ) (ns ls ss sc : List ℕ) where
   abbrev g : Given
@@ -66,12 +73,12 @@ module _ (e n m s : ℕ) (ns ls ss sc : List ℕ) where
       room = rw links_are l.scratch;
     }
 
-    pub judged : {t after sc' : List ℕ} {r : Verdict} → RightEdition e → t ≡ table (edition e) → Judged t s (rows node_part link_part) r → length sc' ≡ length sc → Cleared 0 sc' after → Tells g (rooms ns ls ss after) r
+    pub judged : {t after sc' : List ℕ} {r : Result (Unit {0}) Broken} → RightEdition e → t ≡ table (edition e) → Judged t s (rows node_part link_part) r → length sc' ≡ length sc → Cleared 0 sc' after → Tells g (rooms ns ls ss after) (told r)
     judged {after = after} {sc' = sc'} {r = r} x q j k c = rw wiped (record { says = pick (j.says (edition e) q) })
       where
         wiped : after ≡ cleared sc
         wiped = let i : length sc' - 0 ≡ length sc = omega arith in c.zeros ∙ ap (λ (z : ℕ). replicate z 0) i
 
-        pick : {v : Verdict} → Judges (edition e) s (rows node_part link_part) v → Checks g v.code v.rule v.row (rooms ns ls ss (cleared sc))
+        pick : {v : Result (Unit {0}) Broken} → Judges (edition e) s (rows node_part link_part) v → Checks g (told v).code (told v).rule (told v).row (rooms ns ls ss (cleared sc))
         pick (Judges.failed f) = Checks.failed l x f
         pick (Judges.passed f) = Checks.passed l x f

@@ -14,7 +14,6 @@ use Rattle.checker.specs.Test.{keep, keep_all, row_keeps}
 use Rattle.checker.specs.declared.slots.Slot.{Slot}
 use Rattle.checker.proofs.Laws.{both_true, true_both, or_true, never}
 use Rattle.checker.proofs.Keeping.{many, keep_append}
-use Rattle.checker.proofs.Holding.{list_is}
 
 -- a test of each item that means P, where the items are in range already
 module _ (rule i s m : ℕ) (P : Item → Type 0) where
@@ -129,7 +128,12 @@ module _ (i s m : ℕ) where
 
 -- whatever the rule, lists of a row that keeps it are in range
 slot_inside : (rule i s : ℕ) (ls : List ℕ) (t : Slot) → keep_all rule i s (many ls) (held ls t) ≡ true → InLists ls t
-slot_inside rule i s ls t e h l = leb-true (t.x + t.y) (many ls) (both_true _ _ (sym (list_is rule i s ls t h l) ∙ e)).0
+slot_inside rule i s ls Slot.Nothing e = tt
+slot_inside rule i s ls (Slot.Child x) e = tt
+slot_inside rule i s ls (Slot.Option x) e = tt
+slot_inside rule i s ls (Slot.Symbol x) e = tt
+slot_inside rule i s ls (Slot.List o f n) e = leb-true (f + n) (many ls) (both_true _ _ e).0
+slot_inside rule i s ls (Slot.Number l x) e = tt
 
 pub lists_inside : (rule s : ℕ) (t ns ls : List ℕ) (i : ℕ) → row_keeps rule s t ns ls i ≡ true → InLists ls (cut_of t ns i).first × InLists ls (cut_of t ns i).second × InLists ls (cut_of t ns i).third
 unfolding row_keeps held_in

@@ -1,6 +1,7 @@
 -- Lists that follow each other: what a slot has of them, one slot after another, and row by row.
 use Prim.Native.Nat.{ℕ, zero, suc, ◌+◌, ◌-◌, ◌*◌, ◌≤◌, ◌<◌}
 use native.Mathlib.Omega.{arith}
+use Rattle.std.specs.Prelude.{Option, Some, None}
 use mathlib.Core.Bool.{Bool, true, false, cond, ◌&&◌}
 use mathlib.Core.List.{List, [], ◌∷◌, ◌++◌, append-nil}
 use mathlib.Core.Path.{◌≡◌, refl, sym, ap, ◌∙◌}
@@ -10,64 +11,38 @@ use lib.ListN.{get_or, drop}
 use Rattle.grammar.specs.Room.{node_width, own_width, link_width}
 use Rattle.grammar.specs.Edition.{Edition}
 use Rattle.foreign.specs.Check.{Item, lists, counted, Consecutive, covered, Follows}
-use Rattle.checker.specs.Follow.{consecutive, GoesOn, in_slots, covered_by, row_follows, FollowsAll}
+use Rattle.checker.specs.Follow.{consecutive, followed, GoesOn, in_slots, covered_by, row_follows, AllFollow, OneStrays}
 use Rattle.checker.specs.Slots.{rows, table, cut_of, link_items, linked_items, held, spared, held_in}
 use Rattle.checker.specs.Test.{AllStanding}
 use Rattle.checker.specs.declared.slots.Cut.{Cut}
 use Rattle.checker.specs.declared.slots.Slot.{Slot}
-use Rattle.checker.proofs.Items.{cut_items, list_held, number_held, lists_append, lists_spared}
-use Rattle.checker.proofs.Laws.{and_assoc, both_true, true_both, Held, held_none, held_more, found, none_found}
+use Rattle.checker.specs.declared.rule.Rule.{Rule}
+use Rattle.checker.specs.declared.slots.Sort.{Sort}
+use Rattle.checker.proofs.Items.{cut_items, lists_append, lists_spared}
+use Rattle.checker.proofs.Laws.{some_none, some_same, and_assoc, both_true, true_both, Held, held_none, held_more, found, none_found}
 use Rattle.checker.proofs.Passes.{Tests}
 
 -- links hold none
-links_listless : (c n : ℕ) (ls : List ℕ) → lists (linked_items c n ls) ≡ []
+links_listless : (o : Sort) (n : ℕ) (ls : List ℕ) → lists (linked_items o n ls) ≡ []
 unfolding linked_items
-links_listless c zero ls = refl
-links_listless c (suc n) ls = lists_append (link_items c (get_or ls 0 0) (get_or ls 1 0) (get_or ls 2 0)) _ ∙ rw (links_listless c n (drop link_width ls)) (one (eqb c 6) (eqb c 5))
-  where
-    one : (b d : Bool) → lists (cond b (Item.symbol (get_or ls 0 0) ∷ []) (Item.child (get_or ls 0 0) ∷ cond d (Item.unused (get_or ls 1 0)) (Item.option (get_or ls 1 0)) ∷ Item.unused (get_or ls 2 0) ∷ [])) ++ [] ≡ []
-    one true d = refl
-    one false true = refl
-    one false false = refl
+links_listless o zero ls = refl
+links_listless Sort.Nodes (suc n) ls = links_listless Sort.Nodes n (drop link_width ls)
+links_listless Sort.Names (suc n) ls = links_listless Sort.Names n (drop link_width ls)
+links_listless Sort.Entries (suc n) ls = links_listless Sort.Entries n (drop link_width ls)
 
--- a slot that is no list, and one that is
-module _ (ls : List ℕ) (s : Slot) where
-  low_listless : s.code < 5 → lists (held ls s) ≡ []
-  unfolding held
-  low_listless h = pick (eqb s.code 0) (eqb s.code 1) (eqb s.code 2)
-    where
-      pick : (a b c : Bool) → lists (cond a [] (cond b (Item.child s.x ∷ []) (cond c (Item.option s.x ∷ []) (cond (ltb s.code 5) (Item.symbol s.x ∷ []) (cond (ltb s.code 8) (Item.list s.x s.y ∷ linked_items s.code s.y (drop (link_width * s.x) ls)) (Item.number (s.code - 8) s.x ∷ [])))))) ≡ []
-      pick true b c = refl
-      pick false true c = refl
-      pick false false true = refl
-      pick false false false = rw (lt-ltb s.code 5 h) refl
+-- after a slot that is no list, and one that is
+pub goes_on : {from : ℕ} (s : Slot) → from ≤ 8589934590 → ((ls : List ℕ) → lists (held ls s) ≡ []) → GoesOn from (λ ls. held ls s) (Some from)
+goes_on {from} s few h = record { most = few; says = λ ls. let z : from + 0 ≡ from = omega arith in rw (h ls, z) refl }
 
-  high_listless : 7 < s.code → lists (held ls s) ≡ []
-  high_listless h = ap lists (number_held ls s (omega arith))
+module _ (o : Sort) (f n from : ℕ) where
+  abbrev After : Option ℕ → Type 0
+  After r = GoesOn from (λ ls. held ls (Slot.List o f n)) r
 
-  one_list : 5 ≤ s.code → s.code < 8 → lists (held ls s) ≡ (s.x, s.y) ∷ []
-  one_list h l = ap lists (list_held ls s h l) ∙ rw (links_listless s.code s.y (drop (link_width * s.x) ls)) refl
+  pub goes_elsewhere : (f ≡ from → ⊥) → After None
+  goes_elsewhere h = record { most = tt; says = λ ls. rw (links_listless o n (drop (link_width * f) ls), ne_eqb f from h) refl }
 
--- after a slot
-module _ (s : Slot) (from : ℕ) (few : from ≤ 8589934590) where
-  abbrev After : ℕ → Type 0
-  After r = GoesOn from (λ ls. held ls s) r
-
-  on : ((ls : List ℕ) → lists (held ls s) ≡ []) → After (from + 1)
-  on h = record { most = omega arith; says = λ ls. rw (h ls) (omega arith) }
-
-  pub goes_low : s.code < 5 → After (from + 1)
-  goes_low h = on (λ ls. low_listless ls s h)
-
-  pub goes_high : 7 < s.code → After (from + 1)
-  goes_high h = on (λ ls. high_listless ls s h)
-
-  module _ (h : 5 ≤ s.code) (l : s.code < 8) where
-    pub goes_elsewhere : (s.x ≡ from → ⊥) → After 0
-    goes_elsewhere n = record { most = omega arith; says = λ ls. rw (one_list ls s h l, ne_eqb s.x from n) refl }
-
-    pub goes_list : s.x ≡ from → s.x ≤ 4294967295 → s.y ≤ 4294967295 → After (from + s.y + 1)
-    goes_list e a b = record { most = omega arith; says = λ ls. rw (one_list ls s h l, eq-eqb s.x from e) (omega arith) }
+  pub goes_list : f ≡ from → f ≤ 4294967295 → n ≤ 4294967295 → After (Some (from + n))
+  goes_list e a b = record { most = omega arith; says = λ ls. let z : from + (n + 0) ≡ from + n = omega arith in rw (links_listless o n (drop (link_width * f) ls), eq-eqb f from e, z) refl }
 
 -- one part after another
 counted_append : (xs ys : List (ℕ × ℕ)) → counted (xs ++ ys) ≡ counted xs + counted ys
@@ -78,25 +53,26 @@ consecutive_append : (m : ℕ) (xs ys : List (ℕ × ℕ)) → consecutive m (xs
 consecutive_append m [] ys = let e : m + 0 ≡ m = omega arith in rw e refl
 consecutive_append m (x ∷ xs) ys = let e : m + x.1 + counted xs ≡ m + (x.1 + counted xs) = omega arith in rw (consecutive_append (m + x.1) xs ys, e) (and_assoc (eqb x.0 m) _ _)
 
-module _ {from r : ℕ} {f : List ℕ → List Item} (g : List ℕ → List Item) (x : GoesOn from f r) where
-  pub goes_nowhere : r ≡ 0 → GoesOn from (λ ls. f ls ++ g ls) 0
-  goes_nowhere e = record { most = omega arith; says = λ ls. sym (rw (lists_append (f ls) (g ls), consecutive_append from (lists (f ls)) (lists (g ls))) (pick ls (consecutive from (lists (f ls))) refl)) }
+followed_append : (from : ℕ) (xs ys : List Item) → followed from (lists (xs ++ ys)) ≡ cond (consecutive from (lists xs) && consecutive (from + counted (lists xs)) (lists ys)) (Some (from + (counted (lists xs) + counted (lists ys)))) None
+followed_append from xs ys = rw (lists_append xs ys, consecutive_append from (lists xs) (lists ys), counted_append (lists xs) (lists ys)) refl
+
+module _ {from : ℕ} {f : List ℕ → List Item} (g : List ℕ → List Item) where
+  pub goes_nowhere : GoesOn from f None → GoesOn from (λ ls. f ls ++ g ls) None
+  goes_nowhere x = record { most = tt; says = λ ls. sym (followed_append from (f ls) (g ls) ∙ pick ls (consecutive from (lists (f ls))) refl) }
     where
-      pick : (ls : List ℕ) (b : Bool) → consecutive from (lists (f ls)) ≡ b → cond (b && consecutive (from + counted (lists (f ls))) (lists (g ls))) (suc (from + counted (lists (f ls) ++ lists (g ls)))) 0 ≡ 0
-      pick ls true q = absurd (let z = rw q at (x.says ls) in omega arith)
+      pick : (ls : List ℕ) (b : Bool) → consecutive from (lists (f ls)) ≡ b → cond (b && consecutive (from + counted (lists (f ls))) (lists (g ls))) (Some (from + (counted (lists (f ls)) + counted (lists (g ls))))) None ≡ None
+      pick ls true q = absurd (some_none (sym (rw q at (x.says ls))))
       pick ls false q = refl
 
-  pub goes_further : {s : ℕ} → (r ≡ 0 → ⊥) → GoesOn (r - 1) g s → GoesOn from (λ ls. f ls ++ g ls) s
-  goes_further {s} n y = record { most = y.most; says = λ ls. sym (rw (lists_append (f ls) (g ls), consecutive_append from (lists (f ls)) (lists (g ls)), counted_append (lists (f ls)) (lists (g ls))) (pick ls (consecutive from (lists (f ls))) refl)) }
+  pub goes_further : {m : ℕ} {s : Option ℕ} → GoesOn from f (Some m) → GoesOn m g s → GoesOn from (λ ls. f ls ++ g ls) s
+  goes_further {m} {s} x y = record { most = y.most; says = λ ls. sym (followed_append from (f ls) (g ls) ∙ pick ls (consecutive from (lists (f ls))) refl) }
     where
-      pick : (ls : List ℕ) (b : Bool) → consecutive from (lists (f ls)) ≡ b → cond (b && consecutive (from + counted (lists (f ls))) (lists (g ls))) (suc (from + (counted (lists (f ls)) + counted (lists (g ls))))) 0 ≡ s
+      pick : (ls : List ℕ) (b : Bool) → consecutive from (lists (f ls)) ≡ b → cond (b && consecutive (from + counted (lists (f ls))) (lists (g ls))) (Some (from + (counted (lists (f ls)) + counted (lists (g ls))))) None ≡ s
       pick ls true q =
-          let z = rw q at (x.says ls) in
-          let e : r - 1 ≡ from + counted (lists (f ls)) = omega arith in
-          let w = rw e at (y.says ls) in
+          let e : m ≡ from + counted (lists (f ls)) = some_same (rw q at (x.says ls)) in
           let a : from + counted (lists (f ls)) + counted (lists (g ls)) ≡ from + (counted (lists (f ls)) + counted (lists (g ls))) = omega arith in
-          sym (rw a at w)
-      pick ls false q = absurd (n (rw q at (x.says ls)))
+          sym (rw a at (rw e at (y.says ls)))
+      pick ls false q = absurd (some_none (rw q at (x.says ls)))
 
 -- a row's lists are those of its slots
 row_lists : (ns ls : List ℕ) (i : ℕ) (c : Cut) → lists (held_in ns ls i c) ≡ lists (in_slots c ls)
@@ -120,31 +96,31 @@ module _ {t ns : List ℕ} where
   unfolding covered_by
   none_follow = record { few = omega arith; kept = λ ls. held_none _; covered = λ ls. refl }
 
-  module _ {i links next : ℕ} {c : Cut} (x : Following t ns i links) (e : c ≡ cut_of t ns i) (y : GoesOn links (in_slots c) next) where
+  module _ {i links : ℕ} {next : Option ℕ} {c : Cut} (x : Following t ns i links) (e : c ≡ cut_of t ns i) (y : GoesOn links (in_slots c) next) where
     -- what row i's lists say of it
-    at : (ls : List ℕ) → next ≡ cond (row_follows t ns ls i) (suc (covered_by t ns ls (suc i))) 0
+    at : (ls : List ℕ) → next ≡ cond (row_follows t ns ls i) (Some (covered_by t ns ls (suc i))) None
     unfolding row_follows covered_by
     at ls = y.says ls ∙ rw (← row_lists ns ls i c, e, x.covered ls) refl
 
-    pub goes_wrong : next ≡ 0 → (ls : List ℕ) → row_follows t ns ls i ≡ false
-    goes_wrong z ls = pick (row_follows t ns ls i) (at ls)
+    pub goes_wrong : next ≡ None → (ls : List ℕ) → row_follows t ns ls i ≡ false
+    goes_wrong z ls = pick (row_follows t ns ls i) (sym z ∙ at ls)
       where
-        pick : (b : Bool) → next ≡ cond b (suc (covered_by t ns ls (suc i))) 0 → b ≡ false
-        pick true q = absurd (omega arith)
+        pick : (b : Bool) → None ≡ cond b (Some (covered_by t ns ls (suc i))) None → b ≡ false
+        pick true q = absurd (some_none (sym q))
         pick false q = refl
 
-    pub follow_more : (next ≡ 0 → ⊥) → Following t ns (i + 1) (next - 1)
-    follow_more n = record { few = omega (arith, y.most); kept = λ ls. held_more (x.kept ls) (pick ls (row_follows t ns ls i) (at ls)).0; covered = λ ls. let j : i + 1 ≡ suc i = omega arith in rw j (pick ls (row_follows t ns ls i) (at ls)).1 }
+    pub follow_more : {links' : ℕ} → next ≡ Some links' → Following t ns (i + 1) links'
+    follow_more {links'} n = record { few = rw n at y.most; kept = λ ls. held_more (x.kept ls) (pick ls (row_follows t ns ls i) (sym n ∙ at ls)).0; covered = λ ls. let j : i + 1 ≡ suc i = omega arith in rw j (pick ls (row_follows t ns ls i) (sym n ∙ at ls)).1 }
       where
-        pick : (ls : List ℕ) (b : Bool) → next ≡ cond b (suc (covered_by t ns ls (suc i))) 0 → (b ≡ true) × (next - 1 ≡ covered_by t ns ls (suc i))
-        pick ls true q = (refl, omega arith)
-        pick ls false q = absurd (n q)
+        pick : (ls : List ℕ) (b : Bool) → Some links' ≡ cond b (Some (covered_by t ns ls (suc i))) None → (b ≡ true) × (links' ≡ covered_by t ns ls (suc i))
+        pick ls true q = (refl, some_same q)
+        pick ls false q = absurd (some_none q)
 
-  pub follow_stopped : {i links n : ℕ} → i < n → Following t ns i links → ((ls : List ℕ) → row_follows t ns ls i ≡ false) → FollowsAll t ns n (record { row = i; links = 0 })
-  follow_stopped h x f = record { first = λ ls. found h (x.kept ls) (f ls); covered = λ e. absurd (omega arith) }
+  pub follow_stopped : {i links n : ℕ} → i < n → Following t ns i links → ((ls : List ℕ) → row_follows t ns ls i ≡ false) → OneStrays t ns n (record { rule = Rule.Follows; row = i })
+  follow_stopped h x f = record { rule = refl; place = h; first = λ ls. found h (x.kept ls) (f ls) }
 
-  pub follow_ended : {i links n : ℕ} → i ≡ n → Following t ns i links → FollowsAll t ns n (record { row = n; links = links })
-  follow_ended e x = record { first = λ ls. none_found e (x.kept ls); covered = λ q ls. x.covered ls ∙ ap (covered_by t ns ls) e }
+  pub follow_ended : {i links n : ℕ} → i ≡ n → Following t ns i links → AllFollow t ns n links
+  follow_ended e x = record { first = λ ls. none_found e (x.kept ls); covered = λ ls. x.covered ls ∙ ap (covered_by t ns ls) e }
 
 -- what the test of lists means
 consecutive_means : (m : ℕ) (ls : List (ℕ × ℕ)) → consecutive m ls ≡ true → Consecutive m ls

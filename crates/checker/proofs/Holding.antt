@@ -1,8 +1,9 @@
--- What a slot, a row and all rows before one answer, and the marks that they leave. A slot's items are looked at by its code; a list chooses the marks of its links by it.
+-- What a slot, a row and all rows before one answer, and the marks that they leave. A list chooses the marks of its links by their sort.
 use Prim.Native.Nat.{ℕ, zero, suc, ◌+◌, ◌-◌, ◌*◌, ◌≤◌, ◌<◌}
 use native.Mathlib.Omega.{arith}
 use mathlib.Core.Bool.{Bool, true, false, cond, ◌&&◌, ◌||◌, not}
 use mathlib.Core.List.{List, [], ◌∷◌, ◌++◌}
+use Rattle.std.proofs.Common.{append_assoc}
 use mathlib.Core.Path.{◌≡◌, refl, sym, ap, ◌∙◌}
 use lib.Dec.{eqb, ltb, leb}
 use borrow.Author.Tests.{eqb-true, eqb-false, ltb-true, lt-ltb, le-leb, lt-leb}
@@ -14,11 +15,11 @@ use Rattle.ast.proofs.Rooms.{zero_at}
 use Rattle.foreign.specs.Check.{Item}
 use Rattle.checker.specs.Marks.{Settled}
 use Rattle.checker.specs.Slots.{link_items, linked_items, held, spared, cut_of, held_in}
-use Rattle.checker.specs.Test.{keep, keep_all, link_keeps, first_code, concerns, Linkable, Linked, Marked, Keeps, row_keeps}
+use Rattle.checker.specs.Test.{keep, keep_all, link_keeps, first_sort, of_names, concerns, Linkable, Linked, Marked, Keeps, row_keeps}
 use Rattle.checker.specs.declared.slots.Slot.{Slot}
 use Rattle.checker.specs.declared.slots.Cut.{Cut}
+use Rattle.checker.specs.declared.slots.Sort.{Sort}
 use Rattle.checker.proofs.Laws.{and_true, both_true, true_both, or_true, or_false, never, settled_same, settled_none}
-use Rattle.checker.proofs.Items.{none_held, child_held, option_held, symbol_held, list_held, number_held}
 use Rattle.checker.proofs.Keeping.{many, keep_append, any_many, unconcerned}
 
 -- one list, and then another
@@ -29,68 +30,63 @@ module _ {rule i s : ℕ} {ls : List ℕ} {xs : List Item} {b : Bool} {ms : List
   pub kept_then : {ys : List Item} {r : Bool} {ms' : List ℕ} → b ≡ true → Keeps rule i s ls ys ms' r → Keeps rule i s ls (xs ++ ys) ms' r
   kept_then {ys} t l = record { says = l.says ∙ sym (keep_append rule i s (many ls) xs ys ∙ rw (sym k.says ∙ t) refl); marked = l.marked }
 
--- a list's items: whether it is in range, and its links
-pub list_is : (rule i s : ℕ) (ls : List ℕ) (t : Slot) → 5 ≤ t.code → t.code < 8 → keep_all rule i s (many ls) (held ls t) ≡ (leb (t.x + t.y) (many ls) && keep_all rule i s (many ls) (linked_items t.code t.y (drop (link_width * t.x) ls)))
-list_is rule i s ls t h l = ap (keep_all rule i s (many ls)) (list_held ls t h l)
+  -- what decides alone, and what is then left
+  pub stays_broken : (ys : List Item) → b ≡ false → Keeps rule i s ls (xs ++ ys) ms b
+  stays_broken ys f = rw f (broken_off ys f)
 
-module _ (rule i s : ℕ) (ls : List ℕ) (t : Slot) (ms : List ℕ) where
+pub regrouped : {rule i s : ℕ} {ls ms : List ℕ} {r : Bool} (x y z w : List Item) → Keeps rule i s ls (((x ++ y) ++ z) ++ w) ms r → Keeps rule i s ls (x ++ (y ++ (z ++ w))) ms r
+regrouped x y z w k = rw (← append_assoc x y (z ++ w), ← append_assoc (x ++ y) z w) k
+
+-- a slot that holds one item, and no list, leaves the marks as they are
+pub holds_one : {rule i s : ℕ} {ls ms : List ℕ} {r : Bool} (x : Item) → r ≡ keep rule i s (many ls) x → Marked rule i s ls ms → Keeps rule i s ls (x ∷ []) ms r
+holds_one x f g = record { says = f ∙ sym (and_true _); marked = λ y. g }
+
+pub holds_none : {rule i s : ℕ} {ls ms : List ℕ} → Marked rule i s ls ms → Keeps rule i s ls [] ms true
+holds_none g = record { says = refl; marked = λ y. g }
+
+-- a list: whether it is in range, and its links
+module _ (rule i s : ℕ) (ls : List ℕ) (o : Sort) (f n : ℕ) (ms : List ℕ) where
   abbrev Answers : Bool → Type 0
-  Answers r = Keeps rule i s ls (held ls t) ms r
+  Answers r = Keeps rule i s ls (held ls (Slot.List o f n)) ms r
 
-  -- a slot that is no list leaves the marks as they are
-  pub at_none : t.code ≡ 0 → Marked rule i s ls ms → Answers true
-  at_none e g = record { says = rw (none_held ls t e) refl; marked = λ y. g }
+  pub past_list : many ls < f + n → Answers false
+  past_list k = record { says = sym (rw (lt-leb (f + n) (many ls) k) refl); marked = λ y. absurd (never y refl) }
 
-  pub at_child : {r : Bool} → t.code ≡ 1 → r ≡ keep rule i s 0 (Item.child t.x) → Marked rule i s ls ms → Answers r
-  at_child e f g = record { says = f ∙ sym (rw (child_held ls t e) (and_true _)); marked = λ y. g }
+  pub unasked_list : f + n ≤ many ls → concerns rule o ≡ false → Marked rule i s ls ms → Answers true
+  unasked_list k e g = record { says = sym (rw (le-leb (f + n) (many ls) k, unconcerned rule i s (many ls) o e n (drop (link_width * f) ls)) refl); marked = λ y. g }
 
-  pub at_option : {r : Bool} → t.code ≡ 2 → r ≡ keep rule i s 0 (Item.option t.x) → Marked rule i s ls ms → Answers r
-  at_option e f g = record { says = f ∙ sym (rw (option_held ls t e) (and_true _)); marked = λ y. g }
-
-  pub at_symbol : {r : Bool} → 3 ≤ t.code → t.code < 5 → r ≡ keep rule i s 0 (Item.number s t.x) → Marked rule i s ls ms → Answers r
-  at_symbol h l f g = record { says = f ∙ sym (rw (symbol_held ls t h l) (and_true _)); marked = λ y. g }
-
-  pub at_number : {r : Bool} → 8 ≤ t.code → r ≡ keep rule i s 0 (Item.number (t.code - 8) t.x) → Marked rule i s ls ms → Answers r
-  at_number h f g = record { says = f ∙ sym (rw (number_held ls t h) (and_true _)); marked = λ y. g }
-
-  -- a list
-  module _ (h : 5 ≤ t.code) (l : t.code < 8) where
-    pub past_list : many ls < t.x + t.y → Answers false
-    past_list k = record { says = sym (list_is rule i s ls t h l ∙ rw (lt-leb (t.x + t.y) (many ls) k) refl); marked = λ y. absurd (never y refl) }
-
-    pub unasked_list : t.x + t.y ≤ many ls → concerns rule t.code ≡ false → Marked rule i s ls ms → Answers true
-    unasked_list k e g = record { says = sym (list_is rule i s ls t h l ∙ rw (le-leb (t.x + t.y) (many ls) k, unconcerned rule i s (many ls) t.code e t.y (drop (link_width * t.x) ls)) refl); marked = λ y. g }
-
-    list_says : {r : Bool} → t.x + t.y ≤ many ls → r ≡ keep_all rule i s 0 (linked_items t.code t.y (drop (link_width * t.x) ls)) → r ≡ keep_all rule i s (many ls) (held ls t)
-    list_says k e = e ∙ any_many rule i s (many ls) t.code t.y (drop (link_width * t.x) ls) ∙ sym (list_is rule i s ls t h l ∙ rw (le-leb (t.x + t.y) (many ls) k) refl)
+  list_says : {r : Bool} → f + n ≤ many ls → r ≡ keep_all rule i s 0 (linked_items o n (drop (link_width * f) ls)) → r ≡ keep_all rule i s (many ls) (held ls (Slot.List o f n))
+  list_says k e = e ∙ any_many rule i s (many ls) o n (drop (link_width * f) ls) ∙ sym (rw (le-leb (f + n) (many ls) k) refl)
 
 -- which marks a list's links have
-first_is : (rule code : ℕ) → concerns rule code ≡ true → 5 ≤ code → code < 8 → (code ≡ 7 → ⊥) → first_code rule ≡ code
-first_is rule code e h l f = pick (eqb rule 2) (eqb code 6) refl e
+first_is : (rule : ℕ) (o : Sort) → concerns rule o ≡ true → (o ≡ Sort.Entries → ⊥) → first_sort rule ≡ o
+first_is rule o e f = pick (eqb rule 2) o e f
   where
-    pick : (d b : Bool) → eqb code 6 ≡ b → cond d b (not b) ≡ true → cond d 6 5 ≡ code
-    pick true true p q = sym (eqb-true code 6 p)
-    pick true false p q = absurd (never q refl)
-    pick false true p q = absurd (never q refl)
-    pick false false p q = let k = eqb-false code 6 p in omega arith
+    pick : (d : Bool) (p : Sort) → cond d (of_names p) (not (of_names p)) ≡ true → (p ≡ Sort.Entries → ⊥) → cond d Sort.Names Sort.Nodes ≡ p
+    pick true Sort.Nodes e n = absurd (never e refl)
+    pick true Sort.Names e n = refl
+    pick true Sort.Entries e n = absurd (n refl)
+    pick false Sort.Nodes e n = refl
+    pick false Sort.Names e n = absurd (never e refl)
+    pick false Sort.Entries e n = absurd (n refl)
 
-module _ {rule i s : ℕ} {ls : List ℕ} {ms : List ℕ} (g : Marked rule i s ls ms) where
+module _ {rule i s : ℕ} {ls : List ℕ} {ms : List ℕ} (g : Marked rule i s ls ms) (f n : ℕ) (r : f + n ≤ many ls) where
   -- those of keys and values
-  pub second_kept : {r : Bool} {ms' : List ℕ} (t : Slot) → t.code ≡ 7 → t.x + t.y ≤ many ls → length ms' ≡ length ms → Linked rule i s 7 ls (many ls) t.x t.y ms ms' r → Keeps rule i s ls (held ls t) ms' r
-  second_kept {ms' = ms'} t e h l k = record {
-    says = list_says rule i s ls t ms' (omega arith) (omega arith) h (rw e k.says);
-    marked = λ y. record { few = g.few; room = omega (arith, g.room); first = settled_same (λ j m. (k.within y).low (0 + j) (omega arith)) g.first; second = k.settled y };
+  pub second_kept : {b : Bool} {ms' : List ℕ} (o : Sort) → o ≡ Sort.Entries → length ms' ≡ length ms → Linked rule i s o ls (many ls) f n ms ms' b → Keeps rule i s ls (held ls (Slot.List o f n)) ms' b
+  second_kept {ms' = ms'} o e l k = record {
+    says = list_says rule i s ls o f n ms' r k.says;
+    marked = λ y. record { few = g.few; room = omega (arith, g.room); first = settled_same (λ j m. (k.within y).low (0 + j) (omega arith)) g.first; second = rw e at (k.settled y) };
   }
 
   -- the others
-  module _ (t : Slot) (c : concerns rule t.code ≡ true) (h : 5 ≤ t.code) (l : t.code < 8) (n : t.code ≡ 7 → ⊥) (r : t.x + t.y ≤ many ls) where
-    pub first_linkable : Linkable rule i s t.code ls ms 0 t.x t.y
-    first_linkable = record { few = g.few; inside = r; room = omega (arith, g.room); settled = rw (first_is rule t.code c h l n) at g.first }
+  module _ (o : Sort) (c : concerns rule o ≡ true) (other : o ≡ Sort.Entries → ⊥) where
+    pub first_linkable : Linkable rule i s o ls ms 0 f n
+    first_linkable = record { few = g.few; inside = r; room = omega (arith, g.room); settled = rw (first_is rule o c other) at g.first }
 
-    pub first_kept : {b : Bool} {ms' : List ℕ} → length ms' ≡ length ms → Linked rule i s t.code ls 0 t.x t.y ms ms' b → Keeps rule i s ls (held ls t) ms' b
+    pub first_kept : {b : Bool} {ms' : List ℕ} → length ms' ≡ length ms → Linked rule i s o ls 0 f n ms ms' b → Keeps rule i s ls (held ls (Slot.List o f n)) ms' b
     first_kept {ms' = ms'} e k = record {
-      says = list_says rule i s ls t ms' h l r k.says;
-      marked = λ y. record { few = g.few; room = omega (arith, g.room); first = rw (first_is rule t.code c h l n) (k.settled y); second = settled_same (λ j m. (k.within y).high (many ls + j) (omega arith)) g.second };
+      says = list_says rule i s ls o f n ms' r k.says;
+      marked = λ y. record { few = g.few; room = omega (arith, g.room); first = rw (first_is rule o c other) (k.settled y); second = settled_same (λ j m. (k.within y).high (many ls + j) (omega arith)) g.second };
     }
 
 -- numbers that are left over leave the marks as they are, and hold no list
@@ -126,15 +122,15 @@ module _ (rule i s m : ℕ) where
   all_later [] e = refl
   all_later (x ∷ is) e = let (f, g) = both_true (keep rule i s m x) (keep_all rule i s m is) e in true_both (keep_later x f) (all_later is g)
 
-link_later : (rule i s code : ℕ) (ls : List ℕ) (k : ℕ) → link_keeps rule i s code ls k ≡ true → link_keeps rule (i + 1) s code ls k ≡ true
+link_later : (rule i s : ℕ) (o : Sort) (ls : List ℕ) (k : ℕ) → link_keeps rule i s o ls k ≡ true → link_keeps rule (i + 1) s o ls k ≡ true
 unfolding link_keeps
-link_later rule i s code ls k = all_later rule i s 0 (link_items code (get_or ls (link_width * k) 0) (get_or ls (link_width * k + 1) 0) (get_or ls (link_width * k + 2) 0))
+link_later rule i s o ls k = all_later rule i s 0 (link_items o (get_or ls (link_width * k) 0) (get_or ls (link_width * k + 1) 0) (get_or ls (link_width * k + 2) 0))
 
-settled_later : (rule i s code : ℕ) {base size : ℕ} (ls : List ℕ) {ms : List ℕ} → Settled (link_keeps rule i s code ls) base size ms → Settled (link_keeps rule (i + 1) s code ls) base size ms
-settled_later rule i s code ls g = record { right = λ k j h l m. link_later rule i s code ls j (g.right k j h l m) }
+settled_later : (rule i s : ℕ) (o : Sort) {base size : ℕ} (ls : List ℕ) {ms : List ℕ} → Settled (link_keeps rule i s o ls) base size ms → Settled (link_keeps rule (i + 1) s o ls) base size ms
+settled_later rule i s o ls g = record { right = λ k j h l m. link_later rule i s o ls j (g.right k j h l m) }
 
 pub marked_later : {rule i s : ℕ} {ls ms : List ℕ} → Marked rule i s ls ms → Marked rule (i + 1) s ls ms
-marked_later {rule} {i} {s} {ls} g = record { few = g.few; room = g.room; first = settled_later rule i s (first_code rule) ls g.first; second = settled_later rule i s 7 ls g.second }
+marked_later {rule} {i} {s} {ls} g = record { few = g.few; room = g.room; first = settled_later rule i s (first_sort rule) ls g.first; second = settled_later rule i s Sort.Entries ls g.second }
 
 -- marks that are zero
 pub marked_none : (rule i s : ℕ) {ls ms ms' : List ℕ} → many ls ≤ absent → 2 * many ls ≤ length ms → Written 0 (2 * many ls) (replicate (2 * many ls - 0) 0) ms ms' → Marked rule i s ls ms'

@@ -18,8 +18,9 @@ use Rattle.grammar.proofs.Parents.{named_own}
 use Rattle.grammar.proofs.Pieces.{first_on, named_alike}
 use Rattle.foreign.specs.Check.{Item, node_items, name_items, entry_items, items, kind_of, items_of, lists}
 use Rattle.checker.specs.Named.{names_in}
-use Rattle.checker.specs.Slots.{rows, code, width, line, table, slot_at, cut_of, linked_items, held, spared, held_in, Standing}
+use Rattle.checker.specs.Slots.{rows, code, width, line, table, slot_of, slot_at, cut_of, linked_items, held, spared, held_in, Standing}
 use Rattle.checker.specs.declared.slots.Slot.{Slot}
+use Rattle.checker.specs.declared.slots.Sort.{Sort}
 use Rattle.checker.proofs.Cutting.{cut_by, stood, cut_is}
 
 -- a row's own numbers
@@ -40,46 +41,27 @@ sees_on {ns} {xs} {base} {p} n h s = record {
   at = λ k l. let f : p + (n + k) ≡ p + n + k = omega arith in get_or-drop n xs k 0 ∙ s.at (n + k) (omega arith) ∙ ap (λ (i : ℕ). get_or ns (base + i) 0) f;
 }
 
--- what a slot holds, by its code
-module _ (ls : List ℕ) (s : Slot) where
-  pub none_held : s.code ≡ 0 → held ls s ≡ []
-  unfolding held
-  none_held e = rw e refl
+-- a number's slot, by its code
+pub slot_number : (c x y : ℕ) → 8 ≤ c → slot_of c x y ≡ Slot.Number (c - 8) x
+unfolding slot_of
+slot_number c x y h = rw (ne_eqb c 0 (λ e. omega arith), ne_eqb c 1 (λ e. omega arith), ne_eqb c 2 (λ e. omega arith), le-ltb c 5 (omega arith), ne_eqb c 5 (λ e. omega arith), ne_eqb c 6 (λ e. omega arith), ne_eqb c 7 (λ e. omega arith)) refl
 
-  pub child_held : s.code ≡ 1 → held ls s ≡ Item.child s.x ∷ []
-  unfolding held
-  child_held e = rw e refl
+pub slot_symbol : (c x y : ℕ) → 3 ≤ c → c < 5 → slot_of c x y ≡ Slot.Symbol x
+unfolding slot_of
+slot_symbol c x y h l = rw (ne_eqb c 0 (λ e. omega arith), ne_eqb c 1 (λ e. omega arith), ne_eqb c 2 (λ e. omega arith), lt-ltb c 5 l) refl
 
-  pub option_held : s.code ≡ 2 → held ls s ≡ Item.option s.x ∷ []
-  unfolding held
-  option_held e = rw e refl
-
-  pub symbol_held : 3 ≤ s.code → s.code < 5 → held ls s ≡ Item.symbol s.x ∷ []
-  unfolding held
-  symbol_held h l = rw (ne_eqb s.code 0 (λ e. omega arith), ne_eqb s.code 1 (λ e. omega arith), ne_eqb s.code 2 (λ e. omega arith), lt-ltb s.code 5 l) refl
-
-  past_symbol : 5 ≤ s.code → held ls s ≡ cond (ltb s.code 8) (Item.list s.x s.y ∷ linked_items s.code s.y (drop (link_width * s.x) ls)) (Item.number (s.code - 8) s.x ∷ [])
-  unfolding held
-  past_symbol h = rw (ne_eqb s.code 0 (λ e. omega arith), ne_eqb s.code 1 (λ e. omega arith), ne_eqb s.code 2 (λ e. omega arith), le-ltb s.code 5 h) refl
-
-  pub list_held : 5 ≤ s.code → s.code < 8 → held ls s ≡ Item.list s.x s.y ∷ linked_items s.code s.y (drop (link_width * s.x) ls)
-  list_held h l = past_symbol h ∙ rw (lt-ltb s.code 8 l) refl
-
-  pub number_held : 8 ≤ s.code → held ls s ≡ Item.number (s.code - 8) s.x ∷ []
-  number_held h = past_symbol (omega arith) ∙ rw (le-ltb s.code 8 h) refl
-
--- links by code
-nodes_linked : (n : ℕ) (ls : List ℕ) → linked_items 5 n ls ≡ node_items n ls
+-- links by sort
+nodes_linked : (n : ℕ) (ls : List ℕ) → linked_items Sort.Nodes n ls ≡ node_items n ls
 unfolding linked_items node_items
 nodes_linked zero ls = refl
 nodes_linked (suc n) ls = rw (nodes_linked n (drop link_width ls)) refl
 
-names_linked : (n : ℕ) (ls : List ℕ) → linked_items 6 n ls ≡ name_items n ls
+names_linked : (n : ℕ) (ls : List ℕ) → linked_items Sort.Names n ls ≡ name_items n ls
 unfolding linked_items name_items
 names_linked zero ls = refl
 names_linked (suc n) ls = rw (names_linked n (drop link_width ls)) refl
 
-entries_linked : (n : ℕ) (ls : List ℕ) → linked_items 7 n ls ≡ entry_items n ls
+entries_linked : (n : ℕ) (ls : List ℕ) → linked_items Sort.Entries n ls ≡ entry_items n ls
 unfolding linked_items entry_items
 entries_linked zero ls = refl
 entries_linked (suc n) ls = rw (entries_linked n (drop link_width ls)) refl
@@ -93,8 +75,8 @@ seen_next {ns} {xs} {base} {p} s h = let e : base + (p + 1) ≡ base + p + 1 = o
 module _ (ls ns : List ℕ) (base : ℕ) where
   -- the items of a slot, and then those of the others. Only a list has a second number
   one_slot : {xs : List ℕ} {p : ℕ} (s : Form) (ss : List Form) → Sees ns base p xs → p + width s ≤ own_width → items ls (s ∷ ss) xs ≡ held ls (slot_at ns (code s) (base + p)) ++ items ls ss (drop (width s) xs)
-  unfolding items held
-  one_slot {p = p} (below n) ss e h = let z : 8 + n - 8 ≡ n = omega arith in rw (number_held ls (slot_at ns (8 + n) (base + p)) (omega arith), z, seen e (omega arith)) refl
+  unfolding items slot_of
+  one_slot {p = p} (below n) ss e h = let z : 8 + n - 8 ≡ n = omega arith in rw (slot_number (8 + n) (get_or ns (base + p) 0) (get_or ns (base + p + 1) 0) (omega arith), z, seen e (omega arith)) refl
   one_slot child ss e h = rw (seen e (omega arith)) refl
   one_slot option ss e h = rw (seen e (omega arith)) refl
   one_slot symbol ss e h = rw (seen e (omega arith)) refl
@@ -119,7 +101,7 @@ module _ (ls ns : List ℕ) (row : ℕ) where
   start = node_width * row
 
   three : {xs : List ℕ} (ss : List Form) → length ss ≤ 3 → get_or (line ss) 5 0 ≤ own_width → Sees ns start 3 xs → items ls ss xs ≡ held_in ns ls row (cut_by ns row (line ss))
-  unfolding held_in held
+  unfolding held_in slot_of
   three {xs} [] h l e = left_over ls ns start xs e
   three (a ∷ []) h l e = let f = sees_on (width a) (omega arith) e in one_slot ls ns start a [] e (omega arith) ∙ rw (left_over ls ns start _ f) refl
   three (a ∷ b ∷ []) h l e =

@@ -5,7 +5,8 @@ use native.Mathlib.Nat.{mul-div_cancel_left}
 use native.Mathlib.Omega.{arith}
 use mathlib.Core.Bool.{Bool, true, false}
 use mathlib.Core.List.{List}
-use mathlib.Core.Path.{◌≡◌, sym, ap, ◌∙◌}
+use mathlib.Core.Path.{◌≡◌, refl, sym, ap, ◌∙◌}
+use Rattle.std.specs.Prelude.{Result, Ok, Err}
 use lib.ListN.{length}
 use Rattle.grammar.specs.Door.{FirstWithout}
 use Rattle.grammar.specs.Edition.{Edition}
@@ -13,11 +14,13 @@ use Rattle.grammar.specs.Naming.{height}
 use Rattle.grammar.specs.Room.{node_width, link_width}
 use Rattle.grammar.specs.Rows.{Rows}
 use Rattle.foreign.specs.Check.{KnownKind, Ranged, Earlier, Once, Rooted, covered, Follows, Covering, Present, Clean, ParentRight, Breaks}
-use Rattle.checker.specs.Follow.{covered_by, row_follows, FollowsAll}
+use Rattle.checker.specs.Follow.{covered_by, row_follows, AllFollow, OneStrays}
 use Rattle.checker.specs.Named.{Nameable, AllNamed, is_once, is_parent}
 use Rattle.checker.specs.Slots.{rows, table}
 use Rattle.checker.specs.Test.{AllStanding, First, known_kind, is_rooted, row_keeps}
-use Rattle.checker.specs.declared.follow.Followed.{Followed}
+use Rattle.checker.specs.Pass.{number, Passes}
+use Rattle.checker.specs.declared.rule.Broken.{Broken}
+use Rattle.checker.specs.declared.rule.Rule.{Rule}
 use Rattle.checker.specs.Verdict.{Judgeable, EarlierKept, TreeKept, Judges, Judged}
 use Rattle.checker.proofs.Following.{covered_means, follows_means}
 use Rattle.checker.proofs.Laws.{never}
@@ -75,12 +78,12 @@ module _ {e : Edition} {s : ℕ} {w : Rows} where
   past_clean : ((i : ℕ) → i < height w → Clean e w i) → (i : ℕ) → Breaks e s w 8 i → ⊥
   past_clean f i (Breaks.clean x) = x.lacks (f i x.place)
 
-  failed_at : {k i : ℕ} → Least e s w k → Breaks e s w k i → Judges e s w (record { code = 22; rule = k; row = i })
-  failed_at l b = Judges.failed (record { breaks = b; first = l.least })
+  failed_at : {b : Broken} (rule : Rule) → b.rule ≡ rule → Least e s w (number rule) → Breaks e s w (number rule) b.row → Judges e s w (Err b)
+  failed_at rule q l x = Judges.failed (record { breaks = rw q x; first = rw q l.least })
 
--- a pass that goes to the end
-pub passes_all : {test : ℕ → Bool} {n r : ℕ} → First test n r → (r < n → ⊥) → (i : ℕ) → i < n → test i ≡ true
-passes_all f h i l = f.before i (omega (arith, f.most))
+-- a row that a pass tells of
+abbrev pub Fault : Rule → (test : ℕ → Bool) (n : ℕ) → Broken → Type 0
+Fault rule test n b = (b.rule ≡ rule) × (b.row < n) × First test n b.row
 
 -- rows that are there, and room for marks elsewhere
 pub judgeable_in : {t ns ls : List ℕ} {n a b : ℕ} → Judgeable t ns ls n a → n + 2 * (length ls / link_width) ≤ b → Judgeable t ns ls n b
@@ -104,8 +107,8 @@ module _ {t ns ls : List ℕ} {n marks : ℕ} (j : Judgeable t ns ls n marks) wh
   kinds_mean : Tests (known_kind ns) (KnownKind w) n
   kinds_mean = rule_one ns ls n
 
-  pub judged_kinds : {s r : ℕ} → First (known_kind ns) n r → r < n → Judged t s w (record { code = 22; rule = 1; row = r })
-  judged_kinds f h = record { says = λ e q. failed_at least_one (Breaks.kinds (first_of_all (breaks kinds_mean f h))) }
+  pub judged_kinds : {s : ℕ} {b : Broken} → Fault Rule.Kinds (known_kind ns) n b → Judged t s w (Err b)
+  judged_kinds (r, h, f) = record { says = λ e q. failed_at Rule.Kinds r least_one (Breaks.kinds (first_of_all (breaks kinds_mean f h))) }
 
   pub all_standing : ((i : ℕ) → i < n → known_kind ns i ≡ true) → AllStanding t ns n
   all_standing k = record { each = λ i h. let (a, b) = kind_means ns i (k i h) in record { edition = j.edition; same = j.same; room = omega (arith, j.node_rows); least = a; most = b } }
@@ -118,8 +121,8 @@ module _ {t ns ls : List ℕ} {n marks : ℕ} (j : Judgeable t ns ls n marks) wh
     ranges_mean e q = rule_two e s ls q (all_standing k)
 
     -- rule 2
-    pub judged_ranges : {r : ℕ} → First (row_keeps 2 s t ns ls) n r → r < n → Judged t s w (record { code = 22; rule = 2; row = r })
-    judged_ranges f h = record { says = λ e q. failed_at (past_one e) (Breaks.ranges (first_of_all (breaks (ranges_mean e q) f h))) }
+    pub judged_ranges : {b : Broken} → Fault Rule.Ranges (row_keeps 2 s t ns ls) n b → Judged t s w (Err b)
+    judged_ranges (r, h, f) = record { says = λ e q. failed_at Rule.Ranges r (past_one e) (Breaks.ranges (first_of_all (breaks (ranges_mean e q) f h))) }
 
     module _ (m : (i : ℕ) → i < n → row_keeps 2 s t ns ls i ≡ true) where
       in_range : (e : Edition) → t ≡ table e → (i : ℕ) → i < n → Ranged e s w i
@@ -132,8 +135,8 @@ module _ {t ns ls : List ℕ} {n marks : ℕ} (j : Judgeable t ns ls n marks) wh
       earlier_mean e q = rule_three e s ls q (all_standing k) (in_range e q)
 
       -- rule 3
-      pub judged_earlier : {r : ℕ} → First (row_keeps 3 s t ns ls) n r → r < n → Judged t s w (record { code = 22; rule = 3; row = r })
-      judged_earlier f h = record { says = λ e q. failed_at (past_two e q) (Breaks.earlier (first_of_all (breaks (earlier_mean e q) f h))) }
+      pub judged_earlier : {b : Broken} → Fault Rule.Earlier (row_keeps 3 s t ns ls) n b → Judged t s w (Err b)
+      judged_earlier (r, h, f) = record { says = λ e q. failed_at Rule.Earlier r (past_two e q) (Breaks.earlier (first_of_all (breaks (earlier_mean e q) f h))) }
 
   -- where these hold
   module _ {s : ℕ} (k : EarlierKept t ns ls n s) where
@@ -160,8 +163,8 @@ module _ {t ns ls : List ℕ} {n marks : ℕ} (j : Judgeable t ns ls n marks) wh
       but_last f i h = f i (rw tall at h)
 
       -- rule 4
-      pub judged_once : {r : ℕ} → First (is_once ms) (n - 1) r → r < n - 1 → Judged t s w (record { code = 22; rule = 4; row = r })
-      judged_once f h = record { says = λ e q. failed_at (past_three e q) (Breaks.once (last_row (breaks once_mean f h))) }
+      pub judged_once : {b : Broken} → Fault Rule.Once (is_once ms) (n - 1) b → Judged t s w (Err b)
+      judged_once (r, h, f) = record { says = λ e q. failed_at Rule.Once r (past_three e q) (Breaks.once (last_row (breaks once_mean f h))) }
 
       module _ (o : (i : ℕ) → i < n - 1 → is_once ms i ≡ true) where
         once : (i : ℕ) → i < n - 1 → Once w i
@@ -174,8 +177,8 @@ module _ {t ns ls : List ℕ} {n marks : ℕ} (j : Judgeable t ns ls n marks) wh
         rooted_at : is_rooted ns n ≡ is_rooted ns (height w)
         rooted_at = ap (is_rooted ns) (sym tall)
 
-        pub judged_rooted : is_rooted ns n ≡ false → Judged t s w (record { code = 22; rule = 5; row = n - 1 })
-        judged_rooted f = record { says = λ e q. failed_at (past_four e q) (at e (Breaks.rooted (λ r. never (means_rooted ns ls r) (sym rooted_at ∙ f)))) }
+        pub judged_rooted : is_rooted ns n ≡ false → Judged t s w (Err (record { rule = Rule.Rooted; row = n - 1 }))
+        judged_rooted f = record { says = λ e q. failed_at Rule.Rooted refl (past_four e q) (at e (Breaks.rooted (λ r. never (means_rooted ns ls r) (sym rooted_at ∙ f)))) }
           where
             at : (e : Edition) → Breaks e s w 5 (height w - 1) → Breaks e s w 5 (n - 1)
             at e b = rw tall at b
@@ -191,20 +194,20 @@ module _ {t ns ls : List ℕ} {n marks : ℕ} (j : Judgeable t ns ls n marks) wh
           covered_mean e q = covered_means e ls q standing n (omega arith) ∙ ap (covered e w) (sym tall)
 
           -- rule 6
-          pub judged_follows : {r : Followed} → FollowsAll t ns n r → r.row < n → Judged t s w (record { code = 22; rule = 6; row = r.row })
-          judged_follows f h = record { says = λ e q. failed_at (past_five e q) (Breaks.follows (first_of_all (breaks (follows_mean e q) (f.first ls) h))) }
+          pub judged_follows : {b : Broken} → OneStrays t ns n b → Judged t s w (Err b)
+          judged_follows f = record { says = λ e q. failed_at Rule.Follows f.rule (past_five e q) (Breaks.follows (first_of_all (breaks (follows_mean e q) (f.first ls) f.place))) }
 
-          pub judged_left_over : {r : Followed} → FollowsAll t ns n r → (r.row < n → ⊥) → (r.links ≡ length ls / link_width → ⊥) → Judged t s w (record { code = 22; rule = 6; row = n - 1 })
-          judged_left_over {r} f h m = record { says = λ e q. failed_at (past_five e q) (at e (Breaks.left_over (of_all (λ i l. (follows_mean e q).means i l (passes_all (f.first ls) h i l))) (λ c. m (f.covered (omega (arith, (f.first ls).most)) ls ∙ covered_mean e q ∙ c)))) }
+          pub judged_left_over : {links : ℕ} → AllFollow t ns n links → (links ≡ length ls / link_width → ⊥) → Judged t s w (Err (record { rule = Rule.Follows; row = n - 1 }))
+          judged_left_over f m = record { says = λ e q. failed_at Rule.Follows refl (past_five e q) (at e (Breaks.left_over (of_all (λ i l. (follows_mean e q).means i l ((f.first ls).before i l))) (λ c. m (f.covered ls ∙ covered_mean e q ∙ c)))) }
             where
               at : (e : Edition) → Breaks e s w 6 (height w - 1) → Breaks e s w 6 (n - 1)
               at e b = rw tall at b
 
-          pub tree_kept : {r : Followed} {orphan : ℕ} → FollowsAll t ns n r → (r.row < n → ⊥) → r.links ≡ length ls / link_width → First (is_parent ns ms) n orphan → TreeKept t ns ls n s orphan
-          tree_kept f h m p = record { kept = k; marks = ms; named = a; once = o; rooted = g; follows = passes_all (f.first ls) h; covered = sym (f.covered (omega (arith, (f.first ls).most)) ls) ∙ m; orphans = p }
+          pub tree_kept : {links : ℕ} {orphans : Result (Unit {0}) Broken} → AllFollow t ns n links → links ≡ length ls / link_width → Passes Rule.Parents (is_parent ns ms) n orphans → TreeKept t ns ls n s orphans
+          tree_kept f m p = record { kept = k; marks = ms; named = a; once = o; rooted = g; follows = (f.first ls).before; covered = sym (f.covered ls) ∙ m; told = p }
 
   -- where rules 1 to 6 hold
-  module _ {s orphan : ℕ} (k : TreeKept t ns ls n s orphan) where
+  module _ {s : ℕ} {orphans : Result (Unit {0}) Broken} (k : TreeKept t ns ls n s orphans) where
     abbrev before : EarlierKept t ns ls n s
     before = k.kept
 
@@ -227,8 +230,8 @@ module _ {t ns ls : List ℕ} {n marks : ℕ} (j : Judgeable t ns ls n marks) wh
     present_mean e q = rule_seven e s ls q (standing before) (ranged e q)
 
     -- rule 7
-    pub judged_present : {r : ℕ} → First (row_keeps 7 s t ns ls) n r → r < n → Judged t s w (record { code = 22; rule = 7; row = r })
-    judged_present f h = record { says = λ e q. failed_at (past_six e q) (Breaks.present (first_of_all (breaks (present_mean e q) f h))) }
+    pub judged_present : {b : Broken} → Fault Rule.Present (row_keeps 7 s t ns ls) n b → Judged t s w (Err b)
+    judged_present (r, h, f) = record { says = λ e q. failed_at Rule.Present r (past_six e q) (Breaks.present (first_of_all (breaks (present_mean e q) f h))) }
 
     module _ (x : (i : ℕ) → i < n → row_keeps 7 s t ns ls i ≡ true) where
       present : (e : Edition) → t ≡ table e → (i : ℕ) → i < height w → Present e w i
@@ -238,8 +241,8 @@ module _ {t ns ls : List ℕ} {n marks : ℕ} (j : Judgeable t ns ls n marks) wh
       clean_mean e q = rule_eight e s ls q (standing before) (ranged e q)
 
       -- rule 8
-      pub judged_clean : {r : ℕ} → First (row_keeps 8 s t ns ls) n r → r < n → Judged t s w (record { code = 22; rule = 8; row = r })
-      judged_clean f h = record { says = λ e q. failed_at (past (past_six e q) (past_present (present e q))) (Breaks.clean (first_of_all (breaks (clean_mean e q) f h))) }
+      pub judged_clean : {b : Broken} → Fault Rule.Clean (row_keeps 8 s t ns ls) n b → Judged t s w (Err b)
+      judged_clean (r, h, f) = record { says = λ e q. failed_at Rule.Clean r (past (past_six e q) (past_present (present e q))) (Breaks.clean (first_of_all (breaks (clean_mean e q) f h))) }
 
       module _ (y : (i : ℕ) → i < n → row_keeps 8 s t ns ls i ≡ true) where
         clean : (e : Edition) → t ≡ table e → (i : ℕ) → i < height w → Clean e w i
@@ -248,23 +251,23 @@ module _ {t ns ls : List ℕ} {n marks : ℕ} (j : Judgeable t ns ls n marks) wh
         parents_mean : Tests (is_parent ns k.marks) (ParentRight w) n
         parents_mean = parent_means j.short tall (earlier before) k.named only_once
 
-        -- rule 9
-        pub judged_parents : orphan < n → Judged t s w (record { code = 22; rule = 9; row = orphan })
-        judged_parents h = record { says = λ e q. failed_at (past (past (past_six e q) (past_present (present e q))) (past_clean (clean e q))) (Breaks.parents (first_of_all (breaks parents_mean k.orphans h))) }
-
-        -- all rules
-        pub judged_passed : (orphan < n → ⊥) → Judged t s w (record { code = 0; rule = 0; row = 0 })
-        judged_passed h = record {
-          says = λ e q. Judges.passed (record {
-            kinds = of_all (λ i l. kinds_mean.means i l (before.kinds i l));
-            ranges = of_all (ranged e q);
-            earlier = of_all (earlier before);
-            once = but_last before k.named only_once;
-            rooted = rooted_means ns ls (ap (is_rooted ns) tall ∙ k.rooted);
-            follows = follow e q;
-            covering = cover e q;
-            present = present e q;
-            clean = clean e q;
-            parents = of_all (λ i l. parents_mean.means i l (passes_all k.orphans h i l));
-          });
-        }
+        -- rule 9, and all rules
+        pub judged_told : Judged t s w orphans
+        judged_told = pick orphans k.told
+          where
+            pick : (r : Result (Unit {0}) Broken) → Passes Rule.Parents (is_parent ns k.marks) n r → Judged t s w r
+            pick (Err b) (r, h, f) = record { says = λ e q. failed_at Rule.Parents r (past (past (past_six e q) (past_present (present e q))) (past_clean (clean e q))) (Breaks.parents (first_of_all (breaks parents_mean f h))) }
+            pick (Ok u) f = record {
+              says = λ e q. Judges.passed (record {
+                kinds = of_all (λ i l. kinds_mean.means i l (before.kinds i l));
+                ranges = of_all (ranged e q);
+                earlier = of_all (earlier before);
+                once = but_last before k.named only_once;
+                rooted = rooted_means ns ls (ap (is_rooted ns) tall ∙ k.rooted);
+                follows = follow e q;
+                covering = cover e q;
+                present = present e q;
+                clean = clean e q;
+                parents = of_all (λ i l. parents_mean.means i l (f.before i l));
+              });
+            }

@@ -6,6 +6,7 @@ use mathlib.Core.Bool.{Bool, true, false, ◌&&◌, ◌||◌}
 use mathlib.Core.List.{List}
 use mathlib.Core.Path.{◌≡◌, refl}
 use lib.ListN.{get_or}
+use Rattle.std.specs.Prelude.{Some, None}
 use Rattle.checker.specs.Marks.{Settled, Within}
 use Rattle.checker.specs.Test.{First}
 
@@ -38,6 +39,13 @@ or_false false e = e
 
 pub never : {b : Bool} → b ≡ true → b ≡ false → ⊥
 never e f = let z : ◌≡◌ {A = ℕ} 0 1 = cc in omega arith
+
+-- of options
+pub some_none : {A : Type 0} {x : A} → Some x ≡ None → ⊥
+some_none e = cc
+
+pub some_same : {A : Type 0} {x y : A} → Some x ≡ Some y → x ≡ y
+some_same e = cc
 
 -- all rows so far pass a test
 pub record Held (test : ℕ → Bool) (i : ℕ) : Type 0 where

@@ -18,6 +18,7 @@ use Rattle.checker.specs.Marks.{Skips}
 use Rattle.checker.specs.Named.{once_more, noted, Names, known, first_of, second_of, link_known, names_from, base_of, Ready, Noted, names_in}
 use Rattle.checker.specs.Slots.{linked_items, held}
 use Rattle.checker.specs.declared.slots.Slot.{Slot}
+use Rattle.checker.specs.declared.slots.Sort.{Sort}
 use Rattle.checker.proofs.Items.{names_append}
 use Rattle.checker.proofs.Laws.{both_true}
 use Rattle.checker.proofs.Noting.{once_known, known_marked, noted_none, noted_one, noted_both, noted_alike, noted_over, noted_link}
@@ -136,7 +137,7 @@ module _ (ls : List ℕ) where
       let y : link_width * from + link_width ≡ link_width * suc from = omega arith in
       (get_or-drop (link_width * from) ls 0 0 ∙ ap (λ i. get_or ls i 0) z, get_or-drop (link_width * from) ls 1 0, drop-drop link_width (link_width * from) ls ∙ ap (λ i. drop i ls) y)
 
-  linked_names : (two : Bool) (j : ℕ) → j < absent → (n from : ℕ) → times j (names_from two ls from n) ≡ times j (names_in (linked_items (cond two 7 5) n (drop (link_width * from) ls)))
+  linked_names : (two : Bool) (j : ℕ) → j < absent → (n from : ℕ) → times j (names_from two ls from n) ≡ times j (names_in (linked_items (cond two Sort.Entries Sort.Nodes) n (drop (link_width * from) ls)))
   unfolding names_from linked_items
   linked_names two j h zero from = refl
   linked_names true j h (suc n) from =
@@ -147,34 +148,18 @@ module _ (ls : List ℕ) where
       let z : 0 + times j (names_from false ls (suc from) n) ≡ times j (names_from false ls (suc from) n) = omega arith in
       rw (a, c, ne_eqb j absent (λ e. omega arith), z, linked_names false j h n (suc from)) refl
 
-  linked_none : (n : ℕ) (l : List ℕ) → names_in (linked_items 6 n l) ≡ []
+  linked_none : (n : ℕ) (l : List ℕ) → names_in (linked_items Sort.Names n l) ≡ []
   unfolding linked_items
   linked_none zero l = refl
   linked_none (suc n) l = linked_none n (drop link_width l)
 
 -- so what a list names, its slot does
-module _ {n row : ℕ} {ls before after : List ℕ} (s : Slot) (l : row ≤ n) where
-  pub slot_list : (two : Bool) → s.code ≡ cond two 7 5 → Noted n row ls (names_from two ls s.x s.y) before after → Noted n row ls (names_in (held ls s)) before after
-  unfolding held
-  slot_list true e m = rw e (noted_alike l (λ j h. linked_names ls true j h s.y s.x) m)
-  slot_list false e m = rw e (noted_alike l (λ j h. linked_names ls false j h s.y s.x) m)
+module _ {n row : ℕ} {ls before after : List ℕ} (f c : ℕ) (l : row ≤ n) where
+  pub list_noted : (two : Bool) → Noted n row ls (names_from two ls f c) before after → Noted n row ls (names_in (held ls (Slot.List (cond two Sort.Entries Sort.Nodes) f c))) before after
+  list_noted two m = noted_alike l (λ j h. linked_names ls two j h c f) m
 
-  pub slot_row : 1 ≤ s.code → s.code ≤ 2 → Noted n row ls (s.x ∷ []) before after → Noted n row ls (names_in (held ls s)) before after
-  unfolding held
-  slot_row a b m = elim (dec_lt s.code 2) [ yes h ↦ let e : s.code ≡ 1 = omega arith in rw e m | no h ↦ let e : s.code ≡ 2 = omega arith in rw e m ]
-
-  pub slot_none : (1 ≤ s.code → s.code ≤ 2 → ⊥) → (s.code ≡ 5 → ⊥) → (s.code ≡ 7 → ⊥) → Noted n row ls [] before after → Noted n row ls (names_in (held ls s)) before after
-  unfolding held
-  slot_none a c d m = rw (none (eqb s.code 0) (ltb s.code 5) (ltb s.code 8) refl refl) m
-    where
-      list : List Item
-      list = Item.list s.x s.y ∷ linked_items s.code s.y (drop (link_width * s.x) ls)
-
-      none : (z x y : Bool) → ltb s.code 5 ≡ x → ltb s.code 8 ≡ y → names_in (cond z [] (cond (eqb s.code 1) (Item.child s.x ∷ []) (cond (eqb s.code 2) (Item.option s.x ∷ []) (cond x (Item.symbol s.x ∷ []) (cond y list (Item.number (s.code - 8) s.x ∷ [])))))) ≡ []
-      none true x y e f = refl
-      none false true y e f = rw (ne_eqb s.code 1 (λ q. a (omega arith) (omega arith)), ne_eqb s.code 2 (λ q. a (omega arith) (omega arith))) refl
-      none false false true e f = let q : s.code ≡ 6 = omega (arith, ltb-false s.code 5 e, ltb-true s.code 8 f) in rw q (linked_none ls s.y (drop (link_width * s.x) ls))
-      none false false false e f = rw (ne_eqb s.code 1 (λ q. a (omega arith) (omega arith)), ne_eqb s.code 2 (λ q. a (omega arith) (omega arith))) refl
+  pub names_noted : Noted n row ls [] before after → Noted n row ls (names_in (held ls (Slot.List Sort.Names f c))) before after
+  names_noted m = rw (linked_none ls c (drop (link_width * f) ls)) m
 
 -- the three slots of a row
 pub slots_noted : {n row : ℕ} {ls a b c d : List ℕ} (x y z : Slot) → Noted n row ls (names_in (held ls x)) a b → Noted n row ls (names_in (held ls y)) b c → Noted n row ls (names_in (held ls z)) c d → Noted n row ls (names_in (held ls x ++ (held ls y ++ held ls z))) a d

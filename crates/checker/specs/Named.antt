@@ -79,7 +79,12 @@ names_in (Item.unused x ∷ is) = names_in is
 
 -- a slot's list of rows, if it is one, is in range
 abbrev pub InLists : (links : List ℕ) → Slot → Type 0
-InLists ls s = 5 ≤ s.code → s.code < 8 → s.x + s.y ≤ length ls / link_width
+InLists ls Slot.Nothing = Unit {0}
+InLists ls (Slot.Child x) = Unit {0}
+InLists ls (Slot.Option x) = Unit {0}
+InLists ls (Slot.Symbol x) = Unit {0}
+InLists ls (Slot.List o f n) = f + n ≤ length ls / link_width
+InLists ls (Slot.Number l x) = Unit {0}
 
 -- the mark of row j once the first n rows are gone through
 abbrev pub mark_by : (often : ℕ) (by : ℕ) → ℕ

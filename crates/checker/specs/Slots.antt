@@ -6,6 +6,7 @@ use Rattle.grammar.specs.Room.{node_width, own_width, link_width}
 use Rattle.grammar.specs.Rows.{Rows}
 use Rattle.foreign.specs.Check.{Item}
 use Rattle.checker.specs.declared.slots.Slot.{Slot}
+use Rattle.checker.specs.declared.slots.Sort.{Sort}
 use Rattle.checker.specs.declared.slots.Cut.{Cut}
 
 abbrev pub rows : (nodes links : List ℕ) → Rows
@@ -47,9 +48,14 @@ lines (ss ∷ sss) = line ss ++ lines sss
 unfoldable pub table : Edition → List ℕ
 table e = lines (drop 1 (layouts e))
 
+-- the slot of a code, of two numbers: the second is a list's alone
+unfoldable pub slot_of : (code x y : ℕ) → Slot
+slot_of c x y = cond (eqb c 0) Slot.Nothing (cond (eqb c 1) (Slot.Child x) (cond (eqb c 2) (Slot.Option x) (cond (ltb c 5) (Slot.Symbol x)
+    (cond (eqb c 5) (Slot.List Sort.Nodes x y) (cond (eqb c 6) (Slot.List Sort.Names x y) (cond (eqb c 7) (Slot.List Sort.Entries x y) (Slot.Number (c - 8) x)))))))
+
 -- the slot of a code whose first number stands at a place
 abbrev pub slot_at : (nodes : List ℕ) (code at : ℕ) → Slot
-slot_at ns c i = record { code = c; x = get_or ns i 0; y = get_or ns (i + 1) 0 }
+slot_at ns c i = slot_of c (get_or ns i 0) (get_or ns (i + 1) 0)
 
 -- number j of a row's line in the table
 abbrev pub cell : (table nodes : List ℕ) (row j : ℕ) → ℕ
@@ -63,21 +69,24 @@ cut_of t ns row = record {
   rest = node_width * row + cell t ns row 5;
 }
 
--- what link rows of a list of this code hold: one, and so many
-abbrev pub second_item : (code y : ℕ) → Item
-second_item c y = cond (eqb c 5) (Item.unused y) (Item.option y)
+-- what link rows of a list of this sort hold: one, and so many
+abbrev pub link_items : Sort → (x y z : ℕ) → List Item
+link_items Sort.Nodes x y z = Item.child x ∷ Item.unused y ∷ Item.unused z ∷ []
+link_items Sort.Names x y z = Item.symbol x ∷ []
+link_items Sort.Entries x y z = Item.child x ∷ Item.option y ∷ Item.unused z ∷ []
 
-abbrev pub link_items : (code x y z : ℕ) → List Item
-link_items c x y z = cond (eqb c 6) (Item.symbol x ∷ []) (Item.child x ∷ second_item c y ∷ Item.unused z ∷ [])
-
-unfoldable pub linked_items : (code count : ℕ) (links : List ℕ) → List Item
-linked_items c zero ls = []
-linked_items c (suc n) ls = link_items c (get_or ls 0 0) (get_or ls 1 0) (get_or ls 2 0) ++ linked_items c n (drop link_width ls)
+unfoldable pub linked_items : Sort → (count : ℕ) (links : List ℕ) → List Item
+linked_items o zero ls = []
+linked_items o (suc n) ls = link_items o (get_or ls 0 0) (get_or ls 1 0) (get_or ls 2 0) ++ linked_items o n (drop link_width ls)
 
 -- what a slot holds, with its links
-unfoldable pub held : (links : List ℕ) → Slot → List Item
-held ls s = cond (eqb s.code 0) [] (cond (eqb s.code 1) (Item.child s.x ∷ []) (cond (eqb s.code 2) (Item.option s.x ∷ []) (cond (ltb s.code 5) (Item.symbol s.x ∷ [])
-    (cond (ltb s.code 8) (Item.list s.x s.y ∷ linked_items s.code s.y (drop (link_width * s.x) ls)) (Item.number (s.code - 8) s.x ∷ [])))))
+abbrev pub held : (links : List ℕ) → Slot → List Item
+held ls Slot.Nothing = []
+held ls (Slot.Child x) = Item.child x ∷ []
+held ls (Slot.Option x) = Item.option x ∷ []
+held ls (Slot.Symbol x) = Item.symbol x ∷ []
+held ls (Slot.List o f n) = Item.list f n ∷ linked_items o n (drop (link_width * f) ls)
+held ls (Slot.Number l x) = Item.number l x ∷ []
 
 -- so many unused numbers
 unfoldable pub spared : (count : ℕ) (xs : List ℕ) → List Item

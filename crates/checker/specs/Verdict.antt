@@ -1,5 +1,5 @@
 -- What the check answers; and what its passes do of rows that are there, one after another.
-use Rattle.std.specs.Prelude.{ℕ, ◌+◌, ◌-◌, ◌*◌, ◌/◌, ◌≤◌, ◌<◌, true, List, ◌≡◌, length}
+use Rattle.std.specs.Prelude.{ℕ, ◌+◌, ◌-◌, ◌*◌, ◌/◌, ◌≤◌, ◌<◌, true, List, ◌≡◌, length, Result, Ok, Err}
 use Rattle.grammar.specs.Edition.{Edition}
 use Rattle.grammar.specs.Handle.{absent}
 use Rattle.grammar.specs.Room.{Rooms, node_width, link_width}
@@ -8,8 +8,11 @@ use Rattle.foreign.specs.Check.{Checked, Fails, Given, Checks}
 use Rattle.checker.specs.Follow.{covered_by, row_follows}
 use Rattle.checker.specs.Named.{is_once, is_parent, AllNamed}
 use Rattle.checker.specs.Slots.{table, rows}
-use Rattle.checker.specs.Test.{First, known_kind, is_rooted, row_keeps}
+use Rattle.checker.specs.Pass.{number, Passes}
+use Rattle.checker.specs.Test.{known_kind, is_rooted, row_keeps}
 use Rattle.checker.specs.declared.Verdict.{Verdict}
+use Rattle.checker.specs.declared.rule.Broken.{Broken}
+use Rattle.checker.specs.declared.rule.Rule.{Rule}
 
 abbrev pub rooms : (nodes links symbols scratch : List ℕ) → Rooms
 rooms ns ls ss sc = record { nodes = ns; links = ls; symbols = ss; scratch = sc }
@@ -37,8 +40,8 @@ pub record EarlierKept (lent nodes links : List ℕ) (count symbols : ℕ) : Typ
   pub ranges : (i : ℕ) → i < count → row_keeps 2 symbols lent nodes links i ≡ true
   pub earlier : (i : ℕ) → i < count → row_keeps 3 symbols lent nodes links i ≡ true
 
--- and 4 to 6; and row `orphan` is the first whose parent is not right
-pub record TreeKept (lent nodes links : List ℕ) (count symbols orphan : ℕ) : Type 0 where
+-- and 4 to 6; and the pass of rule 9 answers so
+pub record TreeKept (lent nodes links : List ℕ) (count symbols : ℕ) (orphans : Result (Unit {0}) Broken) : Type 0 where
   pub kept : EarlierKept lent nodes links count symbols
   pub marks : List ℕ
   pub named : AllNamed (rows nodes links) count marks
@@ -46,12 +49,12 @@ pub record TreeKept (lent nodes links : List ℕ) (count symbols orphan : ℕ) :
   pub rooted : is_rooted nodes count ≡ true
   pub follows : (i : ℕ) → i < count → row_follows lent nodes links i ≡ true
   pub covered : covered_by lent nodes links count ≡ length links / link_width
-  pub orphans : First (is_parent nodes marks) count orphan
+  pub told : Passes Rule.Parents (is_parent nodes marks) count orphans
 
--- 22 and the first failed rule, or 0
-pub data Judges (e : Edition) (s : ℕ) (w : Rows) : Verdict → Type 0 where
-  failed : {rule row : ℕ} → Fails e s w rule row → Judges e s w (record { code = 22; rule = rule; row = row })
-  passed : Checked e s w → Judges e s w (record { code = 0; rule = 0; row = 0 })
+-- the first failed rule, with the first row that breaks it, or that all rules hold
+pub data Judges (e : Edition) (s : ℕ) (w : Rows) : Result (Unit {0}) Broken → Type 0 where
+  failed : {b : Broken} → Fails e s w (number b.rule) b.row → Judges e s w (Err b)
+  passed : Checked e s w → Judges e s w (Ok tt)
 
-pub record Judged (lent : List ℕ) (symbols : ℕ) (w : Rows) (r : Verdict) : Type 0 where
+pub record Judged (lent : List ℕ) (symbols : ℕ) (w : Rows) (r : Result (Unit {0}) Broken) : Type 0 where
   pub says : (e : Edition) → lent ≡ table e → Judges e symbols w r

@@ -1,31 +1,25 @@
 // Rules 1 and 5, which look at kinds.
 ghost use Rattle.std.specs.Prelude.{◌*◌, ◌≤◌, ◌≡◌, length};
 ghost use Rattle.grammar.specs.Room.{node_width};
-ghost use Rattle.checker.specs.Test.{First, known_kind, is_rooted};
+ghost use Rattle.checker.specs.Pass.{Passes};
+ghost use Rattle.checker.specs.Test.{known_kind, is_rooted};
 
+use crate::rule::{Broken, Rule, each};
 use ast::{ABSENT, NODE_WIDTH, kinds};
 
 // Where a Block's tail stands in its row.
 const TAIL: usize = 5;
 
-// Rule 1: the first row whose kind is none of 1 to 26, or the number of rows.
+// Rule 1: whether each row's kind is one of 1 to 26.
 // Ruled out: kind 0; kind 27.
-pub(crate) fn known(nodes: &[u32], count: u32) -> u32
+pub(crate) fn known(nodes: &[u32], count: u32) -> Result<(), Broken>
     requires { node_width * count ≤ length nodes.now }
-    ensures { First (known_kind nodes.now) count result }
+    ensures { Passes Rule.Kinds (known_kind nodes.now) count result }
 {
-    let mut i = 0;
-    while i < count {
-        let kind = nodes[NODE_WIDTH * (i as usize)];
-        if kind < kinds::BINARY {
-            return i;
-        }
-        if kind > kinds::IMPORT {
-            return i;
-        }
-        i += 1;
-    }
-    count
+    each(Rule::Kinds, count, |row| {
+        let kind = nodes[NODE_WIDTH * (row as usize)];
+        matches!(kind, kinds::BINARY..=kinds::IMPORT)
+    })
 }
 
 // Rule 5: whether the last row is a Block with no tail.
@@ -38,8 +32,5 @@ pub(crate) fn rooted(nodes: &[u32], count: u32) -> bool
         return false;
     }
     let at = NODE_WIDTH * ((count - 1) as usize);
-    if nodes[at] != kinds::BLOCK {
-        return false;
-    }
-    nodes[at + TAIL] == ABSENT
+    nodes[at] == kinds::BLOCK && nodes[at + TAIL] == ABSENT
 }

@@ -6,16 +6,18 @@ mod keep;
 mod kinds;
 mod marks;
 mod name;
+mod rule;
 mod slots;
 
-ghost use Rattle.std.specs.Prelude.{◌-◌, ◌≡◌, length};
+ghost use Rattle.std.specs.Prelude.{◌≡◌, length};
 ghost use Rattle.checker.specs.Slots.{rows};
-ghost use Rattle.checker.specs.Verdict.{rooms, given, Judgeable, EarlierKept, TreeKept, Judged, Tells};
+ghost use Rattle.checker.specs.Verdict.{rooms, given, Judgeable, EarlierKept, Judged, Tells};
 
 use crate::follow::follow;
-use crate::keep::{CLEAN, EARLIER, PRESENT, RANGES, first};
+use crate::keep::pass;
 use crate::kinds::{known, rooted};
 use crate::name::{name, once, parents};
+use crate::rule::{Broken, Rule};
 use crate::slots::slots;
 use ast::room::clear;
 use ast::{LINK_WIDTH, NODE_WIDTH};
@@ -24,22 +26,12 @@ use token::editions;
 // The numbers of a symbol row.
 const SYMBOL_WIDTH: usize = 2;
 
+// The codes of the answer, and below the answer itself, are the C interface's: `Tells` of `check` holds them.
 const UNKNOWN: u32 = 15;
 
 const NO_EDITION: u32 = 21;
 
 const BROKEN: u32 = 22;
-
-// The rules that have no pass in common with others.
-const KINDS: u32 = 1;
-
-const ONCE: u32 = 4;
-
-const ROOTED: u32 = 5;
-
-const FOLLOWS: u32 = 6;
-
-const PARENTS: u32 = 9;
 
 // The answer: code 0; or 15 or 21, with the other numbers 0; or 22 with the first failed rule and the first row that breaks it.
 #[derive(Clone, Copy)]
@@ -49,64 +41,17 @@ pub struct Verdict {
     pub row: u32,
 }
 
-fn broken(rule: u32, row: u32) -> Verdict
-    ensures { result ≡ record { code = 22; rule = rule; row = row } }
-{
-    Verdict {
-        code: BROKEN,
-        rule: rule,
-        row: row,
-    }
-}
-
 fn plain(code: u32) -> Verdict
     ensures { result ≡ record { code = code; rule = 0; row = 0 } }
 {
     Verdict {
-        code: code,
+        code,
         rule: 0,
         row: 0,
     }
 }
 
-// The row before the end: the last one, or 0 where there is none.
-fn last(count: u32) -> u32
-    ensures { result ≡ count - 1 }
-{
-    if count == 0 {
-        return 0;
-    }
-    count - 1
-}
-
-// Rules 7, 8 and 9, where the others hold.
-fn judge_items(
-    table: &[u8],
-    nodes: &[u32],
-    links: &[u32],
-    count: u32,
-    symbols: u32,
-    orphan: u32,
-    scratch: &mut [u32],
-) -> Verdict
-    requires { Judgeable table.now nodes.now links.now count (length scratch.old) × TreeKept table.now nodes.now links.now count symbols orphan }
-    ensures { Judged table.now symbols (rows nodes.now links.now) result }
-{
-    let absent = first(PRESENT, symbols, table, nodes, links, scratch, count);
-    if absent < count {
-        return broken(PRESENT, absent);
-    }
-    let used = first(CLEAN, symbols, table, nodes, links, scratch, count);
-    if used < count {
-        return broken(CLEAN, used);
-    }
-    if orphan < count {
-        return broken(PARENTS, orphan);
-    }
-    plain(0)
-}
-
-// Rules 4 to 9, where those before them hold. The parents are looked at while the marks are there.
+// Rules 4 to 9, where those before them hold. The parents are looked at while the marks are there, and told of last.
 // Ruled out: the first row where links are left over.
 fn judge_tree(
     table: &[u8],
@@ -115,28 +60,29 @@ fn judge_tree(
     count: u32,
     symbols: u32,
     scratch: &mut [u32],
-) -> Verdict
+) -> Result<(), Broken>
     requires { Judgeable table.now nodes.now links.now count (length scratch.old) × EarlierKept table.now nodes.now links.now count symbols }
     ensures { Judged table.now symbols (rows nodes.now links.now) result }
 {
     name(table, nodes, links, scratch, count);
-    let end = last(count);
-    let unnamed = once(scratch, count);
-    if unnamed < end {
-        return broken(ONCE, unnamed);
-    }
+    once(scratch, count)?;
+    let end = count.saturating_sub(1);
     if !rooted(nodes, count) {
-        return broken(ROOTED, end);
+        return Err(Broken {
+            rule: Rule::Rooted,
+            row: end,
+        });
     }
-    let followed = follow(table, nodes, count);
-    if followed.row < count {
-        return broken(FOLLOWS, followed.row);
+    if follow(table, nodes, count)? != links.len() / LINK_WIDTH {
+        return Err(Broken {
+            rule: Rule::Follows,
+            row: end,
+        });
     }
-    if followed.links != links.len() / LINK_WIDTH {
-        return broken(FOLLOWS, end);
-    }
-    let orphan = parents(nodes, scratch, count);
-    judge_items(table, nodes, links, count, symbols, orphan, scratch)
+    let orphans = parents(nodes, scratch, count);
+    pass(Rule::Present, symbols, table, nodes, links, scratch, count)?;
+    pass(Rule::Clean, symbols, table, nodes, links, scratch, count)?;
+    orphans
 }
 
 // All nine rules, of rows that are there.
@@ -148,22 +94,13 @@ fn judge(
     count: u32,
     symbols: u32,
     scratch: &mut [u32],
-) -> Verdict
+) -> Result<(), Broken>
     requires { Judgeable table.now nodes.now links.now count (length scratch.old) }
     ensures { Judged table.now symbols (rows nodes.now links.now) result }
 {
-    let strange = known(nodes, count);
-    if strange < count {
-        return broken(KINDS, strange);
-    }
-    let wide = first(RANGES, symbols, table, nodes, links, scratch, count);
-    if wide < count {
-        return broken(RANGES, wide);
-    }
-    let late = first(EARLIER, symbols, table, nodes, links, scratch, count);
-    if late < count {
-        return broken(EARLIER, late);
-    }
+    known(nodes, count)?;
+    pass(Rule::Ranges, symbols, table, nodes, links, scratch, count)?;
+    pass(Rule::Earlier, symbols, table, nodes, links, scratch, count)?;
     judge_tree(table, nodes, links, count, symbols, scratch)
 }
 
@@ -184,25 +121,25 @@ pub fn check(
 {
     let high = NODE_WIDTH * (n as usize);
     let long = LINK_WIDTH * (m as usize);
-    if nodes.len() < high {
+    if nodes.len() < high
+        || links.len() < long
+        || symbols.len() < SYMBOL_WIDTH * (s as usize)
+        || scratch.len() < (n as usize) + 2 * (m as usize)
+    {
         return plain(UNKNOWN);
     }
-    if links.len() < long {
-        return plain(UNKNOWN);
-    }
-    if symbols.len() < SYMBOL_WIDTH * (s as usize) {
-        return plain(UNKNOWN);
-    }
-    if scratch.len() < (n as usize) + 2 * (m as usize) {
-        return plain(UNKNOWN);
-    }
-    if edition != editions::FIRST {
-        if edition != editions::SECOND {
-            return plain(NO_EDITION);
-        }
+    if edition != editions::FIRST && edition != editions::SECOND {
+        return plain(NO_EDITION);
     }
     let table = slots(edition);
-    let v = judge(&table, &nodes[..high], &links[..long], n, s, scratch);
+    let judged = judge(&table, &nodes[..high], &links[..long], n, s, scratch);
     clear(scratch, 0);
-    v
+    match judged {
+        Ok(()) => plain(0),
+        Err(broken) => Verdict {
+            code: BROKEN,
+            rule: broken.rule.number(),
+            row: broken.row,
+        },
+    }
 }

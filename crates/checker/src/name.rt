@@ -2,11 +2,12 @@
 ghost use Rattle.std.specs.Prelude.{◌+◌, ◌-◌, ◌*◌, ◌/◌, ◌≤◌, ◌<◌, cond, ◌&&◌, ◌++◌, ◌≡◌, length, set};
 ghost use Rattle.grammar.specs.Room.{node_width, link_width};
 ghost use Rattle.checker.specs.Named.{noted, known as is_Known, second_of, names_from, names_in, Ready, Listed, Noted, InLists, Nameable, AllNamed, is_once, is_parent};
+ghost use Rattle.checker.specs.Pass.{Passes};
 ghost use Rattle.checker.specs.Slots.{rows as rows_of, held};
-ghost use Rattle.checker.specs.Test.{First};
 
 use crate::marks::{settle, skip};
-use crate::slots::{CHILD, Cut, ENTRIES, NODES, OPTION, Slot, cut_row};
+use crate::rule::{Broken, Rule, each};
+use crate::slots::{Cut, Slot, Sort, cut_row};
 use ast::room::zero;
 use ast::{ABSENT, LINK_WIDTH, NODE_WIDTH, PARENT};
 
@@ -20,11 +21,7 @@ fn mark(marks: &mut [u32], row: u32, x: u32)
         return;
     }
     let i = x as usize;
-    if marks[i] == 0 {
-        marks[i] = row;
-        return;
-    }
-    marks[i] = ABSENT;
+    marks[i] = if marks[i] == 0 { row } else { ABSENT };
 }
 
 // Whether there is nothing to be learnt of a row that is named: it is absent, or has been named more than once.
@@ -32,14 +29,7 @@ fn known(marks: &[u32], rows: usize, x: u32) -> bool
     requires { rows ≤ length marks.now }
     ensures { result ≡ is_Known rows marks.now x }
 {
-    if x == ABSENT {
-        return true;
-    }
-    let i = x as usize;
-    if i >= rows {
-        return false;
-    }
-    marks[i] == ABSENT
+    x == ABSENT || (x as usize) < rows && marks[x as usize] == ABSENT
 }
 
 // The second row that a link names: a value, or none.
@@ -48,19 +38,17 @@ fn other(links: &[u32], at: usize, two: bool) -> u32
     ensures { result ≡ second_of two links.now at }
 {
     if two {
-        return links[LINK_WIDTH * at + 1];
+        links[LINK_WIDTH * at + 1]
+    } else {
+        ABSENT
     }
-    ABSENT
 }
 
 // Where the marks of a list's links stand, from the first link's mark on.
 fn place(links: &[u32], two: bool) -> usize
     ensures { result ≡ cond two (length links.now / link_width) 0 }
 {
-    if two {
-        return links.len() / LINK_WIDTH;
-    }
-    0
+    if two { links.len() / LINK_WIDTH } else { 0 }
 }
 
 // A link that names these is settled, if nothing is to be learnt of them.
@@ -68,13 +56,9 @@ fn note(marks: &mut [u32], rows: usize, base: usize, at: u32, x: u32, y: u32)
     requires { (rows ≤ length marks.old) × (at < 4294967295) × (base + at < length marks.old) }
     ensures { marks.new ≡ cond (is_Known rows marks.old x && is_Known rows marks.old y) (set marks.old (base + at) (at + 1)) marks.old }
 {
-    if !known(marks, rows, x) {
-        return;
+    if known(marks, rows, x) && known(marks, rows, y) {
+        settle(marks, base, at);
     }
-    if !known(marks, rows, y) {
-        return;
-    }
-    settle(marks, base, at);
 }
 
 // A row names what the links of a list do, one row each or two. Those that are settled are passed over.
@@ -109,12 +93,18 @@ fn name_slot(marks: &mut [u32], rows: usize, links: &[u32], row: u32, s: Slot)
     requires { (row ≤ rows) × InLists links.now s × Ready rows links.now marks.old }
     ensures { Noted rows row links.now (names_in (held links.now s)) marks.old marks.new }
 {
-    let code = s.code;
-    match code {
-        CHILD | OPTION => mark(marks, row, s.x),
-        NODES => name_links(marks, rows, links, row, s.x as usize, s.y as usize, false),
-        ENTRIES => name_links(marks, rows, links, row, s.x as usize, s.y as usize, true),
-        _ => {}
+    match s {
+        Slot::Child(x) | Slot::Option(x) => mark(marks, row, x),
+        Slot::List(of, from, count) => {
+            let from = from as usize;
+            let count = count as usize;
+            match of {
+                Sort::Nodes => name_links(marks, rows, links, row, from, count, false),
+                Sort::Names => {}
+                Sort::Entries => name_links(marks, rows, links, row, from, count, true),
+            }
+        }
+        Slot::Nothing | Slot::Symbol(_) | Slot::Number(_, _) => {}
     }
 }
 
@@ -123,12 +113,9 @@ fn name_row(marks: &mut [u32], rows: usize, links: &[u32], row: u32, c: Cut)
     requires { (row ≤ rows) × InLists links.now c.first × InLists links.now c.second × InLists links.now c.third × Ready rows links.now marks.old }
     ensures { Noted rows row links.now (names_in (held links.now c.first ++ (held links.now c.second ++ held links.now c.third))) marks.old marks.new }
 {
-    let first = c.first;
-    name_slot(marks, rows, links, row, first);
-    let second = c.second;
-    name_slot(marks, rows, links, row, second);
-    let third = c.third;
-    name_slot(marks, rows, links, row, third);
+    name_slot(marks, rows, links, row, c.first);
+    name_slot(marks, rows, links, row, c.second);
+    name_slot(marks, rows, links, row, c.third);
 }
 
 // Marks all rows. It asks that each names earlier rows alone, and for a mark a row and two a link.
@@ -139,31 +126,21 @@ pub(crate) fn name(table: &[u8], nodes: &[u32], links: &[u32], marks: &mut [u32]
 {
     let rows = count as usize;
     zero(marks, 0, rows + 2 * (links.len() / LINK_WIDTH));
-    let mut row = 0;
-    while row < count {
+    for row in 0..count {
         name_row(marks, rows, links, row, cut_row(table, nodes, row));
-        row += 1;
     }
 }
 
-// Rule 4: the first row but the last that is not marked as named once, or the number of the last.
+// Rule 4: whether each row but the last is marked as named once.
 // Ruled out: the last row, which nobody names.
-pub(crate) fn once(marks: &[u32], count: u32) -> u32
+pub(crate) fn once(marks: &[u32], count: u32) -> Result<(), Broken>
     requires { count ≤ length marks.now }
-    ensures { First (is_once marks.now) (count - 1) result }
+    ensures { Passes Rule.Once (is_once marks.now) (count - 1) result }
 {
-    let mut i = 0;
-    while i + 1 < count {
-        let m = marks[i as usize];
-        if m == 0 {
-            return i;
-        }
-        if m == ABSENT {
-            return i;
-        }
-        i += 1;
-    }
-    i
+    each(Rule::Once, count.saturating_sub(1), |row| {
+        let mark = marks[row as usize];
+        !matches!(mark, 0 | ABSENT)
+    })
 }
 
 // Whether the parent that a row has is its mark, or absent where it has none.
@@ -172,25 +149,15 @@ fn adopted(nodes: &[u32], marks: &[u32], row: u32) -> bool
     ensures { result ≡ is_parent nodes.now marks.now row }
 {
     let i = row as usize;
-    let parent = nodes[NODE_WIDTH * i + PARENT];
-    if marks[i] == 0 {
-        return parent == ABSENT;
-    }
-    parent == marks[i]
+    let own = if marks[i] == 0 { ABSENT } else { marks[i] };
+    nodes[NODE_WIDTH * i + PARENT] == own
 }
 
-// Rule 9: the first row whose parent is not right, or the number of rows.
+// Rule 9: whether each row's parent is right.
 // Ruled out: 0 for the last row's.
-pub(crate) fn parents(nodes: &[u32], marks: &[u32], count: u32) -> u32
+pub(crate) fn parents(nodes: &[u32], marks: &[u32], count: u32) -> Result<(), Broken>
     requires { (node_width * count ≤ length nodes.now) × (count ≤ length marks.now) }
-    ensures { First (is_parent nodes.now marks.now) count result }
+    ensures { Passes Rule.Parents (is_parent nodes.now marks.now) count result }
 {
-    let mut i = 0;
-    while i < count {
-        if !adopted(nodes, marks, i) {
-            return i;
-        }
-        i += 1;
-    }
-    count
+    each(Rule::Parents, count, |row| adopted(nodes, marks, row))
 }

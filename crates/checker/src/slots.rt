@@ -6,27 +6,28 @@ ghost use Rattle.checker.specs.Slots.{table, slot_at, cut_of, Standing};
 
 use ast::NODE_WIDTH;
 
-// What a slot holds: nothing, a row, a row or absent, a symbol, a name, a list of rows, of names, of keys with values; and from LIMIT on a number below the code less LIMIT.
-pub(crate) const NONE: u32 = 0;
+// The codes of slots in the table: nothing, a row, a row or absent, a symbol, a name, a list of rows, of names, of keys with values; and from LIMIT on a number below the code
+// less LIMIT.
+const NOTHING: u8 = 0;
 
-pub(crate) const CHILD: u32 = 1;
+const CHILD: u8 = 1;
 
-pub(crate) const OPTION: u32 = 2;
+const OPTION: u8 = 2;
 
-pub(crate) const SYMBOL: u32 = 3;
+const SYMBOL: u8 = 3;
 
-pub(crate) const NAME: u32 = 4;
+const NAME: u8 = 4;
 
-pub(crate) const NODES: u32 = 5;
+const NODES: u8 = 5;
 
-pub(crate) const NAMES: u32 = 6;
+const NAMES: u8 = 6;
 
-pub(crate) const ENTRIES: u32 = 7;
+const ENTRIES: u8 = 7;
 
-pub(crate) const LIMIT: u32 = 8;
+const LIMIT: u32 = 8;
 
 // Six numbers a kind, from Binary on: the code of the first slot, which stands at the row's number 3; the code and the place of the second, and of the third; and the place
-// from which on numbers are unused.
+// from which on numbers are unused. A flat table of bytes, read by number: fixed memory.
 const TABLE: [u8; 156] = [
     19, 1, 4, 1, 5, 6, 1, 1, 4, 0, 5, 5, 1, 1, 4, 0, 5, 5, 1, 0, 4, 0, 4, 4, 10, 1, 4, 0, 5, 5, 1,
     1, 4, 0, 5, 5, 4, 1, 6, 0, 7, 7, 4, 1, 6, 0, 7, 7, 4, 1, 6, 0, 7, 7, 4, 0, 6, 0, 6, 6, 3, 0, 4,
@@ -38,15 +39,32 @@ const TABLE: [u8; 156] = [
 // Where a Return's first slot stands in the table.
 const RETURNED: usize = 132;
 
-// A slot: its code, and its first two numbers.
-#[derive(Drop)]
-pub struct Slot {
-    pub code: u32,
-    pub x: u32,
-    pub y: u32,
+// What the links of a list hold.
+#[derive(Clone, Copy, PartialEq, Eq)]
+pub enum Sort {
+    // Rows.
+    Nodes,
+    Names,
+    // Keys with values.
+    Entries,
 }
 
-#[derive(Drop)]
+// What a slot of a row holds.
+#[derive(Clone, Copy)]
+pub enum Slot {
+    Nothing,
+    // A row.
+    Child(u32),
+    // A row, or absent.
+    Option(u32),
+    Symbol(u32),
+    // Its first link, and how many it has.
+    List(Sort, u32, u32),
+    // What it is below, and it.
+    Number(u32, u32),
+}
+
+#[derive(Clone, Copy)]
 pub struct Cut {
     pub first: Slot,
     pub second: Slot,
@@ -61,33 +79,27 @@ pub(crate) fn slots(edition: u32) -> [u8; 156]
 {
     let mut t = TABLE;
     if edition == 2 {
-        t[RETURNED] = 2;
+        t[RETURNED] = OPTION;
     }
     t
 }
 
-// A byte of the table.
-fn wide(x: u8) -> u32
-    ensures { result ≡ x }
-{
-    x as u32
-}
-
-fn size(x: u8) -> usize
-    ensures { result ≡ x }
-{
-    x as usize
-}
-
 // The slot of a code whose first number stands at a place.
-fn slot_at(nodes: &[u32], code: u32, at: usize) -> Slot
+// Ruled out: a name's span taken for its symbol.
+fn slot_at(nodes: &[u32], code: u8, at: usize) -> Slot
     requires { at + 1 < length nodes.now }
     ensures { result ≡ slot_at nodes.now code at }
 {
-    Slot {
-        code: code,
-        x: nodes[at],
-        y: nodes[at + 1],
+    let x = nodes[at];
+    match code {
+        NOTHING => Slot::Nothing,
+        CHILD => Slot::Child(x),
+        OPTION => Slot::Option(x),
+        SYMBOL | NAME => Slot::Symbol(x),
+        NODES => Slot::List(Sort::Nodes, x, nodes[at + 1]),
+        NAMES => Slot::List(Sort::Names, x, nodes[at + 1]),
+        ENTRIES => Slot::List(Sort::Entries, x, nodes[at + 1]),
+        _ => Slot::Number(u32::from(code) - LIMIT, x),
     }
 }
 
@@ -100,13 +112,10 @@ pub(crate) fn cut_row(table: &[u8], nodes: &[u32], row: u32) -> Cut
     let base = NODE_WIDTH * (row as usize);
     let kind = nodes[base] as usize;
     let k = 6 * (kind - 1);
-    let first = slot_at(nodes, wide(table[k]), base + 3);
-    let second = slot_at(nodes, wide(table[k + 1]), base + size(table[k + 2]));
-    let third = slot_at(nodes, wide(table[k + 3]), base + size(table[k + 4]));
     Cut {
-        first: first,
-        second: second,
-        third: third,
-        rest: base + size(table[k + 5]),
+        first: slot_at(nodes, table[k], base + 3),
+        second: slot_at(nodes, table[k + 1], base + usize::from(table[k + 2])),
+        third: slot_at(nodes, table[k + 3], base + usize::from(table[k + 4])),
+        rest: base + usize::from(table[k + 5]),
     }
 }

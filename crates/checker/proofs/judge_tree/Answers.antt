@@ -1,83 +1,59 @@
 -- `judge_tree` meets its contract: the marks of all rows, the root and the lists, and then what is left.
-use native.Mathlib.Omega.{arith}
-use mathlib.Core.Path.{◌≡◌, refl, sym, ◌∙◌}
-use Prim.Native.Nat.{◌-◌}
-use Rattle.checker.proofs.Judging.{judgeable_in, passes_all, all_standing, nameable, judged_once, judged_rooted, judged_follows, judged_left_over, tree_kept}
+use Rattle.std.proofs.Common.{refl, sym, arith}
+use Rattle.std.proofs.lemmas.Result.{err_from_is_err_and}
+use Rattle.checker.specs.Verdict.{TreeKept}
+use Rattle.checker.proofs.Judging.{all_standing, nameable, judged_once, judged_rooted, judged_follows, judged_left_over, judged_present, judged_clean, judged_told, tree_kept}
 use Rattle.checker.proofs.judge_tree.Goals as goal
-use Rattle.checker.proofs.judge_tree.Lts as lts
-use Rattle.checker.proofs.judge_tree.Tie as tie
-use Rattle.checker.proofs.judge_tree.Reads as reads
+use Rattle.checker.proofs.judge_tree.Goals.{After-parents-orphans}
 
-abbrev AfterFollow : Type 0
-AfterFollow = lts.After-follow tie.the-claims reads.Pre reads.Post
-
-abbrev AfterOnce : Type 0
-AfterOnce = lts.After-once tie.the-claims reads.Pre reads.Post
-
-abbrev AfterRooted : Type 0
-AfterRooted = lts.After-rooted tie.the-claims reads.Pre reads.Post
-
-abbrev Start : Type 0
-Start = lts.Start tie.the-claims reads.Pre reads.Post
-
-abbrev Marked : Type 0
-Marked = AfterOnce
-
-abbrev Rooted : Type 0
-Rooted = AfterRooted
-
-abbrev Listed : Type 0
-Listed = AfterFollow
-
-abbrev to_start : Marked → Start
-to_start c = c.before.before.before.before.before.before.before.before.before.before
-
-abbrev to_marked : Rooted → Marked
-to_marked c = c.before.before
-
-abbrev to_rooted : Listed → Rooted
-to_rooted c = c.before.before
-
--- the end that `last` answers
-end : (c : Marked) → c.last-end.result ≡ (to_start c).args.count - 1
-end c = c.last-end.ensures
+-- rules 4 to 6 hold, once the parents are looked at
+tree : (c : After-parents-orphans) → (let a = c.args in TreeKept a.table.now a.nodes.now a.links.now a.count a.symbols c.parents-orphans.result)
+tree c =
+    let (j, k) = c.requires in
+    let o = c.in_ok-once.ensures in
+    tree_kept j k c.name.ensures o.before (sym c.if-not-rooted.ensures) c.in_ok-follow.ensures c.if-branch-links.false c.parents-orphans.ensures
 
 pub name-requires : goal.name-requires
 name-requires c = let (j, k) = c.requires in nameable j k refl
 
-pub returns-then-unnamed-end : goal.returns-then-unnamed-end
-returns-then-unnamed-end c = let p = c.before.before.before in let (j, k) = (to_start p).requires in rw c.broken.ensures (judged_once j k p.name.ensures p.once-unnamed.ensures (omega (arith, end p)))
+pub returns-in_err-once : goal.returns-in_err-once
+returns-in_err-once c = let p = err_from_is_err_and c.from_residual.result c.from_residual.ensures.1 in let (j, k) = c.requires in rw (p.1, p.2) (judged_once j k c.name.ensures c.in_err-once.ensures)
 
 pub returns-then-not-rooted : goal.returns-then-not-rooted
-returns-then-not-rooted c =
-    let q = c.before.before.before in
-    let p = to_marked q in
-    let (j, k) = (to_start p).requires in
-    rw (c.broken-then-not-rooted.ensures, end p) (judged_rooted j k p.name.ensures (passes_all p.once-unnamed.ensures (λ h. omega (arith, end p))) (sym q.rooted.ensures ∙ c.if-not-rooted.true))
+returns-then-not-rooted c = let (j, k) = c.requires in let o = c.in_ok-once.ensures in rw c.saturating_sub-end.ensures (judged_rooted j k c.name.ensures o.before (sym c.if-not-rooted.ensures))
 
-pub follow-followed-requires : goal.follow-followed-requires
-follow-followed-requires c = let (j, k) = (to_start (to_marked c.before.before)).requires in all_standing j k.kinds
+pub follow-requires : goal.follow-requires
+follow-requires c = let (j, k) = c.requires in all_standing j k.kinds
 
-pub returns-then-followed-count : goal.returns-then-followed-count
-returns-then-followed-count c =
-    let f = c.before.before.before.before in
-    let q = to_rooted f in
-    let p = to_marked q in
-    let (j, k) = (to_start p).requires in
-    rw c.broken-then-followed-count.ensures (judged_follows j k p.name.ensures (passes_all p.once-unnamed.ensures (λ h. omega (arith, end p))) (sym q.rooted.ensures ∙ f.if-not-rooted.false) f.follow-followed.ensures c.if-followed-count.true)
+pub returns-in_err-follow : goal.returns-in_err-follow
+returns-in_err-follow c =
+    let p = err_from_is_err_and c.from_residual-in_err-follow.result c.from_residual-in_err-follow.ensures.1 in
+    let (j, k) = c.requires in
+    let o = c.in_ok-once.ensures in
+    rw (p.1, p.2) (judged_follows j k c.name.ensures o.before (sym c.if-not-rooted.ensures) c.in_err-follow.ensures)
 
-pub returns-then-followed-links : goal.returns-then-followed-links
-returns-then-followed-links c =
-    let f = c.before.before.before.before.before.before in
-    let q = to_rooted f in
-    let p = to_marked q in
-    let (j, k) = (to_start p).requires in
-    rw (c.broken-then-followed-links.ensures, end p) (judged_left_over j k p.name.ensures (passes_all p.once-unnamed.ensures (λ h. omega (arith, end p))) (sym q.rooted.ensures ∙ f.if-not-rooted.false) f.follow-followed.ensures (λ h. omega arith) c.if-followed-links.true)
+pub returns-then-branch-links : goal.returns-then-branch-links
+returns-then-branch-links c =
+    let (j, k) = c.requires in
+    let o = c.in_ok-once.ensures in
+    rw c.saturating_sub-end.ensures (judged_left_over j k c.name.ensures o.before (sym c.if-not-rooted.ensures) c.in_ok-follow.ensures c.if-branch-links.true)
 
-pub judge_items-requires : goal.judge_items-requires
-judge_items-requires c =
-    let f = c.before.before.before.before.before.before.before in
-    let q = to_rooted f in
-    let p = to_marked q in
-    let (j, k) = (to_start p).requires in
-    (judgeable_in j (omega (arith, j.room)), tree_kept j k p.name.ensures (passes_all p.once-unnamed.ensures (λ h. omega (arith, end p))) (sym q.rooted.ensures ∙ f.if-not-rooted.false) f.follow-followed.ensures (λ h. omega arith) (omega arith) c.parents-orphan.ensures)
+pub pass-requires : goal.pass-requires
+pass-requires c = let (j, k) = c.requires in (all_standing j k.kinds, j.few, omega (arith, j.room))
+
+pub returns-in_err-pass : goal.returns-in_err-pass
+returns-in_err-pass c =
+    let p = err_from_is_err_and c.from_residual-in_err-pass.result c.from_residual-in_err-pass.ensures.1 in
+    rw (p.1, p.2) (judged_present c.requires.0 (tree (goal.at.returns-in_err-pass c).After-parents-orphans) c.in_err-pass.ensures)
+
+pub pass-requires-2 : goal.pass-requires-2
+pass-requires-2 c = let (j, k) = c.requires in (all_standing j k.kinds, j.few, omega (arith, j.room))
+
+pub returns-in_err-pass-2 : goal.returns-in_err-pass-2
+returns-in_err-pass-2 c =
+    let p = err_from_is_err_and c.from_residual-in_err-pass-2.result c.from_residual-in_err-pass-2.ensures.1 in
+    let f = c.in_ok-pass.ensures in
+    rw (p.1, p.2) (judged_clean c.requires.0 (tree (goal.at.returns-in_err-pass-2 c).After-parents-orphans) f.before c.in_err-pass-2.ensures)
+
+pub returns : goal.returns
+returns c = let f = c.in_ok-pass.ensures in let h = c.in_ok-pass-2.ensures in judged_told c.requires.0 (tree (goal.at.returns c).After-parents-orphans) f.before h.before

@@ -2,11 +2,11 @@
 use Rattle.checker.proofs.Following.{goes_nowhere, goes_further}
 use Rattle.checker.proofs.follow.after_row.Goals as goal
 
-pub returns-then-one-eq0 : goal.returns-then-one-eq0
-returns-then-one-eq0 c = goes_nowhere _ c.after_slot-one.ensures c.if-one-eq0.true
+pub returns-in_err-one : goal.returns-in_err-one
+returns-in_err-one c = rw c.from_residual.ensures (goes_nowhere _ c.in_err-one.ensures)
 
-pub returns-then-two-eq0 : goal.returns-then-two-eq0
-returns-then-two-eq0 c = goes_further _ c.after_slot-one.ensures c.if-one-eq0.false (goes_nowhere _ c.after_slot-two.ensures c.if-two-eq0.true)
+pub returns-in_err-two : goal.returns-in_err-two
+returns-in_err-two c = rw c.from_residual-in_err-two.ensures (goes_further _ c.in_ok-one.ensures (goes_nowhere _ c.in_err-two.ensures))
 
 pub returns : goal.returns
-returns c = goes_further _ c.after_slot-one.ensures c.if-one-eq0.false (goes_further _ c.after_slot-two.ensures c.if-two-eq0.false c.after_slot.ensures)
+returns c = goes_further _ c.in_ok-one.ensures (goes_further _ c.in_ok-two.ensures c.after_slot-3.ensures)
