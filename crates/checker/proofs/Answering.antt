@@ -1,21 +1,19 @@
 -- The answer of the check: by the counts, by the edition, and by the rules, with the scratch room clear.
-use Prim.Native.Nat.{ℕ, ◌+◌, ◌-◌, ◌*◌, ◌/◌, ◌≤◌, ◌<◌}
+use Prim.Native.Nat.{ℕ, ◌+◌, ◌-◌, ◌*◌, ◌/◌, ◌<◌}
 use native.Mathlib.Omega.{arith}
 use mathlib.Core.List.{List}
 use Rattle.std.specs.Prelude.{Result, Ok, Err}
 use mathlib.Core.Logic.{⊎_elim}
-use mathlib.Core.Path.{◌≡◌, sym, ap, ◌∙◌}
+use mathlib.Core.Path.{◌≡◌, ap, ◌∙◌}
 use lib.ListN.{length, take, replicate}
-use lib.Seq.{length-take-le}
 use Rattle.grammar.specs.Door.{RightEdition}
 use Rattle.grammar.specs.Edition.{edition}
-use Rattle.grammar.specs.Handle.{absent}
 use Rattle.grammar.specs.Room.{node_width, link_width, symbol_width, cleared}
 use Rattle.ast.specs.Written.{Cleared}
 use Rattle.ast.proofs.Rooms.{row_number}
 use Rattle.foreign.specs.Check.{Given, Lends, Checks}
 use Rattle.checker.specs.Slots.{table, rows}
-use Rattle.checker.specs.Verdict.{rooms, given, Tells, Judgeable, Judges, Judged}
+use Rattle.checker.specs.Verdict.{rooms, given, Tells, Judges, Judged}
 use Rattle.checker.specs.Pass.{number}
 use Rattle.checker.specs.declared.Verdict.{Verdict}
 use Rattle.checker.specs.declared.rule.Broken.{Broken}
@@ -61,17 +59,6 @@ module _ (e n m s : ℕ) (ns ls ss sc : List ℕ) where
 
     links_are : length link_part / link_width ≡ m
     links_are = row_number link_width m ls (omega arith) l.links
-
-    pub judgeable : {t : List ℕ} → t ≡ table (edition e) → n ≤ absent → m ≤ absent → Judgeable t node_part link_part n (length sc)
-    judgeable q a b = record {
-      edition = edition e;
-      same = q;
-      node_rows = sym (length-take-le (node_width * n) ns l.nodes);
-      link_rows = ap (λ k. link_width * k) links_are ∙ sym (length-take-le (link_width * m) ls l.links);
-      few = rw links_are b;
-      short = a;
-      room = rw links_are l.scratch;
-    }
 
     pub judged : {t after sc' : List ℕ} {r : Result (Unit {0}) Broken} → RightEdition e → t ≡ table (edition e) → Judged t s (rows node_part link_part) r → length sc' ≡ length sc → Cleared 0 sc' after → Tells g (rooms ns ls ss after) (told r)
     judged {after = after} {sc' = sc'} {r = r} x q j k c = rw wiped (record { says = pick (j.says (edition e) q) })

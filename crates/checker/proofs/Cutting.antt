@@ -101,15 +101,12 @@ module _ {t ns : List ℕ} {row : ℕ} (s : Standing t ns row) where
   pub at_third : {p : ℕ} → p ≡ cell t ns row 4 → node_width * row + p + 1 < length ns
   at_third e = omega (arith, s.room, (placed s).third)
 
-  pub at_rest : {p : ℕ} → p ≡ cell t ns row 5 → node_width * row + p < length ns
-  at_rest e = omega (arith, s.room, (placed s).rest)
-
   pub rest_inside : {c : Cut} → c ≡ cut_of t ns row → c.rest ≤ node_width * row + own_width
   unfolding cut_of
   rest_inside e = omega (arith, ap (λ (d : Cut). d.rest) e, (placed s).rest)
 
-pub cut_made : (t ns : List ℕ) (row : ℕ) {a b c : Slot} {p q r : ℕ} → a ≡ slot_at ns (get_or t (6 * (get_or ns (node_width * row) 0 - 1)) 0) (node_width * row + 3) →
-    p ≡ cell t ns row 2 → b ≡ slot_at ns (cell t ns row 1) (node_width * row + p) → q ≡ cell t ns row 4 → c ≡ slot_at ns (cell t ns row 3) (node_width * row + q) → r ≡ cell t ns row 5 →
+pub cut_made : (t ns : List ℕ) (row : ℕ) {a b c : Slot} {k l m p q r : ℕ} → k ≡ get_or t (6 * (get_or ns (node_width * row) 0 - 1)) 0 → a ≡ slot_at ns k (node_width * row + 3) →
+    l ≡ cell t ns row 1 → p ≡ cell t ns row 2 → b ≡ slot_at ns l (node_width * row + p) → m ≡ cell t ns row 3 → q ≡ cell t ns row 4 → c ≡ slot_at ns m (node_width * row + q) → r ≡ cell t ns row 5 →
     record { first = a; second = b; third = c; rest = node_width * row + r } ≡ cut_of t ns row
 unfolding cut_of
-cut_made t ns row e₁ e₂ e₃ e₄ e₅ e₆ = let z : 6 * (get_or ns (node_width * row) 0 - 1) + 0 ≡ 6 * (get_or ns (node_width * row) 0 - 1) = omega arith in rw z (cc)
+cut_made t ns row e₁ e₂ e₃ e₄ e₅ e₆ e₇ e₈ e₉ = let z : 6 * (get_or ns (node_width * row) 0 - 1) + 0 ≡ 6 * (get_or ns (node_width * row) 0 - 1) = omega arith in rw z (cc)

@@ -8,9 +8,10 @@ use lib.Dec.{eqb, ltb, leb}
 use borrow.Author.Tests.{eqb-true, eqb-false, eq-eqb, ne_eqb, ltb-true, lt-ltb, leb-true, le-leb, not-true}
 use Rattle.grammar.specs.Handle.{absent}
 use Rattle.foreign.specs.Check.{Item, Each, nil, cons, InRange, Before, Allowed, Zero}
-use Rattle.checker.specs.Named.{names_in, InLists}
-use Rattle.checker.specs.Slots.{cut_of, held, held_in}
+use Rattle.checker.specs.Named.{names_in, InRange as InLinks, InLists}
+use Rattle.checker.specs.Slots.{cut_of, content_of, contents, held, held_in}
 use Rattle.checker.specs.Test.{keep, keep_all, row_keeps}
+use Rattle.checker.specs.declared.slots.Content.{Content}
 use Rattle.checker.specs.declared.slots.Slot.{Slot}
 use Rattle.checker.proofs.Laws.{both_true, true_both, or_true, never}
 use Rattle.checker.proofs.Keeping.{many, keep_append}
@@ -127,13 +128,16 @@ module _ (i s m : ℕ) where
   is_zeroed = mean_all 8 i s m Zero means_zero
 
 -- whatever the rule, lists of a row that keeps it are in range
+held_inside : (rule i s : ℕ) (ls : List ℕ) (t : Content) → keep_all rule i s (many ls) (contents ls t) ≡ true → InLinks ls t
+held_inside rule i s ls Content.Nothing e = tt
+held_inside rule i s ls (Content.Child x) e = tt
+held_inside rule i s ls (Content.Option x) e = tt
+held_inside rule i s ls (Content.Symbol x) e = tt
+held_inside rule i s ls (Content.List o f n) e = leb-true (f + n) (many ls) (both_true _ _ e).0
+held_inside rule i s ls (Content.Number l x) e = tt
+
 slot_inside : (rule i s : ℕ) (ls : List ℕ) (t : Slot) → keep_all rule i s (many ls) (held ls t) ≡ true → InLists ls t
-slot_inside rule i s ls Slot.Nothing e = tt
-slot_inside rule i s ls (Slot.Child x) e = tt
-slot_inside rule i s ls (Slot.Option x) e = tt
-slot_inside rule i s ls (Slot.Symbol x) e = tt
-slot_inside rule i s ls (Slot.List o f n) e = leb-true (f + n) (many ls) (both_true _ _ e).0
-slot_inside rule i s ls (Slot.Number l x) e = tt
+slot_inside rule i s ls t e = held_inside rule i s ls (content_of t.code t.x t.y) e
 
 pub lists_inside : (rule s : ℕ) (t ns ls : List ℕ) (i : ℕ) → row_keeps rule s t ns ls i ≡ true → InLists ls (cut_of t ns i).first × InLists ls (cut_of t ns i).second × InLists ls (cut_of t ns i).third
 unfolding row_keeps held_in

@@ -5,21 +5,21 @@ use Rattle.std.specs.Prelude.{Option, Some, None}
 use mathlib.Core.Bool.{Bool, true, false, cond, ◌&&◌}
 use mathlib.Core.List.{List, [], ◌∷◌, ◌++◌, append-nil}
 use mathlib.Core.Path.{◌≡◌, refl, sym, ap, ◌∙◌}
-use lib.Dec.{eqb, ltb}
-use borrow.Author.Tests.{eqb-true, ne_eqb, eq-eqb, lt-ltb}
-use lib.ListN.{get_or, drop}
+use lib.Dec.{eqb}
+use borrow.Author.Tests.{eqb-true, eq-eqb}
+use lib.ListN.{drop}
 use Rattle.grammar.specs.Room.{node_width, own_width, link_width}
 use Rattle.grammar.specs.Edition.{Edition}
 use Rattle.foreign.specs.Check.{Item, lists, counted, Consecutive, covered, Follows}
-use Rattle.checker.specs.Follow.{consecutive, followed, GoesOn, in_slots, covered_by, row_follows, AllFollow, OneStrays}
-use Rattle.checker.specs.Slots.{rows, table, cut_of, link_items, linked_items, held, spared, held_in}
+use Rattle.checker.specs.Follow.{consecutive, followed, GoesOn, in_slots, covered_by, row_follows, OneStrays}
+use Rattle.checker.specs.Slots.{rows, table, cut_of, linked_items, contents, held, spared, held_in}
 use Rattle.checker.specs.Test.{AllStanding}
 use Rattle.checker.specs.declared.slots.Cut.{Cut}
-use Rattle.checker.specs.declared.slots.Slot.{Slot}
+use Rattle.checker.specs.declared.slots.Content.{Content}
 use Rattle.checker.specs.declared.rule.Rule.{Rule}
 use Rattle.checker.specs.declared.slots.Sort.{Sort}
 use Rattle.checker.proofs.Items.{cut_items, lists_append, lists_spared}
-use Rattle.checker.proofs.Laws.{some_none, some_same, and_assoc, both_true, true_both, Held, held_none, held_more, found, none_found}
+use Rattle.checker.proofs.Laws.{some_none, some_same, and_assoc, both_true, true_both, Held, held_none, held_more, found}
 use Rattle.checker.proofs.Passes.{Tests}
 
 -- links hold none
@@ -31,15 +31,10 @@ links_listless Sort.Names (suc n) ls = links_listless Sort.Names n (drop link_wi
 links_listless Sort.Entries (suc n) ls = links_listless Sort.Entries n (drop link_width ls)
 
 -- after a slot that is no list, and one that is
-pub goes_on : {from : ℕ} (s : Slot) → from ≤ 8589934590 → ((ls : List ℕ) → lists (held ls s) ≡ []) → GoesOn from (λ ls. held ls s) (Some from)
-goes_on {from} s few h = record { most = few; says = λ ls. let z : from + 0 ≡ from = omega arith in rw (h ls, z) refl }
 
 module _ (o : Sort) (f n from : ℕ) where
   abbrev After : Option ℕ → Type 0
-  After r = GoesOn from (λ ls. held ls (Slot.List o f n)) r
-
-  pub goes_elsewhere : (f ≡ from → ⊥) → After None
-  goes_elsewhere h = record { most = tt; says = λ ls. rw (links_listless o n (drop (link_width * f) ls), ne_eqb f from h) refl }
+  After r = GoesOn from (λ ls. contents ls (Content.List o f n)) r
 
   pub goes_list : f ≡ from → f ≤ 4294967295 → n ≤ 4294967295 → After (Some (from + n))
   goes_list e a b = record { most = omega arith; says = λ ls. let z : from + (n + 0) ≡ from + n = omega arith in rw (links_listless o n (drop (link_width * f) ls), eq-eqb f from e, z) refl }
@@ -118,9 +113,6 @@ module _ {t ns : List ℕ} where
 
   pub follow_stopped : {i links n : ℕ} → i < n → Following t ns i links → ((ls : List ℕ) → row_follows t ns ls i ≡ false) → OneStrays t ns n (record { rule = Rule.Follows; row = i })
   follow_stopped h x f = record { rule = refl; place = h; first = λ ls. found h (x.kept ls) (f ls) }
-
-  pub follow_ended : {i links n : ℕ} → i ≡ n → Following t ns i links → AllFollow t ns n links
-  follow_ended e x = record { first = λ ls. none_found e (x.kept ls); covered = λ ls. x.covered ls ∙ ap (covered_by t ns ls) e }
 
 -- what the test of lists means
 consecutive_means : (m : ℕ) (ls : List (ℕ × ℕ)) → consecutive m ls ≡ true → Consecutive m ls

@@ -1,25 +1,23 @@
 -- What a slot, a row and all rows before one answer, and the marks that they leave. A list chooses the marks of its links by their sort.
-use Prim.Native.Nat.{ℕ, zero, suc, ◌+◌, ◌-◌, ◌*◌, ◌≤◌, ◌<◌}
+use Prim.Native.Nat.{ℕ, zero, suc, ◌+◌, ◌*◌, ◌≤◌}
 use native.Mathlib.Omega.{arith}
-use mathlib.Core.Bool.{Bool, true, false, cond, ◌&&◌, ◌||◌, not}
+use mathlib.Core.Bool.{Bool, true, false, cond, ◌||◌, not}
 use mathlib.Core.List.{List, [], ◌∷◌, ◌++◌}
 use Rattle.std.proofs.Common.{append_assoc}
 use mathlib.Core.Path.{◌≡◌, refl, sym, ap, ◌∙◌}
-use lib.Dec.{eqb, ltb, leb}
-use borrow.Author.Tests.{eqb-true, eqb-false, ltb-true, lt-ltb, le-leb, lt-leb}
-use lib.ListN.{length, get_or, drop, replicate}
+use lib.Dec.{eqb, ltb}
+use borrow.Author.Tests.{ltb-true, lt-ltb, le-leb}
+use lib.ListN.{length, get_or, drop}
 use Rattle.grammar.specs.Handle.{absent}
 use Rattle.grammar.specs.Room.{link_width}
-use Rattle.ast.specs.Written.{Written}
-use Rattle.ast.proofs.Rooms.{zero_at}
 use Rattle.foreign.specs.Check.{Item}
 use Rattle.checker.specs.Marks.{Settled}
-use Rattle.checker.specs.Slots.{link_items, linked_items, held, spared, cut_of, held_in}
-use Rattle.checker.specs.Test.{keep, keep_all, link_keeps, first_sort, of_names, concerns, Linkable, Linked, Marked, Keeps, row_keeps}
-use Rattle.checker.specs.declared.slots.Slot.{Slot}
+use Rattle.checker.specs.Slots.{link_items, linked_items, contents, spared, cut_of, held_in}
+use Rattle.checker.specs.Test.{keep, keep_all, link_keeps, first_sort, of_names, concerns, Linked, Marked, Keeps, row_keeps}
 use Rattle.checker.specs.declared.slots.Cut.{Cut}
+use Rattle.checker.specs.declared.slots.Content.{Content}
 use Rattle.checker.specs.declared.slots.Sort.{Sort}
-use Rattle.checker.proofs.Laws.{and_true, both_true, true_both, or_true, or_false, never, settled_same, settled_none}
+use Rattle.checker.proofs.Laws.{both_true, true_both, or_true, or_false, never, settled_same}
 use Rattle.checker.proofs.Keeping.{many, keep_append, any_many, unconcerned}
 
 -- one list, and then another
@@ -38,24 +36,16 @@ pub regrouped : {rule i s : ℕ} {ls ms : List ℕ} {r : Bool} (x y z w : List I
 regrouped x y z w k = rw (← append_assoc x y (z ++ w), ← append_assoc (x ++ y) z w) k
 
 -- a slot that holds one item, and no list, leaves the marks as they are
-pub holds_one : {rule i s : ℕ} {ls ms : List ℕ} {r : Bool} (x : Item) → r ≡ keep rule i s (many ls) x → Marked rule i s ls ms → Keeps rule i s ls (x ∷ []) ms r
-holds_one x f g = record { says = f ∙ sym (and_true _); marked = λ y. g }
-
-pub holds_none : {rule i s : ℕ} {ls ms : List ℕ} → Marked rule i s ls ms → Keeps rule i s ls [] ms true
-holds_none g = record { says = refl; marked = λ y. g }
 
 -- a list: whether it is in range, and its links
 module _ (rule i s : ℕ) (ls : List ℕ) (o : Sort) (f n : ℕ) (ms : List ℕ) where
   abbrev Answers : Bool → Type 0
-  Answers r = Keeps rule i s ls (held ls (Slot.List o f n)) ms r
-
-  pub past_list : many ls < f + n → Answers false
-  past_list k = record { says = sym (rw (lt-leb (f + n) (many ls) k) refl); marked = λ y. absurd (never y refl) }
+  Answers r = Keeps rule i s ls (contents ls (Content.List o f n)) ms r
 
   pub unasked_list : f + n ≤ many ls → concerns rule o ≡ false → Marked rule i s ls ms → Answers true
   unasked_list k e g = record { says = sym (rw (le-leb (f + n) (many ls) k, unconcerned rule i s (many ls) o e n (drop (link_width * f) ls)) refl); marked = λ y. g }
 
-  list_says : {r : Bool} → f + n ≤ many ls → r ≡ keep_all rule i s 0 (linked_items o n (drop (link_width * f) ls)) → r ≡ keep_all rule i s (many ls) (held ls (Slot.List o f n))
+  list_says : {r : Bool} → f + n ≤ many ls → r ≡ keep_all rule i s 0 (linked_items o n (drop (link_width * f) ls)) → r ≡ keep_all rule i s (many ls) (contents ls (Content.List o f n))
   list_says k e = e ∙ any_many rule i s (many ls) o n (drop (link_width * f) ls) ∙ sym (rw (le-leb (f + n) (many ls) k) refl)
 
 -- which marks a list's links have
@@ -72,7 +62,7 @@ first_is rule o e f = pick (eqb rule 2) o e f
 
 module _ {rule i s : ℕ} {ls : List ℕ} {ms : List ℕ} (g : Marked rule i s ls ms) (f n : ℕ) (r : f + n ≤ many ls) where
   -- those of keys and values
-  pub second_kept : {b : Bool} {ms' : List ℕ} (o : Sort) → o ≡ Sort.Entries → length ms' ≡ length ms → Linked rule i s o ls (many ls) f n ms ms' b → Keeps rule i s ls (held ls (Slot.List o f n)) ms' b
+  pub second_kept : {b : Bool} {ms' : List ℕ} (o : Sort) → o ≡ Sort.Entries → length ms' ≡ length ms → Linked rule i s o ls (many ls) f n ms ms' b → Keeps rule i s ls (contents ls (Content.List o f n)) ms' b
   second_kept {ms' = ms'} o e l k = record {
     says = list_says rule i s ls o f n ms' r k.says;
     marked = λ y. record { few = g.few; room = omega (arith, g.room); first = settled_same (λ j m. (k.within y).low (0 + j) (omega arith)) g.first; second = rw e at (k.settled y) };
@@ -80,10 +70,7 @@ module _ {rule i s : ℕ} {ls : List ℕ} {ms : List ℕ} (g : Marked rule i s l
 
   -- the others
   module _ (o : Sort) (c : concerns rule o ≡ true) (other : o ≡ Sort.Entries → ⊥) where
-    pub first_linkable : Linkable rule i s o ls ms 0 f n
-    first_linkable = record { few = g.few; inside = r; room = omega (arith, g.room); settled = rw (first_is rule o c other) at g.first }
-
-    pub first_kept : {b : Bool} {ms' : List ℕ} → length ms' ≡ length ms → Linked rule i s o ls 0 f n ms ms' b → Keeps rule i s ls (held ls (Slot.List o f n)) ms' b
+    pub first_kept : {b : Bool} {ms' : List ℕ} → length ms' ≡ length ms → Linked rule i s o ls 0 f n ms ms' b → Keeps rule i s ls (contents ls (Content.List o f n)) ms' b
     first_kept {ms' = ms'} e k = record {
       says = list_says rule i s ls o f n ms' r k.says;
       marked = λ y. record { few = g.few; room = omega (arith, g.room); first = rw (first_is rule o c other) (k.settled y); second = settled_same (λ j m. (k.within y).high (many ls + j) (omega arith)) g.second };
@@ -133,10 +120,3 @@ pub marked_later : {rule i s : ℕ} {ls ms : List ℕ} → Marked rule i s ls ms
 marked_later {rule} {i} {s} {ls} g = record { few = g.few; room = g.room; first = settled_later rule i s (first_sort rule) ls g.first; second = settled_later rule i s Sort.Entries ls g.second }
 
 -- marks that are zero
-pub marked_none : (rule i s : ℕ) {ls ms ms' : List ℕ} → many ls ≤ absent → 2 * many ls ≤ length ms → Written 0 (2 * many ls) (replicate (2 * many ls - 0) 0) ms ms' → Marked rule i s ls ms'
-marked_none rule i s {ls} {ms} {ms'} h r w = record {
-  few = h;
-  room = omega (arith, w.size);
-  first = settled_none _ (λ k l. zero_at (omega arith) w (0 + k) (omega arith) (omega arith));
-  second = settled_none _ (λ k l. zero_at (omega arith) w (many ls + k) (omega arith) (omega arith));
-}

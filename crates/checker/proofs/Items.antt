@@ -1,10 +1,8 @@
 -- A row's items are those of its slots, as the table cuts it. And what items name, and which lists they hold.
 use Prim.Native.Nat.{ℕ, zero, suc, ◌+◌, ◌-◌, ◌*◌, ◌≤◌, ◌<◌}
 use native.Mathlib.Omega.{arith}
-use mathlib.Core.Bool.{cond}
 use mathlib.Core.List.{List, [], ◌∷◌, ◌++◌, map}
 use mathlib.Core.Path.{◌≡◌, refl, sym, ap, ◌∙◌}
-use lib.Dec.{ltb}
 use borrow.Author.Tests.{ne_eqb, lt-ltb, le-ltb}
 use lib.ListN.{length, get_or, take, drop, replicate, length-drop, length-take, length-replicate}
 use lib.Seq.{get_or-drop, get_or-take, drop-drop, drop_at, take-take}
@@ -18,8 +16,8 @@ use Rattle.grammar.proofs.Parents.{named_own}
 use Rattle.grammar.proofs.Pieces.{first_on, named_alike}
 use Rattle.foreign.specs.Check.{Item, node_items, name_items, entry_items, items, kind_of, items_of, lists}
 use Rattle.checker.specs.Named.{names_in}
-use Rattle.checker.specs.Slots.{rows, code, width, line, table, slot_of, slot_at, cut_of, linked_items, held, spared, held_in, Standing}
-use Rattle.checker.specs.declared.slots.Slot.{Slot}
+use Rattle.checker.specs.Slots.{rows, code, width, line, table, sort_of, content_of, slot_at, cut_of, linked_items, held, spared, held_in, Standing}
+use Rattle.checker.specs.declared.slots.Content.{Content}
 use Rattle.checker.specs.declared.slots.Sort.{Sort}
 use Rattle.checker.proofs.Cutting.{cut_by, stood, cut_is}
 
@@ -41,14 +39,18 @@ sees_on {ns} {xs} {base} {p} n h s = record {
   at = λ k l. let f : p + (n + k) ≡ p + n + k = omega arith in get_or-drop n xs k 0 ∙ s.at (n + k) (omega arith) ∙ ap (λ (i : ℕ). get_or ns (base + i) 0) f;
 }
 
--- a number's slot, by its code
-pub slot_number : (c x y : ℕ) → 8 ≤ c → slot_of c x y ≡ Slot.Number (c - 8) x
-unfolding slot_of
-slot_number c x y h = rw (ne_eqb c 0 (λ e. omega arith), ne_eqb c 1 (λ e. omega arith), ne_eqb c 2 (λ e. omega arith), le-ltb c 5 (omega arith), ne_eqb c 5 (λ e. omega arith), ne_eqb c 6 (λ e. omega arith), ne_eqb c 7 (λ e. omega arith)) refl
+-- a number and a symbol, by their codes
+pub held_number : (c x y : ℕ) → 8 ≤ c → content_of c x y ≡ Content.Number (c - 8) x
+unfolding content_of
+held_number c x y h = rw (ne_eqb c 0 (λ e. omega arith), ne_eqb c 1 (λ e. omega arith), ne_eqb c 2 (λ e. omega arith), le-ltb c 5 (omega arith), le-ltb c 8 h) refl
 
-pub slot_symbol : (c x y : ℕ) → 3 ≤ c → c < 5 → slot_of c x y ≡ Slot.Symbol x
-unfolding slot_of
-slot_symbol c x y h l = rw (ne_eqb c 0 (λ e. omega arith), ne_eqb c 1 (λ e. omega arith), ne_eqb c 2 (λ e. omega arith), lt-ltb c 5 l) refl
+pub held_symbol : (c x y : ℕ) → 3 ≤ c → c < 5 → content_of c x y ≡ Content.Symbol x
+unfolding content_of
+held_symbol c x y h l = rw (ne_eqb c 0 (λ e. omega arith), ne_eqb c 1 (λ e. omega arith), ne_eqb c 2 (λ e. omega arith), lt-ltb c 5 l) refl
+
+pub held_list : (c x y : ℕ) → 5 ≤ c → c < 8 → content_of c x y ≡ Content.List (sort_of c) x y
+unfolding content_of
+held_list c x y h l = rw (ne_eqb c 0 (λ e. omega arith), ne_eqb c 1 (λ e. omega arith), ne_eqb c 2 (λ e. omega arith), le-ltb c 5 h, lt-ltb c 8 l) refl
 
 -- links by sort
 nodes_linked : (n : ℕ) (ls : List ℕ) → linked_items Sort.Nodes n ls ≡ node_items n ls
@@ -75,8 +77,8 @@ seen_next {ns} {xs} {base} {p} s h = let e : base + (p + 1) ≡ base + p + 1 = o
 module _ (ls ns : List ℕ) (base : ℕ) where
   -- the items of a slot, and then those of the others. Only a list has a second number
   one_slot : {xs : List ℕ} {p : ℕ} (s : Form) (ss : List Form) → Sees ns base p xs → p + width s ≤ own_width → items ls (s ∷ ss) xs ≡ held ls (slot_at ns (code s) (base + p)) ++ items ls ss (drop (width s) xs)
-  unfolding items slot_of
-  one_slot {p = p} (below n) ss e h = let z : 8 + n - 8 ≡ n = omega arith in rw (slot_number (8 + n) (get_or ns (base + p) 0) (get_or ns (base + p + 1) 0) (omega arith), z, seen e (omega arith)) refl
+  unfolding items content_of
+  one_slot {p = p} (below n) ss e h = let z : 8 + n - 8 ≡ n = omega arith in rw (held_number (8 + n) (get_or ns (base + p) 0) (get_or ns (base + p + 1) 0) (omega arith), z, seen e (omega arith)) refl
   one_slot child ss e h = rw (seen e (omega arith)) refl
   one_slot option ss e h = rw (seen e (omega arith)) refl
   one_slot symbol ss e h = rw (seen e (omega arith)) refl
@@ -101,7 +103,7 @@ module _ (ls ns : List ℕ) (row : ℕ) where
   start = node_width * row
 
   three : {xs : List ℕ} (ss : List Form) → length ss ≤ 3 → get_or (line ss) 5 0 ≤ own_width → Sees ns start 3 xs → items ls ss xs ≡ held_in ns ls row (cut_by ns row (line ss))
-  unfolding held_in slot_of
+  unfolding held_in content_of
   three {xs} [] h l e = left_over ls ns start xs e
   three (a ∷ []) h l e = let f = sees_on (width a) (omega arith) e in one_slot ls ns start a [] e (omega arith) ∙ rw (left_over ls ns start _ f) refl
   three (a ∷ b ∷ []) h l e =

@@ -1,5 +1,5 @@
 -- From the passes to the answer: the first pass that stops gives the first failed rule, and where none does all rules hold.
-use Prim.Native.Nat.{ℕ, suc, ◌+◌, ◌-◌, ◌*◌, ◌/◌, ◌≤◌, ◌<◌}
+use Prim.Native.Nat.{ℕ, suc, ◌-◌, ◌/◌, ◌≤◌, ◌<◌}
 use native.Mathlib.Decide.{ℕ_discrete}
 use native.Mathlib.Nat.{mul-div_cancel_left}
 use native.Mathlib.Omega.{arith}
@@ -86,8 +86,6 @@ abbrev pub Fault : Rule → (test : ℕ → Bool) (n : ℕ) → Broken → Type 
 Fault rule test n b = (b.rule ≡ rule) × (b.row < n) × First test n b.row
 
 -- rows that are there, and room for marks elsewhere
-pub judgeable_in : {t ns ls : List ℕ} {n a b : ℕ} → Judgeable t ns ls n a → n + 2 * (length ls / link_width) ≤ b → Judgeable t ns ls n b
-judgeable_in j h = record { edition = j.edition; same = j.same; node_rows = j.node_rows; link_rows = j.link_rows; few = j.few; short = j.short; room = h }
 
 module _ {t ns ls : List ℕ} {n marks : ℕ} (j : Judgeable t ns ls n marks) where
   abbrev w : Rows

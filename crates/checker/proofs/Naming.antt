@@ -113,9 +113,6 @@ module _ {t ns ls room : List ℕ} {n : ℕ} (asked : Nameable t ns ls n room) w
   pub naming_more : {i : ℕ} {c : Cut} {marks after : List ℕ} → i < n → c ≡ cut_of t ns i → Naming (rows ns ls) n i marks → Noted n i ls (names_in (held ls c.first ++ (held ls c.second ++ held ls c.third))) marks after → Naming (rows ns ls) n (i + 1) after
   naming_more h e a m = row_more all_earlier h a (rw e (row_names ls (asked.standing.each _ h))) m
 
-pub naming_done : {w : Rows} {n i : ℕ} {marks : List ℕ} → i ≡ n → Naming w n i marks → AllNamed w n marks
-naming_done {w} e a = record { each = λ j h. a.each j h ∙ ap (λ k. mark_of w k j) e }
-
 -- what the marks of all rows tell
 module _ {w : Rows} {n : ℕ} {marks : List ℕ} (few : n ≤ absent) (tall : height w ≡ n) (earlier : (i : ℕ) → i < n → Earlier w i) (a : AllNamed w n marks) where
   -- a row that is named once has its parent as its mark

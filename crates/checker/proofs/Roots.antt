@@ -1,10 +1,10 @@
 -- Kinds by their tests: rule 1 of a row, and rule 5 of the last.
-use Prim.Native.Nat.{ℕ, ◌+◌, ◌-◌, ◌*◌, ◌≤◌, ◌<◌}
+use Prim.Native.Nat.{ℕ, ◌+◌, ◌-◌, ◌*◌, ◌≤◌}
 use mathlib.Core.Bool.{true, false}
 use mathlib.Core.List.{List}
 use mathlib.Core.Path.{◌≡◌, refl, sym, ◌∙◌}
 use native.Mathlib.Omega.{arith}
-use borrow.Author.Tests.{leb-true, eqb-true, eq-eqb, ne_eqb, ltb-true, lt-ltb, le-leb, lt-leb}
+use borrow.Author.Tests.{leb-true, eqb-true, eq-eqb, ne_eqb, ltb-true, lt-ltb, le-leb}
 use lib.Dec.{eqb, leb, ltb}
 use lib.ListN.{get_or}
 use Rattle.grammar.specs.Handle.{absent}
@@ -27,14 +27,6 @@ module _ (ns : List ℕ) (i : ℕ) where
   pub kind_means : known_kind ns i ≡ true → (1 ≤ kind) × (kind ≤ 26)
   unfolding known_kind
   kind_means e = let (a, b) = both_true (leb 1 kind) (leb kind 26) e in (leb-true 1 kind a, leb-true kind 26 b)
-
-  pub kind_low : kind < 1 → known_kind ns i ≡ false
-  unfolding known_kind
-  kind_low h = rw (lt-leb 1 kind h) refl
-
-  pub kind_high : 1 ≤ kind → 26 < kind → known_kind ns i ≡ false
-  unfolding known_kind
-  kind_high h l = rw (le-leb 1 kind h, lt-leb kind 26 l) refl
 
 module _ (ns : List ℕ) (n : ℕ) where
   pub no_root : n ≡ 0 → false ≡ is_rooted ns n

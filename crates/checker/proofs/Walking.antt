@@ -6,17 +6,17 @@ use native.Mathlib.Omega.{arith}
 use mathlib.Core.Bool.{Bool, true, false, cond, ◌&&◌}
 use mathlib.Core.List.{List, [], ◌∷◌, ◌++◌}
 use mathlib.Core.Path.{◌≡◌, refl, sym, ap, ◌∙◌}
-use lib.Dec.{eqb, ltb}
-use borrow.Author.Tests.{eqb-true, ltb-true, ltb-false, ne_eqb}
+use lib.Dec.{eqb}
+use borrow.Author.Tests.{eqb-true, ne_eqb}
 use lib.ListN.{length, get_or, set, drop}
 use lib.Seq.{get_or-drop, drop-drop}
 use Rattle.grammar.specs.Handle.{absent}
 use Rattle.grammar.specs.Naming.{times}
 use Rattle.grammar.specs.Room.{link_width}
-use Rattle.foreign.specs.Check.{Item}
 use Rattle.checker.specs.Marks.{Skips}
 use Rattle.checker.specs.Named.{once_more, noted, Names, known, first_of, second_of, link_known, names_from, base_of, Ready, Noted, names_in}
-use Rattle.checker.specs.Slots.{linked_items, held}
+use Rattle.checker.specs.Slots.{linked_items, contents, held}
+use Rattle.checker.specs.declared.slots.Content.{Content}
 use Rattle.checker.specs.declared.slots.Slot.{Slot}
 use Rattle.checker.specs.declared.slots.Sort.{Sort}
 use Rattle.checker.proofs.Items.{names_append}
@@ -155,10 +155,10 @@ module _ (ls : List ℕ) where
 
 -- so what a list names, its slot does
 module _ {n row : ℕ} {ls before after : List ℕ} (f c : ℕ) (l : row ≤ n) where
-  pub list_noted : (two : Bool) → Noted n row ls (names_from two ls f c) before after → Noted n row ls (names_in (held ls (Slot.List (cond two Sort.Entries Sort.Nodes) f c))) before after
+  pub list_noted : (two : Bool) → Noted n row ls (names_from two ls f c) before after → Noted n row ls (names_in (contents ls (Content.List (cond two Sort.Entries Sort.Nodes) f c))) before after
   list_noted two m = noted_alike l (λ j h. linked_names ls two j h c f) m
 
-  pub names_noted : Noted n row ls [] before after → Noted n row ls (names_in (held ls (Slot.List Sort.Names f c))) before after
+  pub names_noted : Noted n row ls [] before after → Noted n row ls (names_in (contents ls (Content.List Sort.Names f c))) before after
   names_noted m = rw (linked_none ls c (drop (link_width * f) ls)) m
 
 -- the three slots of a row

@@ -9,6 +9,8 @@ use Rattle.grammar.specs.Rows.{Rows}
 use Rattle.foreign.specs.Check.{Item}
 use Rattle.checker.specs.Marks.{Settled}
 use Rattle.checker.specs.Test.{AllStanding, row_keeps}
+use Rattle.checker.specs.Slots.{content_of}
+use Rattle.checker.specs.declared.slots.Content.{Content}
 use Rattle.checker.specs.declared.slots.Slot.{Slot}
 
 -- what a mark becomes where a row names it so often
@@ -78,13 +80,16 @@ names_in (Item.list f c ∷ is) = names_in is
 names_in (Item.unused x ∷ is) = names_in is
 
 -- a slot's list of rows, if it is one, is in range
+abbrev pub InRange : (links : List ℕ) → Content → Type 0
+InRange ls Content.Nothing = Unit {0}
+InRange ls (Content.Child x) = Unit {0}
+InRange ls (Content.Option x) = Unit {0}
+InRange ls (Content.Symbol x) = Unit {0}
+InRange ls (Content.List o f n) = f + n ≤ length ls / link_width
+InRange ls (Content.Number l x) = Unit {0}
+
 abbrev pub InLists : (links : List ℕ) → Slot → Type 0
-InLists ls Slot.Nothing = Unit {0}
-InLists ls (Slot.Child x) = Unit {0}
-InLists ls (Slot.Option x) = Unit {0}
-InLists ls (Slot.Symbol x) = Unit {0}
-InLists ls (Slot.List o f n) = f + n ≤ length ls / link_width
-InLists ls (Slot.Number l x) = Unit {0}
+InLists ls s = InRange ls (content_of s.code s.x s.y)
 
 -- the mark of row j once the first n rows are gone through
 abbrev pub mark_by : (often : ℕ) (by : ℕ) → ℕ

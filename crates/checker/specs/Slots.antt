@@ -5,6 +5,7 @@ use Rattle.grammar.specs.Layout.{Slot as Form, below, child, option, symbol, nam
 use Rattle.grammar.specs.Room.{node_width, own_width, link_width}
 use Rattle.grammar.specs.Rows.{Rows}
 use Rattle.foreign.specs.Check.{Item}
+use Rattle.checker.specs.declared.slots.Content.{Content}
 use Rattle.checker.specs.declared.slots.Slot.{Slot}
 use Rattle.checker.specs.declared.slots.Sort.{Sort}
 use Rattle.checker.specs.declared.slots.Cut.{Cut}
@@ -48,14 +49,18 @@ lines (ss ∷ sss) = line ss ++ lines sss
 unfoldable pub table : Edition → List ℕ
 table e = lines (drop 1 (layouts e))
 
--- the slot of a code, of two numbers: the second is a list's alone
-unfoldable pub slot_of : (code x y : ℕ) → Slot
-slot_of c x y = cond (eqb c 0) Slot.Nothing (cond (eqb c 1) (Slot.Child x) (cond (eqb c 2) (Slot.Option x) (cond (ltb c 5) (Slot.Symbol x)
-    (cond (eqb c 5) (Slot.List Sort.Nodes x y) (cond (eqb c 6) (Slot.List Sort.Names x y) (cond (eqb c 7) (Slot.List Sort.Entries x y) (Slot.Number (c - 8) x)))))))
+-- the sort of a list, by its code
+abbrev pub sort_of : (code : ℕ) → Sort
+sort_of c = cond (eqb c 5) Sort.Nodes (cond (eqb c 6) Sort.Names Sort.Entries)
+
+-- what a slot of a code holds, of two numbers: the second is a list's alone
+unfoldable pub content_of : (code x y : ℕ) → Content
+content_of c x y = cond (eqb c 0) Content.Nothing (cond (eqb c 1) (Content.Child x) (cond (eqb c 2) (Content.Option x) (cond (ltb c 5) (Content.Symbol x)
+    (cond (ltb c 8) (Content.List (sort_of c) x y) (Content.Number (c - 8) x)))))
 
 -- the slot of a code whose first number stands at a place
 abbrev pub slot_at : (nodes : List ℕ) (code at : ℕ) → Slot
-slot_at ns c i = slot_of c (get_or ns i 0) (get_or ns (i + 1) 0)
+slot_at ns c i = record { code = c; x = get_or ns i 0; y = get_or ns (i + 1) 0 }
 
 -- number j of a row's line in the table
 abbrev pub cell : (table nodes : List ℕ) (row j : ℕ) → ℕ
@@ -80,13 +85,16 @@ linked_items o zero ls = []
 linked_items o (suc n) ls = link_items o (get_or ls 0 0) (get_or ls 1 0) (get_or ls 2 0) ++ linked_items o n (drop link_width ls)
 
 -- what a slot holds, with its links
+abbrev pub contents : (links : List ℕ) → Content → List Item
+contents ls Content.Nothing = []
+contents ls (Content.Child x) = Item.child x ∷ []
+contents ls (Content.Option x) = Item.option x ∷ []
+contents ls (Content.Symbol x) = Item.symbol x ∷ []
+contents ls (Content.List o f n) = Item.list f n ∷ linked_items o n (drop (link_width * f) ls)
+contents ls (Content.Number l x) = Item.number l x ∷ []
+
 abbrev pub held : (links : List ℕ) → Slot → List Item
-held ls Slot.Nothing = []
-held ls (Slot.Child x) = Item.child x ∷ []
-held ls (Slot.Option x) = Item.option x ∷ []
-held ls (Slot.Symbol x) = Item.symbol x ∷ []
-held ls (Slot.List o f n) = Item.list f n ∷ linked_items o n (drop (link_width * f) ls)
-held ls (Slot.Number l x) = Item.number l x ∷ []
+held ls s = contents ls (content_of s.code s.x s.y)
 
 -- so many unused numbers
 unfoldable pub spared : (count : ℕ) (xs : List ℕ) → List Item

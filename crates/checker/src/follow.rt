@@ -4,8 +4,9 @@ ghost use Rattle.checker.specs.Follow.{GoesOn, in_slots, FollowsAll};
 ghost use Rattle.checker.specs.Slots.{held};
 ghost use Rattle.checker.specs.Test.{AllStanding};
 
+use crate::rows::Rows;
 use crate::rule::{Broken, Rule};
-use crate::slots::{Cut, Slot, cut_row};
+use crate::slots::{Content, Cut, Slot, cut_row};
 
 // Where the links go on after a slot, if its list, where it has one, starts there.
 // Ruled out: a list that starts one further on; a list's count left out.
@@ -13,7 +14,7 @@ fn after_slot(s: Slot, from: usize) -> Option<usize>
     requires { from ≤ 8589934590 }
     ensures { GoesOn from (λ ls. held ls s) result }
 {
-    let Slot::List(_, first, count) = s else {
+    let Content::List(_, first, count) = s.content() else {
         return Some(from);
     };
     if first as usize != from {
@@ -35,13 +36,13 @@ fn after_row(c: Cut, from: usize) -> Option<usize>
 
 // How many links the lists of the rows have, if those of each follow those before it.
 // Ruled out: a later row that breaks it; the links of the last row left out.
-pub(crate) fn follow(table: &[u8], nodes: &[u32], count: u32) -> Result<usize, Broken>
-    requires { AllStanding table.now nodes.now count }
-    ensures { FollowsAll table.now nodes.now count result }
+pub(crate) fn follow(rows: &Rows<'_>) -> Result<usize, Broken>
+    requires { AllStanding rows.now.table.now rows.now.nodes.now rows.now.count }
+    ensures { FollowsAll rows.now.table.now rows.now.nodes.now rows.now.count result }
 {
     let mut links = 0;
-    for row in 0..count {
-        let Some(next) = after_row(cut_row(table, nodes, row), links) else {
+    for row in 0..rows.count {
+        let Some(next) = after_row(cut_row(rows.table, rows.nodes, row), links) else {
             return Err(Broken {
                 rule: Rule::Follows,
                 row,

@@ -4,12 +4,13 @@ ghost use Rattle.foreign.specs.Check.{Item};
 ghost use Rattle.grammar.specs.Handle.{absent};
 ghost use Rattle.grammar.specs.Room.{node_width, own_width, link_width};
 ghost use Rattle.checker.specs.Pass.{number, Passes};
-ghost use Rattle.checker.specs.Slots.{link_items, held, held_in, spared};
+ghost use Rattle.checker.specs.Slots.{link_items, contents, held, held_in, spared};
 ghost use Rattle.checker.specs.Test.{keep as keeps, keep_all, concerns, Linkable, Linked, Marked, Keeps, AllStanding, row_keeps};
 
 use crate::marks::{settle, skip};
+use crate::rows::Rows;
 use crate::rule::{Broken, Rule};
-use crate::slots::{Cut, Slot, Sort, cut_row};
+use crate::slots::{Content, Cut, Slot, Sort, cut_row};
 use ast::room::zero;
 use ast::{ABSENT, LINK_WIDTH, NODE_WIDTH, PARENT};
 
@@ -119,9 +120,10 @@ impl Asked {
 
     // A list: whether it is in range, and its links.
     // Ruled out: links of a list that is not in range.
+    #[inline(never)]
     fn list(self, of: Sort, from: u32, count: u32, links: &[u32], marks: &mut [u32]) -> bool
         requires { Marked (number self.rule) self.row self.symbols links.now marks.old }
-        ensures { Keeps (number self.rule) self.row self.symbols links.now (held links.now (Slot.List of from count)) marks.new result }
+        ensures { Keeps (number self.rule) self.row self.symbols links.now (contents links.now (Content.List of from count)) marks.new result }
     {
         let from = from as usize;
         let count = count as usize;
@@ -138,18 +140,19 @@ impl Asked {
         }
     }
 
-    // A slot, with its links.
+    // A slot, with its links. Most hold no list: the hints keep those in the loop over the rows.
+    #[inline(always)]
     fn slot(self, s: Slot, links: &[u32], marks: &mut [u32]) -> bool
         requires { Marked (number self.rule) self.row self.symbols links.now marks.old }
         ensures { Keeps (number self.rule) self.row self.symbols links.now (held links.now s) marks.new result }
     {
-        match s {
-            Slot::Nothing => true,
-            Slot::Child(x) => self.child(x),
-            Slot::Option(x) => self.option(x),
-            Slot::Symbol(x) => self.below(self.symbols, x),
-            Slot::List(of, from, count) => self.list(of, from, count, links, marks),
-            Slot::Number(limit, x) => self.below(limit, x),
+        match s.content() {
+            Content::Nothing => true,
+            Content::Child(x) => self.child(x),
+            Content::Option(x) => self.option(x),
+            Content::Symbol(x) => self.below(self.symbols, x),
+            Content::List(of, from, count) => self.list(of, from, count, links, marks),
+            Content::Number(limit, x) => self.below(limit, x),
         }
     }
 
@@ -178,20 +181,24 @@ impl Asked {
     }
 }
 
-// Whether each row keeps a rule, itself and in its links. Two marks a link are lent.
+// Whether each row keeps a rule, itself and in its links. Two marks a link are lent. Not by `each`: what a row leaves in the marks is known of the next row (`Marked`), and a
+// closure's contract tells of one call.
 // Ruled out: a later row that breaks it; a row whose links were settled by a row that they broke it in.
 pub(crate) fn pass(
+    rows: &Rows<'_>,
     rule: Rule,
     symbols: u32,
-    table: &[u8],
-    nodes: &[u32],
-    links: &[u32],
     marks: &mut [u32],
-    count: u32,
 ) -> Result<(), Broken>
-    requires { AllStanding table.now nodes.now count × (length links.now / link_width ≤ absent) × (2 * (length links.now / link_width) ≤ length marks.old) }
-    ensures { Passes rule (row_keeps (number rule) symbols table.now nodes.now links.now) count result }
+    requires { AllStanding rows.now.table.now rows.now.nodes.now rows.now.count × (length rows.now.links.now / link_width ≤ absent) × (2 * (length rows.now.links.now / link_width) ≤ length marks.old) }
+    ensures { Passes rule (row_keeps (number rule) symbols rows.now.table.now rows.now.nodes.now rows.now.links.now) rows.now.count result }
 {
+    let Rows {
+        table,
+        nodes,
+        links,
+        count,
+    } = *rows;
     zero(marks, 0, 2 * (links.len() / LINK_WIDTH));
     for row in 0..count {
         let a = Asked { rule, row, symbols };

@@ -6,17 +6,19 @@ mod keep;
 mod kinds;
 mod marks;
 mod name;
+mod rows;
 mod rule;
 mod slots;
 
 ghost use Rattle.std.specs.Prelude.{◌≡◌, length};
-ghost use Rattle.checker.specs.Slots.{rows};
+ghost use Rattle.checker.specs.Slots.{rows as rows_of};
 ghost use Rattle.checker.specs.Verdict.{rooms, given, Judgeable, EarlierKept, Judged, Tells};
 
 use crate::follow::follow;
 use crate::keep::pass;
 use crate::kinds::{known, rooted};
 use crate::name::{name, once, parents};
+use crate::rows::Rows;
 use crate::rule::{Broken, Rule};
 use crate::slots::slots;
 use ast::room::clear;
@@ -53,55 +55,41 @@ fn plain(code: u32) -> Verdict
 
 // Rules 4 to 9, where those before them hold. The parents are looked at while the marks are there, and told of last.
 // Ruled out: the first row where links are left over.
-fn judge_tree(
-    table: &[u8],
-    nodes: &[u32],
-    links: &[u32],
-    count: u32,
-    symbols: u32,
-    scratch: &mut [u32],
-) -> Result<(), Broken>
-    requires { Judgeable table.now nodes.now links.now count (length scratch.old) × EarlierKept table.now nodes.now links.now count symbols }
-    ensures { Judged table.now symbols (rows nodes.now links.now) result }
+fn judge_tree(rows: &Rows<'_>, symbols: u32, scratch: &mut [u32]) -> Result<(), Broken>
+    requires { Judgeable rows.now.table.now rows.now.nodes.now rows.now.links.now rows.now.count (length scratch.old) × EarlierKept rows.now.table.now rows.now.nodes.now rows.now.links.now rows.now.count symbols }
+    ensures { Judged rows.now.table.now symbols (rows_of rows.now.nodes.now rows.now.links.now) result }
 {
-    name(table, nodes, links, scratch, count);
-    once(scratch, count)?;
-    let end = count.saturating_sub(1);
-    if !rooted(nodes, count) {
+    name(rows, scratch);
+    once(scratch, rows.count)?;
+    let end = rows.count.saturating_sub(1);
+    if !rooted(rows) {
         return Err(Broken {
             rule: Rule::Rooted,
             row: end,
         });
     }
-    if follow(table, nodes, count)? != links.len() / LINK_WIDTH {
+    if follow(rows)? != rows.links.len() / LINK_WIDTH {
         return Err(Broken {
             rule: Rule::Follows,
             row: end,
         });
     }
-    let orphans = parents(nodes, scratch, count);
-    pass(Rule::Present, symbols, table, nodes, links, scratch, count)?;
-    pass(Rule::Clean, symbols, table, nodes, links, scratch, count)?;
+    let orphans = parents(rows, scratch);
+    pass(rows, Rule::Present, symbols, scratch)?;
+    pass(rows, Rule::Clean, symbols, scratch)?;
     orphans
 }
 
 // All nine rules, of rows that are there.
 // Ruled out: a later rule, though an earlier one is broken by a later row.
-fn judge(
-    table: &[u8],
-    nodes: &[u32],
-    links: &[u32],
-    count: u32,
-    symbols: u32,
-    scratch: &mut [u32],
-) -> Result<(), Broken>
-    requires { Judgeable table.now nodes.now links.now count (length scratch.old) }
-    ensures { Judged table.now symbols (rows nodes.now links.now) result }
+fn judge(rows: &Rows<'_>, symbols: u32, scratch: &mut [u32]) -> Result<(), Broken>
+    requires { Judgeable rows.now.table.now rows.now.nodes.now rows.now.links.now rows.now.count (length scratch.old) }
+    ensures { Judged rows.now.table.now symbols (rows_of rows.now.nodes.now rows.now.links.now) result }
 {
-    known(nodes, count)?;
-    pass(Rule::Ranges, symbols, table, nodes, links, scratch, count)?;
-    pass(Rule::Earlier, symbols, table, nodes, links, scratch, count)?;
-    judge_tree(table, nodes, links, count, symbols, scratch)
+    known(rows)?;
+    pass(rows, Rule::Ranges, symbols, scratch)?;
+    pass(rows, Rule::Earlier, symbols, scratch)?;
+    judge_tree(rows, symbols, scratch)
 }
 
 // Whether rows that another build wrote keep the rules, in an edition. It looks at the first rows of each room, as the counts n, m and s say; the symbols' numbers are not looked at. The
@@ -132,7 +120,13 @@ pub fn check(
         return plain(NO_EDITION);
     }
     let table = slots(edition);
-    let judged = judge(&table, &nodes[..high], &links[..long], n, s, scratch);
+    let rows = Rows {
+        table: &table,
+        nodes: &nodes[..high],
+        links: &links[..long],
+        count: n,
+    };
+    let judged = judge(&rows, s, scratch);
     clear(scratch, 0);
     match judged {
         Ok(()) => plain(0),

@@ -1,4 +1,5 @@
 // Marks on links, in a lent room from a place on: links that are settled are passed over, so that lists that overlap are not gone through again and again.
+// The place is a number beside the room: one room has the marks of rows and of two sorts of lists, and `Settled` speaks of all of it; `&mut marks[base..]` at each call says no less.
 ghost use Rattle.std.specs.Prelude.{◌+◌, ◌≤◌, ◌<◌, ◌≡◌, length, set};
 ghost use Rattle.checker.specs.Marks.{Skips};
 

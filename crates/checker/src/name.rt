@@ -1,4 +1,5 @@
 // Rules 4 and 9: which rows are named, and by which row. One pass marks each row that is named, in the order of the rows that name it; then the marks tell.
+// A mark is a number, as it lies in the lent room: 0, the row that names this one, or absent where several do (`mark_of` of specs/Named.antt).
 ghost use Rattle.std.specs.Prelude.{◌+◌, ◌-◌, ◌*◌, ◌/◌, ◌≤◌, ◌<◌, cond, ◌&&◌, ◌++◌, ◌≡◌, length, set};
 ghost use Rattle.grammar.specs.Room.{node_width, link_width};
 ghost use Rattle.checker.specs.Named.{noted, known as is_Known, second_of, names_from, names_in, Ready, Listed, Noted, InLists, Nameable, AllNamed, is_once, is_parent};
@@ -6,8 +7,9 @@ ghost use Rattle.checker.specs.Pass.{Passes};
 ghost use Rattle.checker.specs.Slots.{rows as rows_of, held};
 
 use crate::marks::{settle, skip};
+use crate::rows::Rows;
 use crate::rule::{Broken, Rule, each};
-use crate::slots::{Cut, Slot, Sort, cut_row};
+use crate::slots::{Content, Cut, Slot, Sort, cut_row};
 use ast::room::zero;
 use ast::{ABSENT, LINK_WIDTH, NODE_WIDTH, PARENT};
 
@@ -32,7 +34,7 @@ fn known(marks: &[u32], rows: usize, x: u32) -> bool
     x == ABSENT || (x as usize) < rows && marks[x as usize] == ABSENT
 }
 
-// The second row that a link names: a value, or none.
+// The second row that a link names: a value, or none. A link itself has absent for no value, so one number says both, where an Option would say it twice.
 fn other(links: &[u32], at: usize, two: bool) -> u32
     requires { link_width * at + 2 ≤ length links.now }
     ensures { result ≡ second_of two links.now at }
@@ -93,9 +95,9 @@ fn name_slot(marks: &mut [u32], rows: usize, links: &[u32], row: u32, s: Slot)
     requires { (row ≤ rows) × InLists links.now s × Ready rows links.now marks.old }
     ensures { Noted rows row links.now (names_in (held links.now s)) marks.old marks.new }
 {
-    match s {
-        Slot::Child(x) | Slot::Option(x) => mark(marks, row, x),
-        Slot::List(of, from, count) => {
+    match s.content() {
+        Content::Child(x) | Content::Option(x) => mark(marks, row, x),
+        Content::List(of, from, count) => {
             let from = from as usize;
             let count = count as usize;
             match of {
@@ -104,7 +106,7 @@ fn name_slot(marks: &mut [u32], rows: usize, links: &[u32], row: u32, s: Slot)
                 Sort::Entries => name_links(marks, rows, links, row, from, count, true),
             }
         }
-        Slot::Nothing | Slot::Symbol(_) | Slot::Number(_, _) => {}
+        Content::Nothing | Content::Symbol(_) | Content::Number(_, _) => {}
     }
 }
 
@@ -120,14 +122,15 @@ fn name_row(marks: &mut [u32], rows: usize, links: &[u32], row: u32, c: Cut)
 
 // Marks all rows. It asks that each names earlier rows alone, and for a mark a row and two a link.
 // Ruled out: a row that two rows name marked as the first's; a mark that was there before.
-pub(crate) fn name(table: &[u8], nodes: &[u32], links: &[u32], marks: &mut [u32], count: u32)
-    requires { Nameable table.now nodes.now links.now count marks.old }
-    ensures { AllNamed (rows_of nodes.now links.now) count marks.new }
+pub(crate) fn name(rows: &Rows<'_>, marks: &mut [u32])
+    requires { Nameable rows.now.table.now rows.now.nodes.now rows.now.links.now rows.now.count marks.old }
+    ensures { AllNamed (rows_of rows.now.nodes.now rows.now.links.now) rows.now.count marks.new }
 {
-    let rows = count as usize;
-    zero(marks, 0, rows + 2 * (links.len() / LINK_WIDTH));
-    for row in 0..count {
-        name_row(marks, rows, links, row, cut_row(table, nodes, row));
+    let count = rows.count as usize;
+    zero(marks, 0, count + 2 * (rows.links.len() / LINK_WIDTH));
+    for row in 0..rows.count {
+        let c = cut_row(rows.table, rows.nodes, row);
+        name_row(marks, count, rows.links, row, c);
     }
 }
 
@@ -155,9 +158,13 @@ fn adopted(nodes: &[u32], marks: &[u32], row: u32) -> bool
 
 // Rule 9: whether each row's parent is right.
 // Ruled out: 0 for the last row's.
-pub(crate) fn parents(nodes: &[u32], marks: &[u32], count: u32) -> Result<(), Broken>
-    requires { (node_width * count ≤ length nodes.now) × (count ≤ length marks.now) }
-    ensures { Passes Rule.Parents (is_parent nodes.now marks.now) count result }
+pub(crate) fn parents(rows: &Rows<'_>, marks: &[u32]) -> Result<(), Broken>
+    requires { (node_width * rows.now.count ≤ length rows.now.nodes.now) × (rows.now.count ≤ length marks.now) }
+    ensures { Passes Rule.Parents (is_parent rows.now.nodes.now marks.now) rows.now.count result }
 {
-    each(Rule::Parents, count, |row| adopted(nodes, marks, row))
+    each(
+        Rule::Parents,
+        rows.count,
+        |row| adopted(rows.nodes, marks, row),
+    )
 }

@@ -7,11 +7,11 @@ use Rattle.checker.proofs.judge_tree.Goals as goal
 use Rattle.checker.proofs.judge_tree.Goals.{After-parents-orphans}
 
 -- rules 4 to 6 hold, once the parents are looked at
-tree : (c : After-parents-orphans) → (let a = c.args in TreeKept a.table.now a.nodes.now a.links.now a.count a.symbols c.parents-orphans.result)
+tree : (c : After-parents-orphans) → (let r = c.args.rows.now in TreeKept r.table.now r.nodes.now r.links.now r.count c.args.symbols c.parents-orphans.result)
 tree c =
     let (j, k) = c.requires in
     let o = c.in_ok-once.ensures in
-    tree_kept j k c.name.ensures o.before (sym c.if-not-rooted.ensures) c.in_ok-follow.ensures c.if-branch-links.false c.parents-orphans.ensures
+    tree_kept j k c.name.ensures o.before (sym c.if-not-rooted.ensures) c.in_ok-follow.ensures c.if-branch-rows.false c.parents-orphans.ensures
 
 pub name-requires : goal.name-requires
 name-requires c = let (j, k) = c.requires in nameable j k refl
@@ -32,11 +32,11 @@ returns-in_err-follow c =
     let o = c.in_ok-once.ensures in
     rw (p.1, p.2) (judged_follows j k c.name.ensures o.before (sym c.if-not-rooted.ensures) c.in_err-follow.ensures)
 
-pub returns-then-branch-links : goal.returns-then-branch-links
-returns-then-branch-links c =
+pub returns-then-branch-rows : goal.returns-then-branch-rows
+returns-then-branch-rows c =
     let (j, k) = c.requires in
     let o = c.in_ok-once.ensures in
-    rw c.saturating_sub-end.ensures (judged_left_over j k c.name.ensures o.before (sym c.if-not-rooted.ensures) c.in_ok-follow.ensures c.if-branch-links.true)
+    rw c.saturating_sub-end.ensures (judged_left_over j k c.name.ensures o.before (sym c.if-not-rooted.ensures) c.in_ok-follow.ensures c.if-branch-rows.true)
 
 pub pass-requires : goal.pass-requires
 pass-requires c = let (j, k) = c.requires in (all_standing j k.kinds, j.few, omega (arith, j.room))

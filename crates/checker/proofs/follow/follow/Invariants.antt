@@ -3,4 +3,4 @@ use Rattle.checker.proofs.Following.{Following}
 use Rattle.checker.proofs.follow.follow.Given as goal
 
 abbrev pub invariant-loop-row : goal.invariant-loop-row
-invariant-loop-row l = Following l.table l.nodes l.row l.links
+invariant-loop-row l = Following l.rows.table.now l.rows.nodes.now l.row l.links

@@ -5,4 +5,4 @@ use Rattle.checker.proofs.Laws.{Held}
 use Rattle.checker.proofs.keep.pass.Given as goal
 
 abbrev pub invariant-loop-row : goal.invariant-loop-row
-invariant-loop-row l = Held (row_keeps (number l.rule) l.symbols l.table l.nodes l.links) l.row × Marked (number l.rule) l.row l.symbols l.links l.marks
+invariant-loop-row l = Held (row_keeps (number l.rule) l.symbols l.rows.table.now l.rows.nodes.now l.rows.links.now) l.row × Marked (number l.rule) l.row l.symbols l.rows.links.now l.marks

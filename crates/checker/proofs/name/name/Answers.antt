@@ -7,7 +7,7 @@ pub loop-row-init : goal.loop-row-init
 loop-row-init c = naming_none c.requires c.zero.ensures
 
 pub name_row-requires : goal.name_row-requires
-name_row-requires c = let (x, y, z) = row_lists c.requires c.loop-row-test.true c.cut_row.ensures in (omega arith, x, y, z, c.loop-row.invariant.ready)
+name_row-requires c = let (x, y, z) = row_lists c.requires c.loop-row-test.true c.cut_row-c.ensures in (omega arith, x, y, z, c.loop-row.invariant.ready)
 
 pub loop-row-preserved : goal.loop-row-preserved
-loop-row-preserved c = naming_more c.requires c.loop-row-test.true c.cut_row.ensures c.loop-row.invariant c.name_row.ensures
+loop-row-preserved c = naming_more c.requires c.loop-row-test.true c.cut_row-c.ensures c.loop-row.invariant c.name_row.ensures

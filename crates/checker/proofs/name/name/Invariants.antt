@@ -4,4 +4,4 @@ use Rattle.checker.proofs.Naming.{Naming}
 use Rattle.checker.proofs.name.name.Given as goal
 
 abbrev pub invariant-loop-row : goal.invariant-loop-row
-invariant-loop-row l = Naming (rows l.nodes l.links) l.rows l.row l.marks
+invariant-loop-row l = Naming (rows l.rows.nodes.now l.rows.links.now) l.count l.row l.marks

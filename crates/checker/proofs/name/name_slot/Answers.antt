@@ -5,13 +5,13 @@ use Rattle.checker.proofs.Walking.{list_noted, names_noted}
 use Rattle.checker.proofs.name.name_slot.Goals as goal
 
 pub returns-in-Nodes : goal.returns-in-Nodes
-returns-in-Nodes c = rw (c.in-List.is, c.in-Nodes.is) (list_noted _ _ c.requires.0 false c.name_links.ensures)
+returns-in-Nodes c = rw (← c.content.ensures, c.in-List.is, c.in-Nodes.is) (list_noted _ _ c.requires.0 false c.name_links.ensures)
 
 pub returns-in-Names : goal.returns-in-Names
-returns-in-Names c = let p = c.requires in rw (c.in-List.is, c.in-Names.is) (names_noted _ _ p.0 (noted_none p.0 p.2))
+returns-in-Names c = let p = c.requires in rw (← c.content.ensures, c.in-List.is, c.in-Names.is) (names_noted _ _ p.0 (noted_none p.0 p.2))
 
 pub returns-in-Entries : goal.returns-in-Entries
-returns-in-Entries c = rw (c.in-List.is, c.in-Entries.is) (list_noted _ _ c.requires.0 true c.name_links-in-Entries.ensures)
+returns-in-Entries c = rw (← c.content.ensures, c.in-List.is, c.in-Entries.is) (list_noted _ _ c.requires.0 true c.name_links-in-Entries.ensures)
 
 pub returns-in-Child : goal.returns-in-Child
-returns-in-Child c = let p = c.requires in rw c.mark.ensures (elim c.in-Child.is [ inl e ↦ rw e (noted_one _ p.0 p.2) | inr e ↦ rw e (noted_one _ p.0 p.2) ])
+returns-in-Child c = let p = c.requires in rw c.mark.ensures (elim c.in-Child.is [ inl e ↦ rw (← c.content.ensures, e) (noted_one _ p.0 p.2) | inr e ↦ rw (← c.content.ensures, e) (noted_one _ p.0 p.2) ])

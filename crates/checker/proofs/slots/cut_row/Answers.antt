@@ -28,4 +28,4 @@ pub slot_at-requires-3 : goal.slot_at-requires-3
 slot_at-requires-3 c = search (rules, at_third)
 
 pub returns : goal.returns
-returns c = cut_made _ _ _ c.slot_at.ensures c.from.ensures c.slot_at-2.ensures c.from-2.ensures c.slot_at-3.ensures c.from-3.ensures
+returns c = cut_made _ _ _ c.from.ensures c.slot_at.ensures c.from-2.ensures c.from-3.ensures c.slot_at-2.ensures c.from-4.ensures c.from-5.ensures c.slot_at-3.ensures c.from-6.ensures
