@@ -1,12 +1,12 @@
 -- `spread` meets its contract: from the last row to the first, each is marked as it stays.
-use Prim.Native.Nat.{◌-◌, ◌<◌, ◌≤◌}
+use Prim.Native.Nat.{◌-◌, ◌<◌}
 use native.Mathlib.Omega.{arith}
 use mathlib.Core.Path.{◌≡◌}
-use lib.ListN.{length, get_or}
+use lib.ListN.{length}
 use Rattle.parts.specs.Packed.{root_row}
 use Rattle.parts.proofs.Sizes.{parent_most}
 use Rattle.packing.specs.Seen.{seen}
-use Rattle.packing.proofs.Keeping.{spreads_none, spreads_row, spreads_kept}
+use Rattle.packing.proofs.Keeping.{spreads_row, spreads_kept}
 use Rattle.packing.proofs.keep.spread.Goals as goal
 use Rattle.packing.proofs.keep.spread.Goals.{In-loop-i}
 
@@ -15,9 +15,6 @@ root c = omega (arith, c.requires.1)
 
 under : (c : In-loop-i) → c.loop-i.i - 1 < root_row (seen c.args.rows)
 under c = omega (arith, c.requires.1, c.loop-i-test.true, c.loop-i.auto.i)
-
-pub loop-i-init : goal.loop-i-init
-loop-i-init c = spreads_none _ _ (omega (arith, c.requires.1))
 
 pub bounds-marks-parent : goal.bounds-marks-parent
 bounds-marks-parent c =

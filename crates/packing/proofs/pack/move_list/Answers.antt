@@ -1,7 +1,6 @@
 -- `move_list` meets its contract: the links so far are moved, and those from the place that is read on are as they were.
 use Prim.Native.Nat.{◌+◌}
 use native.Mathlib.Omega.{arith}
-use mathlib.Core.Path.{◌≡◌}
 use Rattle.packing.specs.Digits.{digit}
 use Rattle.packing.specs.Seen.{moves_of}
 use Rattle.packing.proofs.Moving.{none_listed, still_first, still_second, link_turn}
@@ -22,11 +21,5 @@ link_second-y-requires c =
     let l = c.loop-k in
     λ e. rw (still_second s.requires.back l.invariant.0) (s.requires.second (s.args.from + l.k) (omega arith) (omega arith) e)
 
-pub put_link-requires : goal.put_link-requires
-put_link-requires c = omega (arith, c.loop-k.invariant.0.done.size, c.requires.room, c.requires.back)
-
 pub loop-k-preserved : goal.loop-k-preserved
 loop-k-preserved c = (link_turn c.requires.back c.loop-k.invariant.0 c.link_first-x.ensures c.link_second-y.ensures c.put_link.ensures, omega arith)
-
-pub returns : goal.returns
-returns c = let e : c.loop-k.k ≡ c.args.count = omega arith in rw e at c.loop-k.invariant.0.done

@@ -1,15 +1,12 @@
 -- `move_row` meets its contract: the numbers so far are moved, and those from the one that is read on are as they were.
 use native.Mathlib.Omega.{arith}
-use mathlib.Core.Path.{◌≡◌, ◌∙◌}
+use mathlib.Core.Path.{◌∙◌}
 use Rattle.packing.specs.Seen.{moves_of}
-use Rattle.packing.proofs.Moving.{role_read, kind_of_row, none_rowed, still_number, number_turn}
+use Rattle.packing.proofs.Moving.{role_read, none_rowed, still_number, number_turn}
 use Rattle.packing.proofs.pack.move_row.Goals as goal
 
 pub loop-j-init : goal.loop-j-init
 loop-j-init c = let a = c.args in none_rowed (moves_of a.m) a.nodes.now a.row a.to
-
-pub at-requires : goal.at-requires
-at-requires c = let k = kind_of_row c.requires.stands in (k.least, k.most, omega arith)
 
 pub number-requires : goal.number-requires
 number-requires c =
@@ -22,6 +19,3 @@ loop-j-preserved c =
     let s = c in
     let l = c.loop-j in
     number_turn s.requires.back l.invariant c.at.ensures c.number.ensures (omega (arith, l.invariant.done.size, s.requires.back, s.requires.stands.room)) (omega arith)
-
-pub returns : goal.returns
-returns c = let l = c.loop-j in let e : l.j ≡ 10 = omega (arith, l.invariant.most) in rw e at l.invariant.done

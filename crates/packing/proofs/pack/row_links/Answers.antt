@@ -1,21 +1,14 @@
 -- `row_links` meets its contract: what is counted is the links of the lists among the numbers so far.
 use Prim.Native.Nat.{◌+◌, ◌*◌}
 use native.Mathlib.Omega.{arith}
-use mathlib.Core.Path.{◌≡◌}
 use Rattle.grammar.specs.Room.{node_width}
 use Rattle.packing.proofs.Digits.{no_list}
-use Rattle.packing.proofs.Moving.{kind_of_row, none_counted, plain_counted, list_counted}
+use Rattle.packing.proofs.Moving.{none_counted, plain_counted, list_counted}
 use Rattle.packing.proofs.pack.row_links.Goals as goal
 use Rattle.packing.proofs.pack.row_links.Goals.{then-is_list, else-is_list}
 
 pub loop-j-init : goal.loop-j-init
 loop-j-init c = let a = c.args in none_counted a.nodes.now a.row
-
-pub at-requires : goal.at-requires
-at-requires c = let k = kind_of_row c.requires in (k.least, k.most, omega arith)
-
-pub overflow_add-size-then-is_list-2 : goal.overflow_add-size-then-is_list-2
-overflow_add-size-then-is_list-2 c = let l = c.loop-j in omega (arith, l.invariant.few, l.invariant.most, c.type_inv.nodes (node_width * c.args.row + l.j + 1))
 
 pub loop-j-preserved : goal.loop-j-preserved
 loop-j-preserved c =
@@ -25,6 +18,3 @@ loop-j-preserved c =
       | then-is_list w ↦ list_counted l.invariant e (omega arith) (c.is_list.ensures.0 w.if-is_list.true) (omega (arith, c.type_inv.nodes (node_width * c.args.row + l.j + 1))) w.size-is
       | else-is_list w ↦ plain_counted l.invariant e (omega arith) (no_list c.is_list.ensures w.if-is_list.false) w.size-is
     ]
-
-pub returns : goal.returns
-returns c = let l = c.loop-j in let e : l.j ≡ 9 = omega (arith, l.invariant.most) in rw e at l.invariant.is

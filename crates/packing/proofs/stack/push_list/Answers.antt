@@ -7,7 +7,7 @@ use lib.ListN.{length}
 use Rattle.packing.specs.Digits.{digit}
 use Rattle.packing.specs.Roles.{link_parts, list_parts}
 use Rattle.packing.specs.Stack.{present}
-use Rattle.packing.proofs.Stacking.{pushed_none, pushed_both, present_both, none_present, none_left, list_more, list_all, list_rest}
+use Rattle.packing.proofs.Stacking.{pushed_none, pushed_both, present_both, none_present, none_left, list_more, list_rest}
 use Rattle.packing.proofs.stack.push_list.Goals as goal
 
 -- what one link more asks, where there is room for all
@@ -31,9 +31,3 @@ loop-left-preserved c =
     let a = c.args in
     let (p, q, r) = l.invariant in
     (rw (list_more (digit a.role) a.rows.links.now a.from a.count (l.left - 1) l.left (omega arith) q) (pushed_both _ _ p c.push_link-above.ensures), omega arith, c.push_link-above.auto.stack ∙ r)
-
-pub returns : goal.returns
-returns c =
-    let l = c.loop-left in
-    let a = c.args in
-    rw (list_all (digit a.role) a.rows.links.now a.from a.count l.left (omega arith)) at l.invariant.0

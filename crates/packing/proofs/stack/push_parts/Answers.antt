@@ -8,7 +8,6 @@ use Rattle.grammar.specs.Room.{node_width}
 use Rattle.packing.specs.Roles.{role, role_at, number_parts, numbers_parts}
 use Rattle.packing.specs.Stack.{present}
 use Rattle.packing.proofs.Ranges.{holds}
-use Rattle.packing.proofs.Slots.{stood}
 use Rattle.packing.proofs.Stacking.{pushed_none, none_present, pushed_both, present_both, add_zero, none_after, number_more, numbers_ask}
 use Rattle.packing.proofs.stack.push_parts.Goals as goal
 
@@ -26,13 +25,6 @@ kind_is ns i j = rw (add_zero (node_width * i)) refl
 pub loop-j-init : goal.loop-j-init
 loop-j-init c = let a = c.args in (pushed_none _ _ _ (rw (none_after a.rows.nodes.now a.rows.links.now a.row 9) none_present), omega arith, refl)
 
-pub at-requires : goal.at-requires
-at-requires c =
-    let s = c in
-    let st = stood s.requires.0.good s.requires.1 in
-    let z = add_zero (node_width * s.args.row) in
-    (rw z at st.least, rw z at st.most, omega (arith, c.loop-j.invariant.1))
-
 pub push_number-above-requires : goal.push_number-above-requires
 push_number-above-requires c =
     let l = c.loop-j in
@@ -49,6 +41,3 @@ loop-j-preserved c =
     let (p, q, r) = l.invariant in
     let e = c.at.ensures ∙ kind_is a.rows.nodes.now a.row (l.j - 1) in
     (rw (number_more a.rows.nodes.now a.rows.links.now a.row (l.j - 1) l.j (omega arith) q) (pushed_both _ _ p (rw e at c.push_number-above.ensures)), omega arith, c.push_number-above.auto.stack ∙ r)
-
-pub returns : goal.returns
-returns c = let z : c.loop-j.j ≡ 0 = omega arith in rw z at c.loop-j.invariant.0

@@ -1,5 +1,4 @@
 -- `Maps::number` meets its contract: one law for each kind of role.
-use native.Mathlib.Omega.{arith}
 use mathlib.Core.Path.{ap, sym, ◌∙◌}
 use Rattle.parts.specs.Moved.{moved_node}
 use Rattle.packing.specs.Digits.{digit}
@@ -7,21 +6,6 @@ use Rattle.packing.specs.Seen.{moves_of}
 use Rattle.packing.proofs.Digits.{lists, symbols_least, symbols_most}
 use Rattle.packing.proofs.Moving.{plain_moved, node_moved, first_moved, symbol_moved}
 use Rattle.packing.proofs.maps.Maps.number.Goals as goal
-
-pub row-requires : goal.row-requires
-row-requires c = c.requires.node (ap digit c.in-Child.is)
-
-pub symbol-requires : goal.symbol-requires
-symbol-requires c = c.requires.symbol (symbols_least c.in-Letters.is) (omega (arith, symbols_most c.in-Letters.is))
-
-pub overflow_sub-result : goal.overflow_sub-result
-overflow_sub-result c = c.requires.list (lists c.in-Nodes.is)
-
-pub overflow_add-result : goal.overflow_add-result
-overflow_add-result c = omega (arith, c.requires.fits (lists c.in-Nodes.is))
-
-pub overflow_cast-result : goal.overflow_cast-result
-overflow_cast-result c = omega (arith, c.requires.fits (lists c.in-Nodes.is))
 
 pub returns-in-Plain : goal.returns-in-Plain
 returns-in-Plain c = let a = c.args in sym (plain_moved (moves_of a.self) a.x (ap digit c.in-Plain.is))
