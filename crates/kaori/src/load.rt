@@ -1,5 +1,5 @@
 // The bytes of a file or of standard input, and what is said on standard error where there are none.
-ghost use Rattle.std.specs.Prelude.{◌≤◌, length, OnSome};
+ghost use Rattle.std.specs.Prelude.{◌≤◌, length, IfSome};
 
 use page::Line;
 use std::fs::File;
@@ -59,7 +59,7 @@ fn fill<'a, R: Read + AsRawFd + Drop>(
     large: &[u8],
     room: &'a mut [u8],
 ) -> Option<&'a [u8]>
-    ensures { OnSome result (λ text. length text.now ≤ length room.old) }
+    ensures { IfSome result (λ text. length text.now ≤ length room.old) }
 {
     let n = io::read_full(from.as_raw_fd(), room);
     let mut more = [0u8; 1];
@@ -84,7 +84,7 @@ pub(crate) fn load<'a>(
     large: &[u8],
     room: &'a mut [u8],
 ) -> Option<&'a [u8]>
-    ensures { OnSome result (λ text. length text.now ≤ length room.old) }
+    ensures { IfSome result (λ text. length text.now ≤ length room.old) }
 {
     if path == b"-".as_slice() {
         return fill(path, rt.stdin(), large, room);

@@ -1,5 +1,5 @@
 // The words that an argument may be, and the options before and behind a command.
-ghost use Rattle.std.specs.Prelude.{◌≡◌, ◌≤◌, ◌<◌, OnSome};
+ghost use Rattle.std.specs.Prelude.{◌≡◌, ◌≤◌, ◌<◌, IfSome};
 
 use crate::arguments::read;
 use crate::load::{complain, fail};
@@ -97,7 +97,7 @@ fn edition_at(rt: &HostRuntime, i: usize) -> Option<u32> {
 // The argument that is an option's value, with a complaint where there is none left.
 fn value(choice: Choice, end: usize, option: &[u8], why: &[u8]) -> Option<usize>
     requires { choice.next ≤ end }
-    ensures { OnSome result (λ i. (i ≡ choice.next) × (i < end)) }
+    ensures { IfSome result (λ i. (i ≡ choice.next) × (i < end)) }
 {
     if choice.next < end {
         return Some(choice.next);
@@ -109,7 +109,7 @@ fn value(choice: Choice, end: usize, option: &[u8], why: &[u8]) -> Option<usize>
 // The options after the one that argument `next` is; none, with a complaint, where it is wrong.
 fn option(rt: &HostRuntime, choice: Choice, flag: Flag, end: usize) -> Option<Choice>
     requires { choice.next < end }
-    ensures { OnSome result (λ after. (choice.next < after.next) × (after.next ≤ end)) }
+    ensures { IfSome result (λ after. (choice.next < after.next) × (after.next ≤ end)) }
 {
     let mut after = choice;
     after.next += 1;
@@ -136,7 +136,7 @@ fn option(rt: &HostRuntime, choice: Choice, flag: Flag, end: usize) -> Option<Ch
 // The options that stand from argument `next` on, up to `end` or to any other word; none, with a complaint, where one is wrong.
 pub(crate) fn options(rt: &HostRuntime, choice: Choice, end: usize) -> Option<Choice>
     requires { choice.next ≤ end }
-    ensures { OnSome result (λ after. (choice.next ≤ after.next) × (after.next ≤ end)) }
+    ensures { IfSome result (λ after. (choice.next ≤ after.next) × (after.next ≤ end)) }
 {
     let mut now = choice;
     while now.next < end {
