@@ -1,19 +1,11 @@
 // The words of each warning, and how to write what was perhaps meant, in the script's own words.
-ghost use Rattle.std.specs.Prelude.{◌≤◌, length};
-
-use crate::spots::{
-    after_brace, first_joined, going_on, in_condition, is_bare, kind, part_before, token_part,
-};
+use crate::Warning;
 use ast::kinds;
-use children::node;
 use diagnostics::line::place;
 use lint::Rule;
-use lint::reach::{first_past, sign};
-use page::hint::end_hint;
-use page::source::put_place;
-use page::words::{put_cell, put_excerpt};
-use page::{put, put_byte, put_number};
-use showing::cover::{Part, part_of};
+use page::Line;
+use page::hint::Style;
+use showing::cover::Part;
 
 // The most bytes of the script in a message, and in each of the two parts of what is to be written. A byte may take four places, and a line stays in its room: else its
 // first half would be written before it is made a string of JSON.
@@ -21,279 +13,175 @@ const MOST: usize = 72;
 
 const WHOLE: usize = 480;
 
-// The names of the rules, for programs: a cell of 16 bytes each.
-const NAMES: [u8; 64] = *b"reaching-not    cut-off         going-on        long-string     ";
-
-const NAME_CELL: usize = 16;
-
-fn number_of(rule: Rule) -> usize
-    ensures { result ≤ 3 }
-{
-    match rule {
-        Rule::ReachingNot => 0,
-        Rule::CutOff => 1,
-        Rule::GoingOn => 2,
-        _ => 3,
-    }
-}
-
-// Puts the name of a rule into a room, and answers its length.
-pub(crate) fn name_of(rule: Rule, out: &mut [u8; 4096]) -> usize
-    ensures { result ≤ 4096 }
-{
-    let table = NAMES;
-    let from = NAME_CELL * number_of(rule);
-    put_cell(&table, from, from + NAME_CELL, out, 0)
-}
-
-// A part of the script on one line.
-fn put_part(text: &[u8], start: u32, end: u32, out: &mut [u8; 4096], at: usize) -> usize
-    requires { at ≤ 4096 }
-    ensures { result ≤ 4096 }
-{
-    put_excerpt(text, start, end, MOST, out, at)
-}
-
-// The same, to be written.
-fn put_form(text: &[u8], start: u32, end: u32, out: &mut [u8; 4096], at: usize) -> usize
-    requires { at ≤ 4096 }
-    ensures { result ≤ 4096 }
-{
-    put_excerpt(text, start, end, WHOLE, out, at)
-}
-
-// Where the first token after the one at an offset starts.
-fn start_after(tokens: &[u32], offset: u32) -> u32 {
-    token_part(tokens, first_past(tokens, offset) + 1).start
-}
-
-// A `not` that took an `and` or an `or`.
-fn put_taken(text: &[u8], tokens: &[u32], part: Part, out: &mut [u8; 4096]) -> usize
-    ensures { result ≤ 4096 }
-{
-    let led = put(b"`not` takes all of this: ", out, 0);
-    put_part(text, start_after(tokens, part.start), part.end, out, led)
-}
-
-// A call or a sum over the end of a line.
-fn put_going_on(text: &[u8], tokens: &[u32], part: Part, k: usize, out: &mut [u8; 4096]) -> usize
-    ensures { result ≤ 4096 }
-{
-    let mark = token_part(tokens, k);
-    let led = put(b"this `", out, 0);
-    let marked = put_part(text, mark.start, mark.end, out, led);
-    let told = put(b"` goes on from the line before: ", out, marked);
-    put_part(text, part.start, part.end, out, told)
-}
-
-// A string over the end of a line.
-fn put_long(text: &[u8], part: Part, out: &mut [u8; 4096]) -> usize
-    ensures { result ≤ 4096 }
-{
-    let led = put(
-        b"this string goes on over the end of its line, up to ",
-        out,
-        0,
-    );
-    if part.end == 0 {
-        return led;
-    }
-    put_place(text, part.end - 1, out, led)
-}
-
-// Puts what is said of a row into a room, and answers how long it is.
-pub(crate) fn put_what(
-    rule: Rule,
-    text: &[u8],
-    tokens: &[u32],
-    nodes: &[u32],
-    covers: &[u32],
-    row: u32,
-    out: &mut [u8; 4096],
-) -> usize
-    ensures { result ≤ 4096 }
-{
-    let part = part_of(covers, row);
-    match rule {
-        Rule::ReachingNot => put_taken(text, tokens, part, out),
-        Rule::CutOff => put(
-            b"a new statement starts here: the one before ends at its `}`",
-            out,
-            0,
-        ),
-        Rule::GoingOn => put_going_on(text, tokens, part, going_on(tokens, nodes, row), out),
-        _ => put_long(text, part, out),
-    }
-}
-
-// A `not` on the first of what it took, from one offset up to another, in parentheses; that in its own, where it is a sum or the like, so that both editions read it alike.
-fn put_first_not(text: &[u8], start: u32, end: u32, bare: bool, out: &mut [u8; 4096]) -> usize
-    ensures { result ≤ 4096 }
-{
-    let led = put(b"  for `not` on the first alone, write: (not ", out, 0);
-    if bare {
-        let open = put_byte(b'(', out, led);
-        let said = put_form(text, start, end, out, open);
-        return put(b")) ", out, said);
-    }
-    let said = put_form(text, start, end, out, led);
-    put(b") ", out, said)
-}
-
-// `not` on its first operand, and on all that it took; row x is the leftmost `and` or `or`.
-fn show_nots(
-    text: &[u8],
-    tokens: &[u32],
-    nodes: &[u32],
-    part: Part,
-    x: u32,
-    style: u32,
-    out: &mut [u8; 4096],
-) {
-    let k = sign(tokens, nodes, x);
-    let from = start_after(tokens, part.start);
-    let bare = is_bare(tokens, nodes, node(nodes, x, 3), part.start);
-    let first = put_first_not(text, from, part_before(tokens, k).end, bare, out);
-    let one = put_form(text, token_part(tokens, k).start, part.end, out, first);
-    let more = end_hint(style, out, one);
-    let lead = put(b"  for `not` on all of it, write: not (", out, 0);
-    let taken = put_form(text, from, part.end, out, lead);
-    let all = put_byte(b')', out, taken);
-    end_hint(more, out, all);
-}
-
 // Whether a row of this kind is an operand once it stands in parentheses, and a token of this kind joins operands.
-fn can_go_on(sort: u32, sign: u32) -> bool {
-    match sort {
-        kinds::BLOCK | kinds::IF => match sign {
-            token::kinds::PLUS | token::kinds::MINUS => true,
-            _ => false,
-        },
-        _ => false,
+fn can_go_on(sort: u32, sign: Option<u32>) -> bool {
+    matches!(sort, kinds::BLOCK | kinds::IF)
+        && matches!(sign, Some(token::kinds::PLUS | token::kinds::MINUS))
+}
+
+impl Warning<'_, '_> {
+    // A part of the script on one line: MOST bytes of it in a message, and WHOLE where it is to be written.
+    fn put_part(self, part: Part, most: usize, line: &mut Line) {
+        line.put_excerpt(self.row.tree.text, part.start, part.end, most);
     }
-}
 
-// A statement in parentheses, with which a sum can start.
-fn show_grouped(text: &[u8], part: Part, mark: Part, style: u32, out: &mut [u8; 4096]) -> u32 {
-    let led = put(b"  to go on with it, write: (", out, 0);
-    let said = put_form(text, part.start, part.end, out, led);
-    let shut = put(b") ", out, said);
-    let signed = put_part(text, mark.start, mark.end, out, shut);
-    let all = put(b" ..", out, signed);
-    end_hint(style, out, all)
-}
-
-// What to write after a `}`; `k` is the token after it.
-fn show_cut(
-    text: &[u8],
-    tokens: &[u32],
-    part: Part,
-    sort: u32,
-    k: usize,
-    style: u32,
-    out: &mut [u8; 4096],
-) {
-    let mut more = style;
-    if can_go_on(sort, kind(tokens, k)) {
-        more = show_grouped(text, part, token_part(tokens, k), style, out);
+    // What the row covers, from the first token after its own on.
+    fn after_not(self) -> Part {
+        let part = self.row.part();
+        let after = self.part_after(self.first_past(part.start));
+        Part {
+            start: after.start,
+            end: part.end,
+        }
     }
-    let all = put(
-        b"  to keep it a new statement, write `;` after the `}`",
-        out,
-        0,
-    );
-    end_hint(more, out, all);
-}
 
-// A lead, and the line of an offset.
-fn put_line_of(lead: &[u8], text: &[u8], offset: u32, out: &mut [u8; 4096], at: usize) -> usize
-    requires { at ≤ 4096 }
-    ensures { result ≤ 4096 }
-{
-    let led = put(lead, out, at);
-    let here = place(text, offset as usize);
-    put_number(here.line, out, led)
-}
-
-// What to write at the end of the line before token k: the token, to go on.
-fn show_end(text: &[u8], tokens: &[u32], k: usize, style: u32, out: &mut [u8; 4096]) -> u32 {
-    let mark = token_part(tokens, k);
-    let end = part_before(tokens, k).end;
-    let led = put(b"  to go on, write the `", out, 0);
-    let marked = put_part(text, mark.start, mark.end, out, led);
-    let all = put_line_of(b"` at the end of line ", text, end, out, marked);
-    end_hint(style, out, all)
-}
-
-// And a `;`, to start a statement at token k.
-fn show_start(text: &[u8], tokens: &[u32], k: usize, style: u32, out: &mut [u8; 4096]) -> u32 {
-    let end = part_before(tokens, k).end;
-    let all = put_line_of(
-        b"  to start a new statement, write `;` at the end of line ",
-        text,
-        end,
-        out,
-        0,
-    );
-    end_hint(style, out, all)
-}
-
-// The two, but no statement starts in a condition.
-fn show_ends(
-    text: &[u8],
-    tokens: &[u32],
-    nodes: &[u32],
-    row: u32,
-    k: usize,
-    style: u32,
-    out: &mut [u8; 4096],
-) {
-    let mut more = style;
-    if !in_condition(nodes, row) {
-        more = show_start(text, tokens, k, style, out);
+    // A `not` that took an `and` or an `or`.
+    fn put_taken(self, line: &mut Line) {
+        line.put(b"`not` takes all of this: ");
+        self.put_part(self.after_not(), MOST, line);
     }
-    show_end(text, tokens, k, more, out);
-}
 
-// What to write for a string.
-fn show_quote(text: &[u8], part: Part, style: u32, out: &mut [u8; 4096]) {
-    let all = put_line_of(
-        b"  if its closing quote is missing, write it on line ",
-        text,
-        part.start,
-        out,
-        0,
-    );
-    end_hint(style, out, all);
-}
+    // A call or a sum over the end of a line.
+    fn put_going_on(self, line: &mut Line) {
+        line.put(b"this `");
+        self.put_part(self.token_part(self.going_on()), MOST, line);
+        line.put(b"` goes on from the line before: ");
+        self.put_part(self.row.part(), MOST, line);
+    }
 
-// Shows how to write what was perhaps meant.
-pub(crate) fn show_forms(
-    rule: Rule,
-    text: &[u8],
-    tokens: &[u32],
-    nodes: &[u32],
-    covers: &[u32],
-    row: u32,
-    style: u32,
-    out: &mut [u8; 4096],
-) {
-    let part = part_of(covers, row);
-    match rule {
-        Rule::ReachingNot => {
-            let x = first_joined(tokens, nodes, row);
-            show_nots(text, tokens, nodes, part, x, style, out);
+    // A string over the end of a line.
+    fn put_long(self, line: &mut Line) {
+        line.put(b"this string goes on over the end of its line, up to ");
+        if let Some(last) = self.row.part().end.checked_sub(1) {
+            line.put_place(self.row.tree.text, last);
         }
-        Rule::CutOff => {
-            let k = after_brace(tokens, nodes, row);
-            show_cut(text, tokens, part, node(nodes, row, 0), k, style, out);
+    }
+
+    // What is said of the row.
+    pub(crate) fn put_what(self, line: &mut Line) {
+        match self.rule {
+            Rule::ReachingNot => self.put_taken(line),
+            Rule::CutOff => {
+                line.put(b"a new statement starts here: the one before ends at its `}`")
+            }
+            Rule::GoingOn => self.put_going_on(line),
+            _ => self.put_long(line),
         }
-        Rule::GoingOn => {
-            let k = going_on(tokens, nodes, row);
-            show_ends(text, tokens, nodes, row, k, style, out);
+    }
+
+    // A `not` on the first of what it took in parentheses; that in its own, where it is a sum or the like, so that both editions read it alike.
+    fn put_first_not(self, first: Part, bare: bool, line: &mut Line) {
+        line.put(b"  for `not` on the first alone, write: (not ");
+        if bare {
+            line.put_byte(b'(');
         }
-        _ => {
-            show_quote(text, part, style, out);
+        self.put_part(first, WHOLE, line);
+        if bare {
+            line.put_byte(b')');
+        }
+        line.put(b") ");
+    }
+
+    // `not` on its first operand, and on all that it took; row x is the leftmost `and` or `or`.
+    fn show_nots(self, x: u32, style: Style, line: &mut Line) {
+        let part = self.row.part();
+        let taken = self.after_not();
+        let k = self.sign(x);
+        let first = Part {
+            start: taken.start,
+            end: self.part_before(k).end,
+        };
+        let rest = Part {
+            start: self.token_part(k).start,
+            end: part.end,
+        };
+        self.put_first_not(first, self.is_bare(self.node(x, 3), part.start), line);
+        self.put_part(rest, WHOLE, line);
+        let more = line.end_hint(style);
+        line.put(b"  for `not` on all of it, write: not (");
+        self.put_part(taken, WHOLE, line);
+        line.put_byte(b')');
+        line.end_hint(more);
+    }
+
+    // A statement in parentheses, with which a sum can start; its sign is a token.
+    fn show_grouped(self, sign: Part, style: Style, line: &mut Line) -> Style {
+        line.put(b"  to go on with it, write: (");
+        self.put_part(self.row.part(), WHOLE, line);
+        line.put(b") ");
+        self.put_part(sign, MOST, line);
+        line.put(b" ..");
+        line.end_hint(style)
+    }
+
+    // What to write after a `}`.
+    fn show_cut(self, style: Style, line: &mut Line) {
+        let k = self.after_brace();
+        let mut more = style;
+        if can_go_on(self.row.kind(), self.token_kind(k)) {
+            more = self.show_grouped(self.token_part(k), style, line);
+        }
+        line.put(b"  to keep it a new statement, write `;` after the `}`");
+        line.end_hint(more);
+    }
+
+    // A lead, and the line of an offset.
+    fn put_line_of(self, lead: &[u8], offset: u32, line: &mut Line) {
+        line.put(lead);
+        line.put_number(place(self.row.tree.text, offset as usize).line);
+    }
+
+    // What to write at the end of the line before token k: the token, to go on.
+    fn show_end(self, k: usize, style: Style, line: &mut Line) {
+        line.put(b"  to go on, write the `");
+        self.put_part(self.token_part(k), MOST, line);
+        self.put_line_of(b"` at the end of line ", self.part_before(k).end, line);
+        line.end_hint(style);
+    }
+
+    // And a `;`, to start a statement at token k.
+    fn show_start(self, k: usize, style: Style, line: &mut Line) -> Style {
+        let end = self.part_before(k).end;
+        self.put_line_of(
+            b"  to start a new statement, write `;` at the end of line ",
+            end,
+            line,
+        );
+        line.end_hint(style)
+    }
+
+    // The two, but no statement starts in a condition.
+    fn show_ends(self, style: Style, line: &mut Line) {
+        let k = self.going_on();
+        let mut more = style;
+        if !self.in_condition() {
+            more = self.show_start(k, style, line);
+        }
+        self.show_end(k, more, line);
+    }
+
+    // What to write for a string.
+    fn show_quote(self, style: Style, line: &mut Line) {
+        let start = self.row.part().start;
+        self.put_line_of(
+            b"  if its closing quote is missing, write it on line ",
+            start,
+            line,
+        );
+        line.end_hint(style);
+    }
+
+    // Shows how to write what was perhaps meant. A `not` that meets its rule took something.
+    pub(crate) fn show_forms(self, style: Style, line: &mut Line) {
+        match self.rule {
+            Rule::ReachingNot => {
+                if let Some(x) = self.first_joined() {
+                    self.show_nots(x, style, line);
+                }
+            }
+            Rule::CutOff => self.show_cut(style, line),
+            Rule::GoingOn => self.show_ends(style, line),
+            _ => self.show_quote(style, line),
         }
     }
 }
