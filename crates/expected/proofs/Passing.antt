@@ -18,11 +18,12 @@ use Rattle.grammar.proofs.Stack.{want, links, mark, Stack, Turn, Result, took, o
 use Rattle.grammar.proofs.Stopping.{marks, under_mark}
 use Rattle.grammar.proofs.Tests.{within}
 use Rattle.grammar.proofs.Verdicts.{Verdict, takes, passes, refuses, unknown, Sees, look}
-use Rattle.expected.specs.Cells.{states, cell, joined, list, opens_of, entry, taken, passed, barred, plain, barred_by, only_marks, decoded, sound, Sound, more, Acts, Pushed}
+use Rattle.expected.specs.Cells.{states, cell, joined, list, opens_of, entry, taken, passed, barred, plain, barred_by, only_marks, decoded, sound, Sound, more, Acts, Pushed, bar_number, number_of}
 use Rattle.expected.specs.Steps.{TooDeep, Fills, Taken, Ends, Bars, Deepens, Passing, Above, StopsAt, StopCase, Stops, Admits}
 use Rattle.expected.specs.declared.stack.Stop.{Stop}
+use Rattle.expected.specs.declared.tables.Action.{Action}
+use Rattle.expected.specs.declared.tables.Bar.{Bar}
 use Rattle.expected.proofs.Laws.{opens_right}
-use native.Mathlib.Decide.{dec_lt}
 use Rattle.std.specs.Prelude.{Some, None}
 
 -- an opening passes the limit before P and K: what comes of it, by what P is seen to do
@@ -272,6 +273,17 @@ module _ {e : Edition} {x top : ℕ} {room : List ℕ} {t n : ℕ} (p : Above e 
   pub one_mark : 64 ≤ get_or room t 0 → Above e x top room (t + 1) (n + 1)
   one_mark l = record { passing = λ c. pass_mark (p.passing c) h l; counted = omega (arith, p.counted, mark_less (p.passing 0) h l); few = omega (arith, p.few) }
 
+pub bar_few : (b : Bar) → bar_number b < 5
+bar_few Bar.Token = omega arith
+bar_few Bar.Operand = omega arith
+bar_few Bar.For = omega arith
+bar_few Bar.OpenedOperand = omega arith
+bar_few Bar.OpenedBlock = omega arith
+
+-- what a state is said to do, by another name of it
+pub met : {e : Edition} {v x : ℕ} {a b : Action} → a ≡ b → Acts e v x (number_of (Some a)) → Acts e v x (number_of (Some b))
+met z k = rw z at k
+
 -- what the first stop says
 pub as_stop : {e : Edition} {x top : ℕ} {room : List ℕ} {s : Stop} → Stops e x top room (Some s) → StopsAt e x top room s
 unfolding StopCase
@@ -286,15 +298,16 @@ module _ {e : Edition} {x top : ℕ} {room : List ℕ} where
   pub admits_over : ((c : ℕ) → Passing e x c top room room (length room)) → Admits e x (decoded (drop top room)) true
   admits_over p = record { result = λ c. over; goes = λ c. (finished (p c) (omega arith)).goes; yes = λ t c. tt; no = λ c t. tt }
 
-  pub admits_stopped : {s : Stop} → StopsAt e x top room s → Admits e x (decoded (drop top room)) (ltb 5 s.number)
-  admits_stopped {s} w = elim (dec_lt 5 s.number) [
-    | yes i ↦ rw (lt-ltb 5 s.number i) (record { result = λ c. took (joined c (list (s.number - 6)) ++ decoded (drop (suc s.at) room)); goes = λ c. goes_on (p c) w.inside w.state w.acts i; yes = λ t c. tt; no = λ c t. tt })
-    | no i ↦
-        let l : s.number < 5 = omega (arith, w.stops) in
-        let b : (c : ℕ) → Bars e x c top room room s.at (marks (decoded (drop s.at room))) s.number = λ c. bar (p c) w.inside w.state w.acts l refl in
-        let k : s.number ≤ 5 = omega arith in
-        rw (le-ltb 5 s.number k) (record { result = λ c. bars ((b c).stands ++ decoded (drop (suc s.at) room)); goes = λ c. (b c).goes; yes = λ t c. absurd t; no = λ c t. t })
-  ]
+  pub admits_taken : {s : Stop} {k : ℕ} → StopsAt e x top room s → s.action ≡ Action.Takes k → Admits e x (decoded (drop top room)) true
+  admits_taken {s} {k} w z =
+      let i : 5 < 6 + k = omega arith in
+      record { result = λ c. took (joined c (list (6 + k - 6)) ++ decoded (drop (suc s.at) room)); goes = λ c. goes_on (w.above.passing c) w.inside w.state (met z w.acts) i; yes = λ t c. tt; no = λ c t. tt }
+
+  pub admits_other : {s : Stop} → StopsAt e x top room s → ((k : ℕ) → s.action ≡ Action.Takes k → ⊥) → Admits e x (decoded (drop top room)) false
+  admits_other {s} w n = go s.action refl
     where
-      p : (c : ℕ) → Passing e x c top room room s.at
-      p = w.above.passing
+      go : (a : Action) → s.action ≡ a → Admits e x (decoded (drop top room)) false
+      go (Action.Takes k) z = absurd (n k z)
+      go (Action.Bars a) z =
+          let b : (c : ℕ) → Bars e x c top room room s.at (marks (decoded (drop s.at room))) (bar_number a) = λ c. bar (w.above.passing c) w.inside w.state (met z w.acts) (bar_few a) refl in
+          record { result = λ c. bars ((b c).stands ++ decoded (drop (suc s.at) room)); goes = λ c. (b c).goes; yes = λ t c. absurd t; no = λ c t. t }

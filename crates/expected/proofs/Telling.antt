@@ -36,6 +36,8 @@ use Rattle.expected.specs.declared.stack.Step.{Step}
 use Rattle.expected.proofs.Chaining.{extended, count_length}
 use Rattle.expected.proofs.Counting.{count_right, lowest_right}
 use Rattle.std.specs.Prelude.{Some, None}
+use Rattle.expected.specs.declared.tables.Bar.{Bar}
+use Rattle.expected.specs.Cells.{bar_number}
 use Rattle.expected.proofs.Passing.{marks_append}
 
 -- the empty set
@@ -320,11 +322,11 @@ module _ {n : ℕ} {ts : List ℕ} {limit code place : ℕ} where
 
 -- what a step's answer says
 module _ {e : Edition} {x c top : ℕ} {before after : List ℕ} where
-  pub as_barred : {t d a : ℕ} (r : Step) → r ≡ Step.Barred t d a → Stepped e x c top before after r → Bars e x c top before after t d a
+  pub as_barred : {t d : ℕ} {b : Bar} (r : Step) → r ≡ Step.Barred t d b → Stepped e x c top before after r → Bars e x c top before after t d (bar_number b)
   unfolding Case
   as_barred r k s = (subst (Stepped e x c top before after) k s).says
 
-  pub as_over : (r : Step) → ((t d : ℕ) → r ≡ Step.Took t d → ⊥) → ((t d a : ℕ) → r ≡ Step.Barred t d a → ⊥) → Stepped e x c top before after r → Ends e x c (decoded (drop top before))
+  pub as_over : (r : Step) → ((t d : ℕ) → r ≡ Step.Took t d → ⊥) → ((t d : ℕ) (b : Bar) → r ≡ Step.Barred t d b → ⊥) → Stepped e x c top before after r → Ends e x c (decoded (drop top before))
   unfolding Case
   as_over (Step.Took t d) f g s = absurd (f t d refl)
   as_over Step.Over f g s = s.says

@@ -1,5 +1,5 @@
 -- What is left to read, as numbers: the states of the machine that crate grammar's Stack.antt defines, and what a stack of them says.
-use Rattle.std.specs.Prelude.{ℕ, zero, suc, ◌+◌, ◌*◌, ◌-◌, ◌/◌, ◌%◌, ◌≤◌, ◌<◌, Bool, true, false, cond, ◌&&◌, ◌||◌, List, [], ◌∷◌, ◌++◌, ◌≡◌, eqb, ltb, leb, T, length, get_or, drop}
+use Rattle.std.specs.Prelude.{ℕ, zero, suc, ◌+◌, ◌*◌, ◌-◌, ◌/◌, ◌%◌, ◌≤◌, ◌<◌, Bool, true, false, cond, ◌&&◌, ◌||◌, List, [], ◌∷◌, ◌++◌, Option, Some, None, ◌≡◌, eqb, ltb, leb, T, length, get_or, drop}
 use Rattle.std.proofs.Math.Seq.{slice}
 use Rattle.grammar.specs.Edition.{Edition}
 use Rattle.grammar.specs.Kaori.{Table, Form, returned, bindings, path_name, otherwise, branch, operand, body, value, comma, script_items, block_items, arguments, entries, names, may_end, must_end, assigned, dots, calls, operators, name, an_expression, a_block, expression, block, above, script}
@@ -9,6 +9,8 @@ use Rattle.grammar.specs.Phrase.{empty, token, part, nested, node, choice, chain
 use Rattle.grammar.proofs.Stack.{want, links, mark, Stack}
 use Rattle.grammar.proofs.Verdicts.{Verdict, takes, passes, refuses, unknown, look}
 use Rattle.expected.specs.Tables.{lengths, lists}
+use Rattle.expected.specs.declared.tables.Action.{Action}
+use Rattle.expected.specs.declared.tables.Bar.{Bar}
 
 -- between two tokens nothing else is left but these, and marks. The links of all six levels stand together, and so do an operand's and those of its level on.
 unfoldable pub states : List (Stack Table Label)
@@ -145,6 +147,19 @@ entry c (suc (suc (suc zero))) = barred 9 (mark an_expression c ∷ [])
 entry c (suc (suc (suc (suc zero)))) = barred 8 (mark a_block c ∷ [])
 entry c (suc (suc (suc (suc (suc zero))))) = passed
 entry c (suc (suc (suc (suc (suc (suc k)))))) = taken (joined c (list k))
+
+-- the table's number of how a kind is barred, and of what a state does to it
+abbrev pub bar_number : Bar → ℕ
+bar_number Bar.Token = 0
+bar_number Bar.Operand = 1
+bar_number Bar.For = 2
+bar_number Bar.OpenedOperand = 3
+bar_number Bar.OpenedBlock = 4
+
+abbrev pub number_of : Option Action → ℕ
+number_of None = 5
+number_of (Some (Action.Bars b)) = bar_number b
+number_of (Some (Action.Takes k)) = 6 + k
 
 -- the column of a kind: edition 2 reads four kinds in its own way
 unfoldable pub column_of : Edition → ℕ → ℕ

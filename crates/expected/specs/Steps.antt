@@ -10,7 +10,7 @@ use Rattle.grammar.proofs.Expected.{Stands}
 use Rattle.grammar.proofs.Overflow.{Overflows}
 use Rattle.grammar.proofs.Places.{place_of}
 use Rattle.grammar.proofs.Stopping.{marks, Opens, Meets}
-use Rattle.expected.specs.Cells.{decoded, barred, barred_by, entry, only_marks, Sound, Acts}
+use Rattle.expected.specs.Cells.{decoded, barred, barred_by, entry, only_marks, Sound, Acts, bar_number, number_of}
 use Rattle.expected.specs.declared.stack.Step.{Step}
 use Rattle.expected.specs.declared.stack.Stop.{Stop}
 
@@ -56,7 +56,7 @@ pub record Bars (e : Edition) (x c top : ℕ) (before after : List ℕ) (t d a :
 unfoldable pub Case : (e : Edition) (x c top : ℕ) (before after : List ℕ) → Step → Type 0
 Case e x c top before after (Step.Took t d) = Taken e x c top before after t d
 Case e x c top before after Step.Over = Ends e x c (decoded (drop top before))
-Case e x c top before after (Step.Barred t d a) = Bars e x c top before after t d a
+Case e x c top before after (Step.Barred t d b) = Bars e x c top before after t d (bar_number b)
 
 pub record Stepped (e : Edition) (x c top : ℕ) (before after : List ℕ) (r : Step) : Type 0 where
   pub says : Case e x c top before after r
@@ -81,13 +81,12 @@ pub record Above (e : Edition) (x top : ℕ) (room : List ℕ) (t n : ℕ) : Typ
   pub counted : marks (decoded (drop top room)) ≡ n + marks (decoded (drop t room))
   pub few : n ≤ t
 
--- the cell there stops the kind: the number says how
+-- the cell there stops the kind
 pub record StopsAt (e : Edition) (x top : ℕ) (room : List ℕ) (s : Stop) : Type 0 where
   pub above : Above e x top room s.at s.marks
   pub inside : s.at < length room
   pub state : get_or room s.at 0 < 64
-  pub acts : Acts e (get_or room s.at 0) x s.number
-  pub stops : s.number ≡ 5 → ⊥
+  pub acts : Acts e (get_or room s.at 0) x (number_of (Some s.action))
 
 unfoldable pub StopCase : (e : Edition) (x top : ℕ) (room : List ℕ) → Option Stop → Type 0
 StopCase e x top room (Some s) = StopsAt e x top room s

@@ -8,7 +8,7 @@ mod tables;
 ghost use Rattle.std.specs.Prelude.{◌+◌, ◌≤◌, ◌<◌, [], ◌≡◌, length, drop, take};
 ghost use Rattle.grammar.specs.Edition.{edition as the-edition};
 ghost use Rattle.grammar.proofs.Stopping.{opened, marks};
-ghost use Rattle.expected.specs.Cells.{decoded, Sound};
+ghost use Rattle.expected.specs.Cells.{decoded, bar_number, Sound};
 ghost use Rattle.expected.specs.Steps.{Gathers};
 ghost use Rattle.expected.specs.Chains.{Chained};
 ghost use Rattle.expected.specs.Left.{AskedOf, Asks, Asked, Reached, LeftAt};
@@ -16,7 +16,7 @@ ghost use Rattle.expected.specs.Tells.{Tells};
 ghost use Rattle.expected.specs.Parts.{Extends, Inside, lowest_of, Filled, Nothing, code_of, opened_by};
 
 use crate::stack::{Step, admits, advance};
-use crate::tables::{MARK, NO_BLOCK, NO_FOR, NO_OPERAND, NO_OPERAND_OPENED};
+use crate::tables::{Bar, MARK};
 use token::editions;
 use token::kinds::EOF;
 use token::list::kind_at;
@@ -107,15 +107,14 @@ fn open(room: &[u32], top: usize, most: usize) -> Chain
     c
 }
 
-// A chain with what the number of the table's says was opened at this token.
-fn inside(mut c: Chain, number: usize, at: u32) -> Chain
-    requires number_bound { number < 5 }
-    requires count_bound { 3 ≤ number → c.count < 64 }
-    ensures { Inside c number at result }
+// A chain with what was opened at this token.
+fn inside(mut c: Chain, bar: Bar, at: u32) -> Chain
+    requires { 3 ≤ bar_number bar → c.count < 64 }
+    ensures { Inside c (bar_number bar) at result }
 {
-    match number {
-        NO_OPERAND_OPENED => c.push(sorts::EXPRESSION, at),
-        NO_BLOCK => c.push(sorts::BLOCK, at),
+    match bar {
+        Bar::OpenedOperand => c.push(sorts::EXPRESSION, at),
+        Bar::OpenedBlock => c.push(sorts::BLOCK, at),
         _ => {}
     }
     c
@@ -209,27 +208,25 @@ fn asks(length: usize, edition: u32, limit: u32, code: u32, at: usize) -> bool
         && at < length / 3
 }
 
-// The refusal that a number of the table's stands for.
-fn code_of(number: usize) -> u32
-    requires { number < 5 }
-    ensures { result ≡ code_of number }
+// The refusal by which a kind is barred.
+fn code_of(bar: Bar) -> u32
+    ensures { result ≡ code_of (bar_number bar) }
 {
-    match number {
-        NO_OPERAND | NO_OPERAND_OPENED => OPERAND,
-        NO_FOR => FOR,
-        _ => REQUIRED,
+    match bar {
+        Bar::Token | Bar::OpenedBlock => REQUIRED,
+        Bar::Operand | Bar::OpenedOperand => OPERAND,
+        Bar::For => FOR,
     }
 }
 
-// How many constructs it opens at its token.
-fn opened_by(number: usize) -> usize
-    requires { number < 5 }
-    ensures { result ≡ opened_by number }
+// How many constructs are opened at a token where its kind is barred.
+fn opened_by(bar: Bar) -> usize
+    ensures { result ≡ opened_by (bar_number bar) }
 {
-    if number < NO_OPERAND_OPENED {
-        return 0;
+    match bar {
+        Bar::OpenedOperand | Bar::OpenedBlock => 1,
+        _ => 0,
     }
-    1
 }
 
 // What is told at a token up to which all tokens are taken within the limit: the cells from the top on are left, with so many constructs open. The kind there is taken,
@@ -262,18 +259,18 @@ fn tell(
             fill(0, open(room, t, most))
         }
         Step::Over => nothing(),
-        Step::Barred(t, d, number) => {
-            if most < d + opened_by(number) {
+        Step::Barred(t, d, bar) => {
+            if most < d + opened_by(bar) {
                 if code != DEEP {
                     return nothing();
                 }
                 return fill(0, open(room, t + 1, most));
             }
-            if code != code_of(number) {
+            if code != code_of(bar) {
                 return nothing();
             }
             let outer = open(room, t + 1, most);
-            fill(kinds(room, top, edition), inside(outer, number, at))
+            fill(kinds(room, top, edition), inside(outer, bar, at))
         }
     }
 }

@@ -5,23 +5,22 @@ ghost use Rattle.grammar.proofs.Stopping.{marks};
 ghost use Rattle.expected.specs.Cells.{decoded, Sound};
 ghost use Rattle.expected.specs.Steps.{Stepped, Stops, Admits};
 
-use crate::tables::{MARK, PASSES, TAKES, action, opens, push};
+use crate::tables::{Action, Bar, MARK, action_on, opens, push};
 
-// A kind is taken: the stack's top is then here, and so many constructs are open. Or nothing was left to read. Or the cell here bars it, with so many open below it, by
-// this number of the table's.
+// A kind is taken: the stack's top is then here, and so many constructs are open. Or nothing was left to read. Or the cell here bars it, with so many open below it.
 #[derive(Drop)]
 pub(crate) enum Step {
     Took(usize, usize),
     Over,
-    Barred(usize, usize, usize),
+    Barred(usize, usize, Bar),
 }
 
-// The first cell that doesn't pass a kind on, how many marks stand above it, and the table's number for it.
+// The first cell that doesn't pass a kind on, how many marks stand above it, and what it does to the kind.
 #[derive(Drop)]
 struct Stop {
     at: usize,
     marks: usize,
-    number: usize,
+    action: Action,
 }
 
 // Where a stack whose top is here stops a kind; nowhere, where all of its cells pass it on.
@@ -38,9 +37,8 @@ fn first_stop(room: &[u32], top: usize, edition: u32, kind: u32) -> Option<Stop>
             marks += 1;
             continue;
         }
-        let number = action(edition, v as usize, kind);
-        if number != PASSES {
-            return Some(Stop { at, marks, number });
+        if let Some(action) = action_on(edition, v as usize, kind) {
+            return Some(Stop { at, marks, action });
         }
     }
     None
@@ -68,12 +66,13 @@ pub(crate) fn advance(
         return Step::Over;
     };
     let left = depth - stop.marks;
-    if stop.number < PASSES {
-        return Step::Barred(stop.at, left, stop.number);
+    match stop.action {
+        Action::Bars(bar) => Step::Barred(stop.at, left, bar),
+        Action::Takes(list) => {
+            let below = push(room, stop.at + 1, list, at);
+            Step::Took(below, left + opens(list))
+        }
     }
-    let list = stop.number - TAKES;
-    let below = push(room, stop.at + 1, list, at);
-    Step::Took(below, left + opens(list))
 }
 
 // Whether a kind is not barred before a stack whose top is here.
@@ -84,7 +83,7 @@ pub(crate) fn admits(room: &[u32], top: usize, edition: u32, kind: u32) -> bool
     ensures { Admits (the-edition edition) kind (decoded (drop top room.now)) result }
 {
     match first_stop(room, top, edition, kind) {
-        Some(stop) => stop.number > PASSES,
+        Some(stop) => matches!(stop.action, Action::Takes(_)),
         None => true,
     }
 }

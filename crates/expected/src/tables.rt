@@ -2,27 +2,28 @@
 // computation (proofs/Numbering.antt).
 ghost use Rattle.std.specs.Prelude.{◌≤◌, ◌<◌, ◌≡◌, length, slice_index};
 ghost use Rattle.grammar.specs.Edition.{edition as the-edition};
-ghost use Rattle.expected.specs.Cells.{column_of, Acts, opens_of, Celled, Pushed};
+ghost use Rattle.expected.specs.Cells.{column_of, Acts, number_of, opens_of, Celled, Pushed};
 ghost use Rattle.expected.specs.Tables.{tables};
 
 use token::{editions, kinds};
 
-// The numbers of the table. A kind is barred: a token is missing, or an operand, or it is `for`; the operand is missing in an expression that opens at this token, or a
-// brace in a block that does. Or the state passes the kind on to what stands below it. From TAKES on it takes it, and a list stands for the state.
-// Numbers, and no enum: they are the bytes of the table, which `Acts` reads as they stand (specs/Cells.antt).
-pub(crate) const NO_TOKEN: usize = 0;
+// How a state bars a kind: a token is missing, or an operand, or it is `for`; the operand is missing in an expression that opens at this token, or a brace in a block that
+// does.
+#[derive(Clone, Copy)]
+pub(crate) enum Bar {
+    Token,
+    Operand,
+    For,
+    OpenedOperand,
+    OpenedBlock,
+}
 
-pub(crate) const NO_OPERAND: usize = 1;
-
-pub(crate) const NO_FOR: usize = 2;
-
-pub(crate) const NO_OPERAND_OPENED: usize = 3;
-
-pub(crate) const NO_BLOCK: usize = 4;
-
-pub(crate) const PASSES: usize = 5;
-
-pub(crate) const TAKES: usize = 6;
+// What a state does to a kind that it doesn't pass on to what stands below it: it bars it, or it takes it, and a list stands for the state.
+#[derive(Clone, Copy)]
+pub(crate) enum Action {
+    Bars(Bar),
+    Takes(usize),
+}
 
 // The columns of the table: one for each kind, and one more for each that edition 2 reads in another way.
 const COLUMNS: usize = 49;
@@ -167,13 +168,21 @@ fn column(edition: u32, kind: u32) -> usize
     }
 }
 
-// What the table has for a state before a kind.
-pub(crate) fn action(edition: u32, state: usize, kind: u32) -> usize
+// What a state does to a kind; nothing, where it passes it on. The table has a number for each.
+pub(crate) fn action_on(edition: u32, state: usize, kind: u32) -> Option<Action>
     requires state_bound { state < 54 }
     requires kind_bound { kind < 45 }
-    ensures { Acts (the-edition edition) state kind result }
+    ensures { Acts (the-edition edition) state kind (number_of result) }
 {
-    usize::from(number(state * COLUMNS + column(edition, kind)))
+    match usize::from(number(state * COLUMNS + column(edition, kind))) {
+        0 => Some(Action::Bars(Bar::Token)),
+        1 => Some(Action::Bars(Bar::Operand)),
+        2 => Some(Action::Bars(Bar::For)),
+        3 => Some(Action::Bars(Bar::OpenedOperand)),
+        4 => Some(Action::Bars(Bar::OpenedBlock)),
+        5 => None,
+        n => Some(Action::Takes(n - 6)),
+    }
 }
 
 // How many constructs a list opens.

@@ -1,26 +1,22 @@
 -- `opened_by` meets its contract.
-use Prim.Native.Nat.{ℕ, zero, suc, ◌≤◌, ◌<◌}
+use mathlib.Core.Logic.{inl, inr}
 use mathlib.Core.Path.{◌≡◌, refl}
-use native.Mathlib.Omega.{arith}
+use Rattle.expected.specs.Cells.{bar_number}
 use Rattle.expected.specs.Parts.{opened_by}
+use Rattle.expected.specs.declared.tables.Bar.{Bar}
 use Rattle.expected.proofs.opened_by.Goals as goal
 
-below : (n : ℕ) → n < 3 → 0 ≡ opened_by n
+none : (b : Bar) → (b ≡ Bar.OpenedOperand → ⊥) → (b ≡ Bar.OpenedBlock → ⊥) → 0 ≡ opened_by (bar_number b)
 unfolding opened_by
-below zero h = refl
-below (suc zero) h = refl
-below (suc (suc zero)) h = refl
-below (suc (suc (suc n))) h = absurd (omega arith)
+none Bar.Token i j = refl
+none Bar.Operand i j = refl
+none Bar.For i j = refl
+none Bar.OpenedOperand i j = absurd (i refl)
+none Bar.OpenedBlock i j = absurd (j refl)
 
-past : (n : ℕ) → 3 ≤ n → 1 ≡ opened_by n
+pub returns-in-OpenedOperand : goal.returns-in-OpenedOperand
 unfolding opened_by
-past zero h = absurd (omega arith)
-past (suc zero) h = absurd (omega arith)
-past (suc (suc zero)) h = absurd (omega arith)
-past (suc (suc (suc n))) h = refl
+returns-in-OpenedOperand c = elim c.in-OpenedOperand.is [ inl e ↦ rw e | inr e ↦ rw e ]
 
-pub returns-then-number-lt-NO_OPERAND_OPENED : goal.returns-then-number-lt-NO_OPERAND_OPENED
-returns-then-number-lt-NO_OPERAND_OPENED c = below c.args.number c.if-number-lt-NO_OPERAND_OPENED.true
-
-pub returns : goal.returns
-returns c = past c.args.number c.if-number-lt-NO_OPERAND_OPENED.false
+pub returns-in_default : goal.returns-in_default
+returns-in_default c = none c.args.bar c.in_default.not-OpenedOperand c.in_default.not-OpenedBlock

@@ -5,6 +5,7 @@ use native.Mathlib.Omega.{arith}
 use Rattle.grammar.specs.Edition.{edition as the-edition}
 use Rattle.grammar.specs.Kind.{Eof}
 use Rattle.grammar.specs.Token.{kind}
+use Rattle.expected.specs.Cells.{bar_number}
 use Rattle.expected.specs.Steps.{Taken, Bars}
 use Rattle.expected.proofs.Leaving.{as_took}
 use Rattle.expected.proofs.Telling.{opened_few, nothing_told, unknown_kind, not_taken, not_passed, passed_told, not_over, below_sound, lower, only_deep, barred_deep, other_code, room_inside, barred_told, as_barred, as_over}
@@ -24,7 +25,7 @@ module _ (c : In-Barred) where
   known_barred : kind c.args.tokens.now c.args.at ≤ Eof
   known_barred = omega (arith, c.kind_at-kind.ensures, c.if-kind-gt-EOF.false)
 
-  barred : Bars (the-edition c.args.edition) (kind c.args.tokens.now c.args.at) c.args.at c.args.top c.args.room.now c.advance.new.room c.in-Barred.t c.in-Barred.d c.in-Barred.number
+  barred : Bars (the-edition c.args.edition) (kind c.args.tokens.now c.args.at) c.args.at c.args.top c.args.room.now c.advance.new.room c.in-Barred.t c.in-Barred.d (bar_number c.in-Barred.bar)
   barred = as_barred c.advance.result c.in-Barred.is (rw (c.kind_at-kind.ensures) at c.advance.ensures)
 
 pub returns-then-kind-gt-EOF : goal.returns-then-kind-gt-EOF
@@ -50,11 +51,8 @@ pub returns-else-d-most : goal.returns-else-d-most
 returns-else-d-most c = let x = (goal.at.returns-else-d-most c).In-Took in passed_told c.requires.asked_of c.requires.reached (known_took x) (took x) (omega (arith, c.if-d-most.false)) c.if-code-ne-DEEP.false (c.open.ensures) c.fill.ensures
 
 -- it is barred
-pub opened_by-requires : goal.opened_by-requires
-opened_by-requires c = let x = (goal.at.opened_by-requires c).In-Barred in (barred x).number
-
 pub overflow_add-d : goal.overflow_add-d
-overflow_add-d c = let x = (goal.at.overflow_add-d c).In-Barred in omega (arith, lower c.requires.asked_of c.requires.reached (known_barred x) (barred x), c.requires.asked_of.least_depth, opened_few c.in-Barred.number, c.opened_by.ensures)
+overflow_add-d c = let x = (goal.at.overflow_add-d c).In-Barred in omega (arith, lower c.requires.asked_of c.requires.reached (known_barred x) (barred x), c.requires.asked_of.least_depth, opened_few (bar_number c.in-Barred.bar), c.opened_by.ensures)
 
 pub returns-then-code-ne-DEEP-2 : goal.returns-then-code-ne-DEEP-2
 returns-then-code-ne-DEEP-2 c = let x = (goal.at.returns-then-code-ne-DEEP-2 c).In-Barred in nothing_told (λ l u m. only_deep c.requires.asked_of c.requires.reached (known_barred x) (barred x) (omega (arith, c.if-most-d.true, c.opened_by.ensures)) c.if-code-ne-DEEP-2.true m) c.nothing-then-code-ne-DEEP-2.ensures
@@ -71,9 +69,6 @@ open-requires-then-most-d-clause-sound c = let x = (goal.at.open-requires-then-m
 pub returns-then-most-d : goal.returns-then-most-d
 returns-then-most-d c = let x = (goal.at.returns-then-most-d c).In-Barred in barred_deep c.requires.asked_of c.requires.reached (known_barred x) (barred x) (omega (arith, c.if-most-d.true, c.opened_by.ensures)) c.if-code-ne-DEEP-2.false (c.open-then-most-d.ensures) c.fill-then-most-d.ensures
 
-pub code_of-requires : goal.code_of-requires
-code_of-requires c = let x = (goal.at.code_of-requires c).In-Barred in (barred x).number
-
 pub returns-then-code-code_of : goal.returns-then-code-code_of
 returns-then-code-code_of c = let x = (goal.at.returns-then-code-code_of c).In-Barred in nothing_told (λ l u m. other_code c.requires.asked_of c.requires.reached (known_barred x) (barred x) (omega (arith, c.if-most-d.false, c.opened_by.ensures)) (λ e. c.if-code-code_of.true (e ∙ sym c.code_of.ensures)) m) c.nothing-then-code-code_of.ensures
 
@@ -89,11 +84,8 @@ open-outer-requires-clause-sound c = let x = (goal.at.open-outer-requires-clause
 pub kinds-requires-clause-sound : goal.kinds-requires-clause-sound
 kinds-requires-clause-sound c = let x = (goal.at.kinds-requires-clause-sound c).In-Barred in rw (barred x).kept c.requires.reached.sounds
 
-pub inside-requires-clause-number_bound : goal.inside-requires-clause-number_bound
-inside-requires-clause-number_bound c = let x = (goal.at.inside-requires-clause-number_bound c).In-Barred in (barred x).number
-
-pub inside-requires-clause-count_bound : goal.inside-requires-clause-count_bound
-inside-requires-clause-count_bound c = let x = (goal.at.inside-requires-clause-count_bound c).In-Barred in room_inside c.requires.asked_of c.requires.reached (known_barred x) (barred x) (omega (arith, c.if-most-d.false, c.opened_by.ensures)) (c.open-outer.ensures)
+pub inside-requires : goal.inside-requires
+inside-requires c = let x = (goal.at.inside-requires c).In-Barred in room_inside c.requires.asked_of c.requires.reached (known_barred x) (barred x) (omega (arith, c.if-most-d.false, c.opened_by.ensures)) (c.open-outer.ensures)
 
 pub returns-else-code-code_of : goal.returns-else-code-code_of
 returns-else-code-code_of c = let x = (goal.at.returns-else-code-code_of c).In-Barred in barred_told c.requires.asked_of c.requires.reached (known_barred x) (barred x) (omega (arith, c.if-most-d.false, c.opened_by.ensures)) (c.if-code-code_of.false ∙ c.code_of.ensures) c.kinds.ensures (c.open-outer.ensures) c.inside.ensures c.fill-in-Barred.ensures
