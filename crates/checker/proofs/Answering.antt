@@ -1,5 +1,5 @@
 -- The answer of the check: by the counts, by the edition, and by the rules, with the scratch room clear.
-use Prim.Native.Nat.{ℕ, ◌+◌, ◌-◌, ◌*◌, ◌/◌, ◌<◌}
+use Prim.Native.Nat.{ℕ, ◌+◌, ◌-◌, ◌*◌, ◌<◌}
 use native.Mathlib.Omega.{arith}
 use mathlib.Core.List.{List}
 use Rattle.std.specs.Prelude.{Result, Ok, Err}
@@ -10,7 +10,6 @@ use Rattle.grammar.specs.Door.{RightEdition}
 use Rattle.grammar.specs.Edition.{edition}
 use Rattle.grammar.specs.Room.{node_width, link_width, symbol_width, cleared}
 use Rattle.ast.specs.Written.{Cleared}
-use Rattle.ast.proofs.Rooms.{row_number}
 use Rattle.foreign.specs.Check.{Given, Lends, Checks}
 use Rattle.checker.specs.Slots.{table, rows}
 use Rattle.checker.specs.Verdict.{rooms, given, Tells, Judges, Judged}
@@ -56,9 +55,6 @@ module _ (e n m s : ℕ) (ns ls ss sc : List ℕ) where
 
     abbrev link_part : List ℕ
     link_part = take (link_width * m) ls
-
-    links_are : length link_part / link_width ≡ m
-    links_are = row_number link_width m ls (omega arith) l.links
 
     pub judged : {t after sc' : List ℕ} {r : Result (Unit {0}) Broken} → RightEdition e → t ≡ table (edition e) → Judged t s (rows node_part link_part) r → length sc' ≡ length sc → Cleared 0 sc' after → Tells g (rooms ns ls ss after) (told r)
     judged {after = after} {sc' = sc'} {r = r} x q j k c = rw wiped (record { says = pick (j.says (edition e) q) })

@@ -10,10 +10,6 @@ use Rattle.std.specs.Prelude.{Some, None}
 use Rattle.checker.specs.Marks.{Settled, Within}
 use Rattle.checker.specs.Test.{First}
 
-pub and_true : (b : Bool) → (b && true) ≡ b
-and_true true = refl
-and_true false = refl
-
 pub and_false : (x : Bool) {y : Bool} → y ≡ false → (x && y) ≡ false
 and_false true e = e
 and_false false e = refl

