@@ -1,4 +1,4 @@
--- Cuts and rows: what a pass over the cuts has seen so far, where parts start, and that the parts of a script are there where cuts and rooms are right.
+-- Cuts and rows: what a pass over the cuts tells, where parts start, and that the parts of a script are there where cuts and rooms are right.
 use Prim.Native.Nat.{ℕ, zero, suc, ◌+◌, ◌-◌, ◌*◌, ◌≤◌, ◌<◌}
 use native.Mathlib.Decide.{ℕ_discrete}
 use native.Mathlib.Nat.{mul-le-mul_left}
@@ -6,29 +6,32 @@ use native.Mathlib.Numerals.{add-one}
 use native.Mathlib.Omega.{arith}
 use mathlib.Core.List.{List}
 use mathlib.Core.Path.{◌≡◌, refl, sym, subst}
-use lib.ListN.{length}
+use lib.ListN.{length, get_or}
+use Rattle.std.specs.Prelude.{Bool, true, false}
+use Rattle.std.specs.Bool.{MatchBool}
+use Rattle.std.specs.List.{range_with_len, AllWithin, HoldsAt}
+use Rattle.std.proofs.lemmas.List.FromFn.{length-range_with_len, get_or-range_with_len}
+use Rattle.spelling.specs.Decides.{Decides}
+use Rattle.spelling.proofs.Deciding.{holds, fails}
 use Rattle.grammar.specs.Room.{node_width, link_width, symbol_width, scratch_width}
 use Rattle.scripts.specs.Joined.{Joined, cut_start, cut_end, of_text, of_list, scripts, answer_width, Forward, Fits}
 
--- of the cuts of the first i scripts none goes back or past the end
-pub record SoFar (cuts : List ℕ) (side long i : ℕ) : Type 0 where
-  pub few : i ≤ scripts cuts
-  pub forth : {k : ℕ} → k < i → cut_start cuts side k ≤ cut_end cuts side k
-  pub within : {k : ℕ} → k < i → cut_end cuts side k ≤ long
+-- of script i no cut goes back or past the end; and a look at every script tells that of all
+abbrev pub Right : (cuts : List ℕ) (side long i : ℕ) → Type 0
+Right cuts side long i = (cut_start cuts side i ≤ cut_end cuts side i) × (cut_end cuts side i ≤ long)
 
-pub none_yet : {cuts : List ℕ} {side long : ℕ} → SoFar cuts side long 0
-none_yet = record { few = omega arith; forth = λ h. absurd (omega (arith, h)); within = λ h. absurd (omega (arith, h)) }
+module _ (cuts : List ℕ) (side long : ℕ) where
+  at : (n i : ℕ) → i < n → get_or (range_with_len 0 n) i 0 ≡ i
+  at n i h = omega (arith, get_or-range_with_len 0 n i 0 h)
 
-pub one_more : {cuts : List ℕ} {side long i : ℕ} → SoFar cuts side long i → i < scripts cuts → cut_start cuts side i ≤ cut_end cuts side i → cut_end cuts side i ≤ long → SoFar cuts side long (i + 1)
-one_more {cuts} {side} {long} {i} s h f w =
-    record {
-      few = omega (arith, h);
-      forth = λ {k} l. elim (ℕ_discrete k i) [ yes e ↦ subst (λ n. cut_start cuts side n ≤ cut_end cuts side n) (sym e) f | no e ↦ s.forth (omega (arith, l, e)) ];
-      within = λ {k} l. elim (ℕ_discrete k i) [ yes e ↦ subst (λ n. cut_end cuts side n ≤ long) (sym e) w | no e ↦ s.within (omega (arith, l, e)) ];
-    }
-
-pub all_seen : {cuts : List ℕ} {side long i : ℕ} → SoFar cuts side long i → scripts cuts ≤ i → Forward cuts side long
-all_seen s h = record { forth = λ l. s.forth (omega (arith, h, l)); within = λ l. s.within (omega (arith, h, l)) }
+  pub all_right : (n : ℕ) (r : Bool) → n ≡ scripts cuts → MatchBool r (AllWithin (Right cuts side long) (range_with_len 0 n) 0 (length (range_with_len 0 n))) ((k : ℕ) × (k < length (range_with_len 0 n)) × HoldsAt (λ i. Right cuts side long i → ⊥) (range_with_len 0 n) k) → Decides (Forward cuts side long) r
+  all_right n true e a =
+      let right : (i : ℕ) → i < n → Right cuts side long i = λ i h. subst (Right cuts side long) (at n i h) (a i 0 (omega arith) (omega (arith, h, length-range_with_len 0 n))) in
+      holds (record { forth = λ {i} h. (right i (omega (arith, e, h))).0; within = λ {i} h. (right i (omega (arith, e, h))).1 })
+  all_right n false e (k, h, f) =
+      let m : k < n = omega (arith, h, length-range_with_len 0 n) in
+      let wrong : Right cuts side long k → ⊥ = subst (λ i. Right cuts side long i → ⊥) (at n k m) (f 0) in
+      fails (λ g. wrong (g.forth (omega (arith, e, m)), g.within (omega (arith, e, m))))
 
 -- 32 parts of any number of rows
 pub rows_few : {rows n : ℕ} → rows < 4294967296 → n ≤ 32 → rows * n ≤ 137438953440

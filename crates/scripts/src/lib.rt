@@ -68,20 +68,10 @@ fn forward(cuts: &[u32], side: usize, long: usize) -> bool
     requires { (length cuts.now ≡ 2 * scripts cuts.now) × (scripts cuts.now ≤ 32) × (side < 2) }
     ensures { Decides (Forward cuts.now side long) result }
 {
-    let n = cuts.len() / 2;
-    let mut i = 0;
-    while i < n {
-        let from = cut_start(cuts, side, i);
+    (0..cuts.len() / 2).all(|i| {
         let upto = cut_end(cuts, side, i);
-        if upto < from {
-            return false;
-        }
-        if long < upto {
-            return false;
-        }
-        i += 1;
-    }
-    true
+        cut_start(cuts, side, i) <= upto && upto <= long
+    })
 }
 
 // Whether the cuts are right for a text and a list of these lengths.
@@ -137,7 +127,7 @@ fn room_for(
 }
 
 // Where the parts of a script start and end: in the text, in the list's numbers, and in the rows of each room.
-#[derive(Drop)]
+#[derive(Clone, Copy)]
 struct Place {
     from: usize,
     upto: usize,
@@ -241,13 +231,11 @@ pub fn parse_scripts(
     ) {
         return TURNED_AWAY;
     }
-    let mut i = 0;
-    while i < n {
+    for i in 0..n {
         parse_one(
             names, rows, text, tokens, cuts, i, edition, limit, part, nodes, links, symbols,
             scratch, answers,
         );
-        i += 1;
     }
     0
 }
@@ -329,13 +317,11 @@ pub fn read_scripts(
     ) {
         return TURNED_AWAY;
     }
-    let mut i = 0;
-    while i < n {
+    for i in 0..n {
         read_one(
             names, rows, text, list, cuts, i, edition, limit, part, nodes, links, symbols, scratch,
             answers,
         );
-        i += 1;
     }
     0
 }

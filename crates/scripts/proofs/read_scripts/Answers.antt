@@ -24,4 +24,4 @@ pub loop-i-preserved : goal.loop-i-preserved
 loop-i-preserved c = next c.loop-i-test.true c.loop-i.invariant c.read_one.ensures
 
 pub returns : goal.returns
-returns c = all_answered (omega (arith, c.loop-i-test.false)) c.loop-i.invariant
+returns c = all_answered c.loop-i-test.false c.loop-i.invariant
