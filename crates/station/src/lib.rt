@@ -437,20 +437,15 @@ const TOLD: usize = 131;
 
 const TOLD_CHAIN: usize = 3;
 
-const MOST_OPEN: usize = 64;
-
 // Puts the sorts and tokens of a chain where they stand in the room for what is told.
 fn put_chain(chain: Chain, room: &mut [u32])
     requires in_bounds { 131 ≤ length room.old }
     requires entries_len { length chain.entries ≡ 64 }
     ensures { Written 3 131 (pairs chain.entries) room.old room.new }
 {
-    let mut i = 0usize;
-    while i < MOST_OPEN {
-        let entry = chain.entries[i];
+    for (i, entry) in chain.entries.iter().enumerate() {
         room[TOLD_CHAIN + 2 * i] = entry.sort;
         room[TOLD_CHAIN + 2 * i + 1] = entry.at;
-        i = i + 1;
     }
 }
 
