@@ -12,7 +12,7 @@ use scan::{is_blank, token_at};
 use spelling::words;
 use token::kinds;
 
-// Code, how many tokens, at, start, end, expected.
+// Code, how many tokens, at, start, end, expected. It is no Result, since reader passes these numbers on as those of an answer to C.
 #[derive(Clone, Copy, PartialEq, Eq)]
 pub struct Lexed {
     pub code: u32,

@@ -68,7 +68,7 @@ fn form(
         kinds::FUNCTION => fun_(tokens, nodes, links, scratch, terms, depth, cur),
         kinds::FOR => Read::Refused(Refusal {
             code: codes::STARTS_WITH_FOR,
-            at: at,
+            at,
             expected: codes::NO_KIND,
         }),
         kinds::WHILE => while_(tokens, nodes, links, scratch, terms, depth, cur),
@@ -729,7 +729,7 @@ fn primary(
         kinds::TRUE..=kinds::NIL => single(tokens, nodes, links, scratch, terms, depth, cur, kind),
         _ => Read::Refused(Refusal {
             code: codes::OPERAND_REQUIRED,
-            at: at,
+            at,
             expected: codes::NO_KIND,
         }),
     }

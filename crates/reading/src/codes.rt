@@ -1,4 +1,4 @@
-// Why reading ends, by name: document 01's numbers.
+// Why reading ends, by name: document 01's numbers. They are no enum, since a refusal's code and kind go out to C as the numbers that they are (`refused_numbers` of syntax).
 pub const NO_ROOM: u32 = 4;
 
 pub const KIND_REQUIRED: u32 = 8;

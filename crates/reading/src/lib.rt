@@ -1,7 +1,8 @@
 #![tactic(auto)]
 // What the readers stand on: where a reading is, what a reader answers, and the readers that call no other form: tokens, names, lists of names, leaves. A port of the
 // part of parser.rs that needs no recursion. Each reader asks `Ready`: a list that the door let in, a place in it, and a scratch room with a row for each token.
-// A row that has no room ends the reading: refusal 4.
+// A row that has no room ends the reading: refusal 4. The rooms, the terms and the cursor are parameters of their own, since the clauses of specs/Clauses.antt take them so.
+// The loops of the readers walk a cursor, whose place the readers that they call move on: they count no index.
 pub mod codes;
 pub mod leaves;
 pub mod lists;
@@ -34,6 +35,7 @@ pub struct Refusal {
 }
 
 // What a reader answers. Of a token that was taken the node has the span alone, of a name the symbol and the span, of a list zeros: its items are held.
+// An enum of its own, and no Result: every reader takes node and cursor apart by `let .. else`, or hands the refusal on as it stands (docs/RULES.md; `passed` of Replies).
 #[derive(Drop)]
 pub enum Read {
     Node(Node, Cursor),

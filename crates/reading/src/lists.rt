@@ -26,8 +26,8 @@ pub fn consume(tokens: &[u32], cur: Cursor, expected: u32) -> Read
     if kind_at(tokens, at) != expected {
         return Read::Refused(Refusal {
             code: codes::KIND_REQUIRED,
-            at: at,
-            expected: expected,
+            at,
+            expected,
         });
     }
     let start = start_at(tokens, at);
@@ -38,14 +38,7 @@ pub fn consume(tokens: &[u32], cur: Cursor, expected: u32) -> Read
         links: cur.links,
         nodes: cur.nodes,
     };
-    Read::Node(
-        Node {
-            id: 0,
-            start: start,
-            end: end,
-        },
-        past,
-    )
+    Read::Node(Node { id: 0, start, end }, past)
 }
 
 // After an item of a list: its closer, which stays, or a comma. It asks that there is a token.

@@ -63,7 +63,7 @@ pub fn no_room(at: usize) -> Read
 {
     Read::Refused(Refusal {
         code: codes::NO_ROOM,
-        at: at,
+        at,
         expected: codes::NO_KIND,
     })
 }
@@ -143,7 +143,7 @@ pub fn semicolon(tokens: &[u32], node: Node, cur: Cursor, first: u32) -> Read
         kinds::LEFT_BRACE | kinds::FUNCTION | kinds::WHILE | kinds::IF => Read::Node(open, cur),
         _ => Read::Refused(Refusal {
             code: codes::KIND_REQUIRED,
-            at: at,
+            at,
             expected: kinds::SEMICOLON,
         }),
     }

@@ -30,7 +30,7 @@ use token::profiles::Profile;
 use token::{editions, kinds};
 
 // The answer of a call: a code, which is 0 or a refusal's; how many rows each room has, 0 for a refusal; and a refusal's place and the kind that was
-// required there (255: no certain kind).
+// required there (255: no certain kind). It is no Result, since these are the eight numbers that C is answered (`put` of crate scripts).
 #[derive(Clone, Copy)]
 pub struct Numbers {
     pub code: u32,

@@ -1,5 +1,4 @@
 -- `read_scripts` meets its contract: 19 where the cuts or the rooms are not right; and else one script after another is answered.
-use native.Mathlib.Omega.{arith}
 use Rattle.spelling.proofs.Deciding.{held, failed, said}
 use Rattle.scripts.specs.Joined.{AnswersAll}
 use Rattle.scripts.proofs.Turns.{start, fits_now, next, all_answered}
