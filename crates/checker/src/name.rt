@@ -110,7 +110,7 @@ fn name_slot(marks: &mut [u32], rows: usize, links: &[u32], row: u32, s: Slot)
     }
 }
 
-// A row names what its slots do.
+// A row names what its slots do. No struct for the four that travel together: each of these has one caller, and the lent marks would be put into it anew for each row.
 fn name_row(marks: &mut [u32], rows: usize, links: &[u32], row: u32, c: Cut)
     requires { (row ≤ rows) × InLists links.now c.first × InLists links.now c.second × InLists links.now c.third × Ready rows links.now marks.old }
     ensures { Noted rows row links.now (names_in (held links.now c.first ++ (held links.now c.second ++ held links.now c.third))) marks.old marks.new }

@@ -212,7 +212,7 @@ pub fn meets(rule: Rule, text: &[u8], tokens: &[u32], nodes: &[u32], row: u32) -
     .meets(rule, row)
 }
 
-// The first of `count` rows, from row `from` on, that meets a rule; ABSENT where none does.
+// The first of `count` rows, from row `from` on, that meets a rule; ABSENT where none does: no Option, since `Next` is what this public function promises.
 // Ruled out: a row that meets it where an earlier one does too; ABSENT where the last row meets it; row `count`.
 pub fn next(rule: Rule, text: &[u8], tokens: &[u32], nodes: &[u32], count: u32, from: u32) -> u32
     ensures { Next (Meets rule text.now tokens.now nodes.now) from count result }

@@ -21,7 +21,7 @@ fn last_number(kind: u32) -> Option<u32>
     }
 }
 
-// What a row takes last; ABSENT where it takes nothing last.
+// What a row takes last; ABSENT where it takes nothing last: it is a number of the row, where C has it so (`LastNumber`, `Handle.absent`).
 // Ruled out: the left operand; the last argument of a call, which its `)` closes.
 pub fn last(nodes: &[u32], row: u32) -> u32
     ensures { result ≡ last_of nodes.now row }
