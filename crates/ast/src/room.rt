@@ -17,7 +17,10 @@ pub fn copy(to: &mut [u32], at: usize, from: &[u32], first: usize, n: usize)
     requires { (at + n ≤ length to.old) × (first + n ≤ length from.now) }
     ensures { Written at (at + n) (take n (drop first from.now)) to.old to.new }
 {
-    to[at..at + n].copy_from_slice(&from[first..first + n]);
+    // No `copy_from_slice`: lists are short, and its call costs some 25 instructions a list more than this loop (nesting, blocks: 259 a token before, 290 with it).
+    for i in 0..n {
+        to[at + i] = from[first + i];
+    }
 }
 
 // One row more on the scratch stack, above the `held` that wait there. It asks for room for it.

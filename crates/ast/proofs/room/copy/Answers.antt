@@ -1,14 +1,10 @@
--- `room::copy` meets its contract: a part of the room is copied over.
-use Prim.Native.Nat.{ℕ, ◌+◌, ◌-◌}
-use native.Mathlib.Omega.{arith}
-use mathlib.Core.Path.{◌≡◌, ◌∙◌, ap}
-use lib.ListN.{take, drop}
-use Rattle.grammar.proofs.Lexemes.{part_length}
-use Rattle.ast.proofs.Rooms.{over}
+-- `room::copy` meets its contract: after i turns the first i numbers are there.
+use borrow.Author.Rules.{rules}
+use Rattle.ast.proofs.Rooms.{copied}
 use Rattle.ast.proofs.room.copy.Goals as goal
 
-pub returns : goal.returns
-returns c =
+pub loop-i-preserved : goal.loop-i-preserved
+loop-i-preserved c =
     let a = c.args in
-    let n : a.first + a.n - a.first ≡ a.n = omega arith in
-    over a.at (a.at + a.n) a.to.now (omega arith) (omega arith) (c.copy_from_slice.ensures.after ∙ ap (λ (k : ℕ). take k (drop a.first a.from.now)) n) (part_length a.from.now a.first a.n (omega arith) ∙ omega arith)
+    let l = c.loop-i in
+    copied a.from.now a.first l.i (search rules) (search rules) l.invariant
