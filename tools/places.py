@@ -1,5 +1,5 @@
 #!/usr/bin/env python3
-"""Counts, in crates/*/src, the places that docs/DESIGN-PASS.md speaks of: tools/places.py [POINT] [--list].
+"""Counts, in crates/*/src, the places of older forms (docs/DESIGN-PASS.md): tools/places.py [POINT] [--list].
 
 1 results     own enums of two cases of which one holds nothing or a refusal; structs with a code or a flag beside values; numbers that are names of kinds (constants
               0, 1, 2, .. of one module); functions that answer 0, a length, or ABSENT for 'none'
