@@ -67,6 +67,11 @@ fn spot(rt: &HostRuntime, line: usize, column: usize) -> Option<Spot> {
     })
 }
 
+// A room for a listing: more bytes than one has that fits in the rooms of rows.
+fn listing_room() -> [u8; 1048576] {
+    [0; 1048576]
+}
+
 // What is asked for, beside built-in names, of the arguments of a program.
 #[derive(Clone, Copy)]
 pub(crate) struct Asked<'a> {
@@ -119,9 +124,9 @@ impl<'a> Asked<'a> {
         }
     }
 
-    // The listing in a file. Its room has more bytes than a listing that fits in the rooms of rows.
+    // The listing in a file.
     fn listing(self, path: &[u8], line: &mut Line) -> Status {
-        let mut room = [0; 1048576];
+        let mut room = listing_room();
         let large = b": file too large: a listing has at most 1,048,576 bytes";
         match load(self.rt, path, large, &mut room) {
             Some(text) => written(check_rows(self.wish.edition, self.wish.json, path, text, line)),
