@@ -102,10 +102,10 @@ module _ {w : Rows} {i from : ℕ} {ns ls : List ℕ} (a : AsWas w i from ns ls)
   pub stands_was : {s : ℕ} → Good s w → i < height w → StandsRow ns i
   stands_was g h = let s = stood g h in record { room = omega (arith, s.room, a.high); least = omega (arith, s.least, a.number 0); most = omega (arith, s.most, a.number 0) }
 
--- a row that is there has a number in the room
-row_there : {base s h n x : ℕ} → base ≡ s → s + h ≤ n → Before h x → eqb x absent ≡ false → base + x < n
-row_there b r (inl l) e = omega arith
-row_there {x = x} b r (inr z) e = absurd (eqb-false x absent e z)
+-- a row that is there has a number
+row_there : {h n x : ℕ} → h ≤ n → Before h x → eqb x absent ≡ false → x < n
+row_there r (inl l) e = omega arith
+row_there {x = x} r (inr z) e = absurd (eqb-false x absent e z)
 
 -- all ten numbers of a row but the last one: a row that it names is one of them or absent, a symbol is in range
 wider : {i h x : ℕ} → i ≤ h → Before i x → Before h x
@@ -164,22 +164,22 @@ module _ {s : ℕ} {w : Rows} (g : Good s w) (i : ℕ) (h : i < root_row w) wher
     pub links_agree : ((x : ℕ) → m'.span x ≡ x) → lists_moved m ns ls i own_width ≡ moved_links m' w i
     links_agree same_span = lists_agree own_width (omega arith) ∙ lists_all w i (stood g inside) m' same_span
 
-  -- and it can be moved, where the room has a number for each symbol and row
-  module _ {ns ls : List ℕ} (a : AsWas w i (links_before w i) ns ls) {sc : List ℕ} {m : Maps} (base-is : m.base ≡ s) (from_is : m.from ≡ links_before w i) (low : m.to ≤ m.from) (room : s + height w ≤ length sc) where
-    pub moves_row : {to : ℕ} → to ≤ i → MovesRow sc m ns i to
+  -- and it can be moved, where there is a number for each symbol and row
+  module _ {ns ls : List ℕ} (a : AsWas w i (links_before w i) ns ls) {m : Maps} (wide : length m.words ≡ s) (from_is : m.from ≡ links_before w i) (low : m.to ≤ m.from) (room : height w ≤ length m.places) where
+    pub moves_row : {to : ℕ} → to ≤ i → MovesRow m ns i to
     moves_row back = record {
       stands = stands_was a g inside;
       back = back;
       each = λ j k. rw (role_was a j, a.number j) record {
         known = role_known (at w.nodes i 0) j;
-        node = λ e. row_there base-is room (row_node j k e);
+        node = λ e. row_there room (row_node j k e);
         symbol = λ p q. omega (arith, row_symbol j k p q);
         list = λ l. omega (arith, row_list j k l);
         fits = λ l. omega (arith, row_list j k l, row_few j k l, g.few);
       };
     }
 
-    pub moves_lists : MovesLists sc m ns ls i
+    pub moves_lists : MovesLists m ns ls i
     moves_lists = record {
       stands = stands_was a g inside;
       each = λ j k.
@@ -190,8 +190,8 @@ module _ {s : ℕ} {w : Rows} (g : Good s w) (i : ℕ) (h : i < root_row w) wher
           record {
             back = omega (arith, n.begins l);
             room = omega (arith, r.list l, g.links, a.long);
-            first = λ q p o. rw (a.link q (omega arith) 0) record { name = λ e. omega (arith, r.name e q p o); node = λ e. row_there base-is room (wider (omega arith) (n.first l e q p o)) };
-            second = λ q p o e. rw (a.link q (omega arith) 1) record { name = λ z. absurd (let y : ◌≡◌ {A = ℕ} 6 5 = z in omega arith); node = λ z. row_there base-is room (wider (omega arith) (n.second e q p o)) };
+            first = λ q p o. rw (a.link q (omega arith) 0) record { name = λ e. omega (arith, r.name e q p o); node = λ e. row_there room (wider (omega arith) (n.first l e q p o)) };
+            second = λ q p o e. rw (a.link q (omega arith) 1) record { name = λ z. absurd (let y : ◌≡◌ {A = ℕ} 6 5 = z in omega arith); node = λ z. row_there room (wider (omega arith) (n.second e q p o)) };
           });
     }
 
@@ -212,9 +212,10 @@ known_place x ks = pick (among ks x) refl
     pick true e = rw (eqb-suc-zero (place x ks)) (omega arith)
     pick false e = past x ks e
 
-pub packing_agrees : {c : ℕ → Bool} {left : List ℕ} {w : Rows} {base count : ℕ} {sc : List ℕ} (i : ℕ) {m : Maps} → Mapped c left w base count sc → 0 < height w → m.base ≡ base → m.symbols ≡ count → m.from ≡ links_before w i → m.to ≡ links_kept c w i → Agrees (moving sc m) (packing c (λ x. place x left) w i) (height w) base
-packing_agrees {left = left} i p some a b f t = record {
-  node = λ x h. rw a (p.rows.each x (omega arith));
-  symbol = λ x h. rw (p.numbers x h, b, p.many) (known_place x left);
+pub packing_agrees : {c : ℕ → Bool} {left : List ℕ} {w : Rows} {count from to : ℕ} {words places : List ℕ} (i : ℕ) → Mapped c left w count words places → 0 < height w → from ≡ links_before w i → to ≡ links_kept c w i →
+    Agrees (moving (record { words = words; places = places; symbols = count; from = from; to = to })) (packing c (λ x. place x left) w i) (height w) (length words)
+packing_agrees {left = left} i p some f t = record {
+  node = λ x h. p.rows.each x (omega arith);
+  symbol = λ x h. rw (p.numbers x h, p.many) (known_place x left);
   first = λ x. rw (f, t) refl;
 }

@@ -142,8 +142,8 @@ unfolding lists_moved
 none_done m ns l row start = record { done = unwritten (link_width * start) l; reached = omega (arith, none_sized ns row); most = omega arith }
 
 -- what is to be moved next is as it was
-pub moves_still : {sc : List ℕ} {m : Maps} {r from to n a : ℕ} {xs l ls : List ℕ} → MovesList sc m r l from to n → Written a (link_width * to) xs l ls → MovesList sc m r ls from to n
-moves_still {sc} {m} {r} {from} {to} {n} {a} {xs} {l} {ls} p w = record {
+pub moves_still : {m : Maps} {r from to n a : ℕ} {xs l ls : List ℕ} → MovesList m r l from to n → Written a (link_width * to) xs l ls → MovesList m r ls from to n
+moves_still {m} {r} {from} {to} {n} {a} {xs} {l} {ls} p w = record {
   back = p.back;
   room = rw w.size p.room;
   first = λ k h i. rw (unchanged (link_width * k + 0) (omega (arith, p.back)) w) (p.first k h i);
@@ -166,8 +166,8 @@ module _ {m : Move} {ns l ls : List ℕ} {row start to j r : ℕ} (d : ListsDone
   same_role : role_at ns row j ≡ r
   same_role = sym (role_read ns row j) ∙ sym e
 
-  pub moves_next : {sc : List ℕ} {k : Maps} → MovesLists sc k ns l row → start ≡ k.to → 4 ≤ r → MovesList sc k r ls (at ns row j) to (get_or ns (node_width * row + j + 1) 0)
-  moves_next {sc} {k} p s q =
+  pub moves_next : {k : Maps} → MovesLists k ns l row → start ≡ k.to → 4 ≤ r → MovesList k r ls (at ns row j) to (get_or ns (node_width * row + j + 1) 0)
+  moves_next {k} p s q =
       let f : 4 ≤ role_at ns row j = rw same_role q in
       let g : k.to + lists_size ns row j ≡ to = omega (arith, d.reached) in
       let a = p.each j h f in
@@ -189,21 +189,21 @@ module _ {m : Move} {ns l ls : List ℕ} {row start to j r : ℕ} (d : ListsDone
       }
 
 -- the root's list so far: the statements that are kept
-pub record Chosen (l sc : List ℕ) (base : ℕ) (choice : List ℕ) (first to at j : ℕ) (ls : List ℕ) : Type 0 where
-  pub done : Written (link_width * to) (link_width * at) (chosen l sc base choice first j) l ls
+pub record Chosen (l places choice : List ℕ) (first to at j : ℕ) (ls : List ℕ) : Type 0 where
+  pub done : Written (link_width * to) (link_width * at) (chosen l places choice first j) l ls
   pub reached : at ≡ to + chosen_count choice j
   pub few : at ≤ to + j
   pub low : to ≤ at
   pub most : j ≤ length choice
 
-pub none_chosen : (l sc : List ℕ) (base : ℕ) (choice : List ℕ) (first to : ℕ) → Chosen l sc base choice first to to 0 l
+pub none_chosen : (l places choice : List ℕ) (first to : ℕ) → Chosen l places choice first to to 0 l
 unfolding chosen chosen_count
-none_chosen l sc base choice first to = record { done = unwritten (link_width * to) l; reached = omega arith; few = omega arith; low = omega arith; most = omega arith }
+none_chosen l places choice first to = record { done = unwritten (link_width * to) l; reached = omega arith; few = omega arith; low = omega arith; most = omega arith }
 
-module _ {l sc : List ℕ} {base : ℕ} {choice : List ℕ} {first to at' j : ℕ} {ls : List ℕ} (d : Chosen l sc base choice first to at' j ls) (h : j < length choice) where
-  chosen_next : chosen l sc base choice first (j + 1) ≡ chosen l sc base choice first j ++ cond (keeps choice j) (get_or sc (base + linked l (first + j) 0) 0 ∷ 0 ∷ 0 ∷ []) []
+module _ {l places choice : List ℕ} {first to at' j : ℕ} {ls : List ℕ} (d : Chosen l places choice first to at' j ls) (h : j < length choice) where
+  chosen_next : chosen l places choice first (j + 1) ≡ chosen l places choice first j ++ cond (keeps choice j) (get_or places (linked l (first + j) 0) 0 ∷ 0 ∷ 0 ∷ []) []
   unfolding chosen
-  chosen_next = ap (chosen l sc base choice first) (add-one j)
+  chosen_next = ap (chosen l places choice first) (add-one j)
 
   count_next : chosen_count choice (j + 1) ≡ chosen_count choice j + cond (keeps choice j) 1 0
   unfolding chosen_count
@@ -212,25 +212,25 @@ module _ {l sc : List ℕ} {base : ℕ} {choice : List ℕ} {first to at' j : �
   pub still_statement : to ≤ first → get_or ls (link_width * (first + j)) 0 ≡ linked l (first + j) 0
   still_statement back = let z : link_width * (first + j) ≡ link_width * (first + j) + 0 = omega arith in ap (λ (i : ℕ). get_or ls i 0) z ∙ unchanged (link_width * (first + j) + 0) (omega (arith, d.few)) d.done
 
-  pub statement_left : {at'' : ℕ} {ls' : List ℕ} → get_or choice j 0 ≡ 0 → ls' ≡ ls → at'' ≡ at' → Chosen l sc base choice first to at'' (j + 1) ls'
+  pub statement_left : {at'' : ℕ} {ls' : List ℕ} → get_or choice j 0 ≡ 0 → ls' ≡ ls → at'' ≡ at' → Chosen l places choice first to at'' (j + 1) ls'
   statement_left e p q =
       let f : keeps choice j ≡ false = rw e refl in
       rw (p, q) record {
-        done = said refl refl (sym (chosen_next ∙ rw f (append-nil (chosen l sc base choice first j)))) d.done;
+        done = said refl refl (sym (chosen_next ∙ rw f (append-nil (chosen l places choice first j)))) d.done;
         reached = d.reached ∙ sym (ap (λ (x : ℕ). to + x) (count_next ∙ rw f (omega arith)));
         few = omega (arith, d.few);
         low = d.low;
         most = omega arith;
       }
 
-  pub statement_kept : {at'' : ℕ} {ls' ls'' : List ℕ} → to ≤ first → (get_or choice j 0 ≡ 0 → ⊥) → Written (link_width * at') (link_width * at' + link_width) (get_or sc (base + get_or ls (link_width * (first + j)) 0) 0 ∷ 0 ∷ 0 ∷ []) ls ls'' → ls' ≡ ls'' → at'' ≡ at' + 1 → Chosen l sc base choice first to at'' (j + 1) ls'
+  pub statement_kept : {at'' : ℕ} {ls' ls'' : List ℕ} → to ≤ first → (get_or choice j 0 ≡ 0 → ⊥) → Written (link_width * at') (link_width * at' + link_width) (get_or places (get_or ls (link_width * (first + j)) 0) 0 ∷ 0 ∷ 0 ∷ []) ls ls'' → ls' ≡ ls'' → at'' ≡ at' + 1 → Chosen l places choice first to at'' (j + 1) ls'
   statement_kept back e put p q =
       let f : keeps choice j ≡ true = rw (ne_eqb (get_or choice j 0) 0 e) refl in
-      let x = get_or sc (base + get_or ls (link_width * (first + j)) 0) 0 in
-      let y : x ≡ get_or sc (base + linked l (first + j) 0) 0 = ap (λ (k : ℕ). get_or sc (base + k) 0) (still_statement back) in
+      let x = get_or places (get_or ls (link_width * (first + j)) 0) 0 in
+      let y : x ≡ get_or places (linked l (first + j) 0) 0 = ap (λ (k : ℕ). get_or places k 0) (still_statement back) in
       let z : link_width * at' + link_width ≡ link_width * (at' + 1) = omega arith in
       rw (p, q) record {
-        done = said refl z (ap (λ (k : ℕ). chosen l sc base choice first j ++ (k ∷ 0 ∷ 0 ∷ [])) y ∙ sym (chosen_next ∙ rw f refl)) (joined (omega arith) d.done put);
+        done = said refl z (ap (λ (k : ℕ). chosen l places choice first j ++ (k ∷ 0 ∷ 0 ∷ [])) y ∙ sym (chosen_next ∙ rw f refl)) (joined (omega arith) d.done put);
         reached = omega (arith, d.reached, rw f at count_next);
         few = omega (arith, d.few);
         low = omega (arith, d.low);

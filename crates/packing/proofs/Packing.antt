@@ -1,4 +1,4 @@
--- All rows packed in place, one by one: what is packed so far, for every choice that the numbers in the room are of, and a turn of the loop for a row that stays and for
+-- All rows packed in place, one by one: what is packed so far, for every choice that the numbers are of, and a turn of the loop for a row that stays and for
 -- one that does not.
 use Prim.Native.Nat.{ℕ, suc, ◌+◌, ◌*◌, ◌≤◌, ◌<◌}
 use native.Mathlib.Numerals.{add-one}
@@ -22,28 +22,28 @@ use Rattle.packing.specs.Rows.{Maps, moving, Mapped, MovesLists, MovesRow, Packe
 use Rattle.packing.proofs.Agreeing.{AsWas, as_was, stands_was, sizes_was, moves_row, moves_lists, row_agrees, links_agree, packing_agrees}
 use Rattle.packing.proofs.Slots.{sizes_all, stood}
 
-pub record Packing (w : Rows) (base count : ℕ) (sc : List ℕ) (i from to : ℕ) (ns ls : List ℕ) : Type 0 where
-  pub each : {c : ℕ → Bool} {left : List ℕ} → Mapped c left w base count sc → PackedUpto c left w i ns ls to
+pub record Packing (w : Rows) (count : ℕ) (words places : List ℕ) (i from to : ℕ) (ns ls : List ℕ) : Type 0 where
+  pub each : {c : ℕ → Bool} {left : List ℕ} → Mapped c left w count words places → PackedUpto c left w i ns ls to
   pub from_is : from ≡ links_before w i
   pub most : i ≤ root_row w
 
-pub none_packed : (w : Rows) (base count : ℕ) (sc : List ℕ) → Packing w base count sc 0 0 0 w.nodes w.links
+pub none_packed : (w : Rows) (count : ℕ) (words places : List ℕ) → Packing w count words places 0 0 0 w.nodes w.links
 unfolding rows_kept links_kept links_before packed_nodes packed_links
-none_packed w base count sc = record {
+none_packed w count words places = record {
   each = λ p. record { nodes_are = refl; nodes_left = refl; node_room = refl; links_are = refl; links_left = refl; link_room = refl; reached = refl };
   from_is = refl;
   most = omega arith;
 }
 
 -- where rows, lists and symbols go, while row i is packed
-abbrev pub maps : (base symbols from to : ℕ) → Maps
-maps base symbols from to = record { base = base; symbols = symbols; from = from; to = to }
+abbrev pub maps : (words places : List ℕ) (symbols from to : ℕ) → Maps
+maps words places symbols from to = record { words = words; places = places; symbols = symbols; from = from; to = to }
 
 links_next : (w : Rows) (i : ℕ) → links_before w (suc i) ≡ links_before w i + row_links w i
 unfolding links_before
 links_next w i = refl
 
-module _ {w : Rows} {base count root : ℕ} {sc : List ℕ} (p : Packable w base count root sc) {i from to : ℕ} {ns ls : List ℕ} (d : Packing w base count sc i from to ns ls) (h : i < root) where
+module _ {w : Rows} {count root : ℕ} {words places : List ℕ} (p : Packable w count root words places) {i from to : ℕ} {ns ls : List ℕ} (d : Packing w count words places i from to ns ls) (h : i < root) where
   under : i < root_row w
   under = omega (arith, p.last)
 
@@ -65,31 +65,31 @@ module _ {w : Rows} {base count root : ℕ} {sc : List ℕ} (p : Packable w base
   pub fits : from + lists_size ns i own_width ≤ absent
   fits = omega (arith, size_is, d.from_is, links_next w i, links_before_rises w (suc i) (height w) (omega (arith, under)), all_links p.good.checked, p.good.few)
 
-  back : get_or sc (base + i) 0 ≤ i
+  back : get_or places i 0 ≤ i
   back = omega (arith, p.mapped.rows.each i (omega (arith, under)), rows_kept_most p.choice w i)
 
-  pub lists_ready : MovesLists sc (maps base count from to) ns ls i
+  pub lists_ready : MovesLists (maps words places count from to) ns ls i
   lists_ready = moves_lists p.good i under was refl d.from_is low p.room
 
-  pub row_ready : MovesRow sc (maps base count from to) ns i (get_or sc (base + i) 0)
+  pub row_ready : MovesRow (maps words places count from to) ns i (get_or places i 0)
   row_ready = moves_row p.good i under was refl d.from_is low p.room back
 
   -- a row that stays
-  module _ {ns' ls' : List ℕ} (one : Written (node_width * get_or sc (base + i) 0) (node_width * get_or sc (base + i) 0 + node_width) (numbers_moved (moving sc (maps base count from to)) ns i node_width) ns ns')
-      (all : Written (link_width * to) (link_width * (to + lists_size ns i own_width)) (lists_moved (moving sc (maps base count from to)) ns ls i own_width) ls ls') where
-    row_kept : {c : ℕ → Bool} {left : List ℕ} → Mapped c left w base count sc → stays c w i ≡ true → PackedUpto c left w (suc i) ns' ls' (to + lists_size ns i own_width)
+  module _ {ns' ls' : List ℕ} (one : Written (node_width * get_or places i 0) (node_width * get_or places i 0 + node_width) (numbers_moved (moving (maps words places count from to)) ns i node_width) ns ns')
+      (all : Written (link_width * to) (link_width * (to + lists_size ns i own_width)) (lists_moved (moving (maps words places count from to)) ns ls i own_width) ls ls') where
+    row_kept : {c : ℕ → Bool} {left : List ℕ} → Mapped c left w count words places → stays c w i ≡ true → PackedUpto c left w (suc i) ns' ls' (to + lists_size ns i own_width)
     unfolding packed_nodes packed_links
     row_kept {c} {left} m s =
         let q = d.each m in
-        let e : get_or sc (base + i) 0 ≡ rows_kept c w i = m.rows.each i (omega (arith, under)) in
-        let a = packing_agrees i {m = maps base count from to} m (omega (arith, under)) refl refl d.from_is q.reached in
-        let f : node_width * rows_kept c w (suc i) ≡ node_width * get_or sc (base + i) 0 + node_width = omega (arith, e, rows_kept_next c w i s) in
+        let e : get_or places i 0 ≡ rows_kept c w i = m.rows.each i (omega (arith, under)) in
+        let a = packing_agrees i m (omega (arith, under)) d.from_is q.reached in
+        let f : node_width * rows_kept c w (suc i) ≡ node_width * get_or places i 0 + node_width = omega (arith, e, rows_kept_next c w i s) in
         let g : links_kept c w (suc i) ≡ to + lists_size ns i own_width = omega (arith, q.reached, links_kept_next c w i s, size_is) in
-        let t : node_width * get_or sc (base + i) 0 ≡ node_width * rows_kept c w i = omega (arith, e) in
+        let t : node_width * get_or places i 0 ≡ node_width * rows_kept c w i = omega (arith, e) in
         let u : link_width * to ≡ link_width * links_kept c w i = omega (arith, q.reached) in
         record {
           nodes_are = rw (f, one.rows, t, q.nodes_are, row_agrees p.good i under was a (λ x. refl), s) refl;
-          nodes_left = later ns ns' (node_width * get_or sc (base + i) 0 + node_width) (node_width * suc i) (omega (arith, back)) one.rest ∙ later w.nodes ns (node_width * i) (node_width * suc i) (omega arith) q.nodes_left;
+          nodes_left = later ns ns' (node_width * get_or places i 0 + node_width) (node_width * suc i) (omega (arith, back)) one.rest ∙ later w.nodes ns (node_width * i) (node_width * suc i) (omega arith) q.nodes_left;
           node_room = one.size ∙ q.node_room;
           links_are = rw (g, all.rows, u, q.links_are, links_agree p.good i under was a (λ x. refl), s) refl;
           links_left =
@@ -100,7 +100,7 @@ module _ {w : Rows} {base count root : ℕ} {sc : List ℕ} (p : Packable w base
         }
 
   -- one that does not
-  row_left : {c : ℕ → Bool} {left : List ℕ} → Mapped c left w base count sc → stays c w i ≡ false → PackedUpto c left w (suc i) ns ls to
+  row_left : {c : ℕ → Bool} {left : List ℕ} → Mapped c left w count words places → stays c w i ≡ false → PackedUpto c left w (suc i) ns ls to
   unfolding packed_nodes packed_links
   row_left {c} {left} m s =
       let q = d.each m in
@@ -114,29 +114,29 @@ module _ {w : Rows} {base count root : ℕ} {sc : List ℕ} (p : Packable w base
         reached = q.reached ∙ sym (links_kept_same c w i s);
       }
 
-  -- the numbers in the room say which it is
-  next_place : {c : ℕ → Bool} {left : List ℕ} → Mapped c left w base count sc → get_or sc (base + i + 1) 0 ≡ rows_kept c w (suc i)
-  next_place m = let e : base + suc i ≡ base + i + 1 = omega arith in ap (λ (x : ℕ). get_or sc x 0) (sym e) ∙ m.rows.each (suc i) (omega (arith, under))
+  -- the numbers say which it is
+  next_place : {c : ℕ → Bool} {left : List ℕ} → Mapped c left w count words places → get_or places (i + 1) 0 ≡ rows_kept c w (suc i)
+  next_place m = ap (λ (x : ℕ). get_or places x 0) (add-one i) ∙ m.rows.each (suc i) (omega (arith, under))
 
-  row_stays : {c : ℕ → Bool} {left : List ℕ} → Mapped c left w base count sc → (get_or sc (base + i + 1) 0 ≡ get_or sc (base + i) 0 → ⊥) → stays c w i ≡ true
+  row_stays : {c : ℕ → Bool} {left : List ℕ} → Mapped c left w count words places → (get_or places (i + 1) 0 ≡ get_or places i 0 → ⊥) → stays c w i ≡ true
   row_stays {c} m n = pick (stays c w i) refl
     where
       pick : (t : Bool) → stays c w i ≡ t → t ≡ true
       pick true s = refl
       pick false s = absurd (n (next_place m ∙ rows_kept_same c w i s ∙ sym (m.rows.each i (omega (arith, under)))))
 
-  row_goes : {c : ℕ → Bool} {left : List ℕ} → Mapped c left w base count sc → get_or sc (base + i + 1) 0 ≡ get_or sc (base + i) 0 → stays c w i ≡ false
+  row_goes : {c : ℕ → Bool} {left : List ℕ} → Mapped c left w count words places → get_or places (i + 1) 0 ≡ get_or places i 0 → stays c w i ≡ false
   row_goes {c} m n = pick (stays c w i) refl
     where
       pick : (t : Bool) → stays c w i ≡ t → t ≡ false
       pick true s = absurd (omega (arith, n, next_place m, rows_kept_next c w i s, m.rows.each i (omega (arith, under))))
       pick false s = refl
 
-  pub turn_kept : {size to' : ℕ} {ns' ls' ns'' ls'' : List ℕ} → (get_or sc (base + i + 1) 0 ≡ get_or sc (base + i) 0 → ⊥) → size ≡ lists_size ns i own_width →
-      Written (link_width * to) (link_width * (to + lists_size ns i own_width)) (lists_moved (moving sc (maps base count from to)) ns ls i own_width) ls ls' →
-      Written (node_width * get_or sc (base + i) 0) (node_width * get_or sc (base + i) 0 + node_width) (numbers_moved (moving sc (maps base count from to)) ns i node_width) ns ns' →
-      ns'' ≡ ns' → ls'' ≡ ls' → to' ≡ to + size → Packing w base count sc (i + 1) (from + size) to' ns'' ls''
+  pub turn_kept : {size to' : ℕ} {ns' ls' ns'' ls'' : List ℕ} → (get_or places (i + 1) 0 ≡ get_or places i 0 → ⊥) → size ≡ lists_size ns i own_width →
+      Written (link_width * to) (link_width * (to + lists_size ns i own_width)) (lists_moved (moving (maps words places count from to)) ns ls i own_width) ls ls' →
+      Written (node_width * get_or places i 0) (node_width * get_or places i 0 + node_width) (numbers_moved (moving (maps words places count from to)) ns i node_width) ns ns' →
+      ns'' ≡ ns' → ls'' ≡ ls' → to' ≡ to + size → Packing w count words places (i + 1) (from + size) to' ns'' ls''
   turn_kept n e all one a b t = rw (add-one i, a, b, t, e) record { each = λ m. row_kept one all m (row_stays m n); from_is = omega (arith, d.from_is, size_is, links_next w i); most = omega (arith, under) }
 
-  pub turn_left : {size to' : ℕ} {ns'' ls'' : List ℕ} → get_or sc (base + i + 1) 0 ≡ get_or sc (base + i) 0 → size ≡ lists_size ns i own_width → ns'' ≡ ns → ls'' ≡ ls → to' ≡ to → Packing w base count sc (i + 1) (from + size) to' ns'' ls''
+  pub turn_left : {size to' : ℕ} {ns'' ls'' : List ℕ} → get_or places (i + 1) 0 ≡ get_or places i 0 → size ≡ lists_size ns i own_width → ns'' ≡ ns → ls'' ≡ ls → to' ≡ to → Packing w count words places (i + 1) (from + size) to' ns'' ls''
   turn_left n e a b t = rw (add-one i, a, b, t, e) record { each = λ m. row_left m (row_goes m n); from_is = omega (arith, d.from_is, size_is, links_next w i); most = omega (arith, under) }

@@ -72,8 +72,8 @@ unfolding root_links
 root_links_append c ρ w [] ys = refl
 root_links_append c ρ w (x ∷ xs) ys = rw (root_links_append c ρ w xs ys) refl
 
-module _ {w : Rows} {base count : ℕ} {choice : List ℕ} {first root : ℕ} {sc : List ℕ} (p : PackableAll w base count choice first root sc) {ns ls : List ℕ} {to : ℕ} (r : PacksRows w base count sc ns ls to) where
-  abbrev good : Good base w
+module _ {w : Rows} {count : ℕ} {choice : List ℕ} {first root : ℕ} {words places : List ℕ} (p : PackableAll w count choice first root words places) {ns ls : List ℕ} {to : ℕ} (r : PacksRows w count words places ns ls to) where
+  abbrev good : Good (length words) w
   good = p.packable.good
 
   abbrev so_far : PackedUpto p.packable.choice p.packable.left w (root_row w) ns ls to
@@ -88,14 +88,14 @@ module _ {w : Rows} {base count : ℕ} {choice : List ℕ} {first root : ℕ} {s
   reaches : to ≤ first
   reaches = omega (arith, so_far.reached, links_kept_most p.packable.choice w (root_row w), p.list, root_begins good)
 
-  pub listable : Listable ls sc base choice first to
+  pub listable : Listable ls places choice first to
   listable = record {
     back = reaches;
     room = omega (arith, root_ends good, p.list, p.all, good.links, so_far.link_room);
     rows = λ j h. rw (still j) (omega (arith, statement_below good j (omega (arith, p.all)), p.packable.room));
   }
 
-  pub place_back : get_or sc (base + root) 0 ≤ root
+  pub place_back : get_or places root 0 ≤ root
   place_back = rw p.packable.last (omega (arith, p.packable.mapped.rows.each (root_row w) (omega arith), rows_kept_most p.packable.choice w (root_row w)))
 
   pub root_there : node_width * root + node_width ≤ length ns
@@ -104,19 +104,19 @@ module _ {w : Rows} {base count : ℕ} {choice : List ℕ} {first root : ℕ} {s
   pub to_fits : to ≤ absent
   to_fits = omega (arith, reaches, p.list, root_ends good, good.few)
 
-  module _ {ls' : List ℕ} {end : ℕ} (l : Lists ls sc base choice first to ls' end) where
+  module _ {ls' : List ℕ} {end : ℕ} (l : Lists ls places choice first to ls' end) where
     pub end_later : to ≤ end
     end_later = omega (arith, l.end)
 
     pub count_fits : end - to ≤ absent
     count_fits = omega (arith, l.end, count_most choice (length choice), p.all, root_ends good, good.few)
 
-    chosen_kept : {left : List ℕ} → Mapped (keeps choice) left w base count sc → (n : ℕ) → n ≤ statements w → chosen ls sc base choice first n ≡ root_links (keeps choice) (λ x. place x left) w (kept_upto (keeps choice) w n)
+    chosen_kept : {left : List ℕ} → Mapped (keeps choice) left w count words places → (n : ℕ) → n ≤ statements w → chosen ls places choice first n ≡ root_links (keeps choice) (λ x. place x left) w (kept_upto (keeps choice) w n)
     unfolding chosen kept_upto root_links
     chosen_kept m zero h = refl
     chosen_kept {left} m (suc n) h =
-        let e : get_or sc (base + linked ls (first + n) 0) 0 ≡ rows_kept (keeps choice) w (statement w n) =
-        ap (λ (x : ℕ). get_or sc (base + x) 0) (still n ∙ statement_is w n) ∙ m.rows.each (statement w n) (omega (arith, statement_below good n h, statement_is w n)) in
+        let e : get_or places (linked ls (first + n) 0) 0 ≡ rows_kept (keeps choice) w (statement w n) =
+        ap (λ (x : ℕ). get_or places x 0) (still n ∙ statement_is w n) ∙ m.rows.each (statement w n) (omega (arith, statement_below good n h, statement_is w n)) in
         rw (chosen_kept m n (omega arith), e, root_links_append (keeps choice) (λ x. place x left) w (kept_upto (keeps choice) w n) (cond (keeps choice n) (statement w n ∷ []) [])) (pick (keeps choice n))
       where
         pick : (t : Bool) → root_links (keeps choice) (λ x. place x left) w (kept_upto (keeps choice) w n) ++ cond t (rows_kept (keeps choice) w (statement w n) ∷ 0 ∷ 0 ∷ []) []
@@ -127,18 +127,18 @@ module _ {w : Rows} {base count : ℕ} {choice : List ℕ} {first root : ℕ} {s
     many : end - to ≡ length (kept (keeps choice) w)
     many = omega (arith, l.end, ap (chosen_count choice) p.all, count_kept choice w (statements w))
 
-    packed_all : {ns' left : List ℕ} → Written (node_width * get_or sc (base + root) 0) (node_width * get_or sc (base + root) 0 + node_width) (root_numbers ns root to (end - to)) ns ns' → Mapped (keeps choice) left w base count sc → PackedAll (keeps choice) left w ns' ls' end
+    packed_all : {ns' left : List ℕ} → Written (node_width * get_or places root 0) (node_width * get_or places root 0 + node_width) (root_numbers ns root to (end - to)) ns ns' → Mapped (keeps choice) left w count words places → PackedAll (keeps choice) left w ns' ls' end
     unfolding packed_with
     packed_all {left = left} one m =
         let q = r.says m in
-        let e : get_or sc (base + root) 0 ≡ rows_kept (keeps choice) w (root_row w) = ap (λ (x : ℕ). get_or sc (base + x) 0) p.packable.last ∙ m.rows.each (root_row w) (omega arith) in
-        let f : node_width * suc (rows_kept (keeps choice) w (root_row w)) ≡ node_width * get_or sc (base + root) 0 + node_width = omega (arith, e) in
-        let t : node_width * get_or sc (base + root) 0 ≡ node_width * rows_kept (keeps choice) w (root_row w) = omega (arith, e) in
+        let e : get_or places root 0 ≡ rows_kept (keeps choice) w (root_row w) = ap (λ (x : ℕ). get_or places x 0) p.packable.last ∙ m.rows.each (root_row w) (omega arith) in
+        let f : node_width * suc (rows_kept (keeps choice) w (root_row w)) ≡ node_width * get_or places root 0 + node_width = omega (arith, e) in
+        let t : node_width * get_or places root 0 ≡ node_width * rows_kept (keeps choice) w (root_row w) = omega (arith, e) in
         let u : link_width * to ≡ link_width * links_kept (keeps choice) w (root_row w) = omega (arith, q.reached) in
         let start = ap (λ (x : ℕ). at ns x 1) p.packable.last ∙ was.number 1 ∙ sym (own_number w (root_row w) 1 (omega arith)) in
         let stop = ap (λ (x : ℕ). at ns x 2) p.packable.last ∙ was.number 2 ∙ sym (own_number w (root_row w) 2 (omega arith)) in
         let line : root_numbers ns root to (end - to) ≡ root_line (keeps choice) (λ x. place x left) w = rw (start, stop, many, q.reached) refl in
-        let list : chosen ls sc base choice first (length choice) ≡ root_links (keeps choice) (λ x. place x left) w (kept (keeps choice) w) = rw p.all (chosen_kept m (statements w) (omega arith)) in
+        let list : chosen ls places choice first (length choice) ≡ root_links (keeps choice) (λ x. place x left) w (kept (keeps choice) w) = rw p.all (chosen_kept m (statements w) (omega arith)) in
         record {
           nodes_are = rw (f, one.rows, t, q.nodes_are, line) refl;
           node_room = one.size ∙ q.node_room;
@@ -147,5 +147,5 @@ module _ {w : Rows} {base count : ℕ} {choice : List ℕ} {first root : ℕ} {s
           wide = omega (arith, many, end_later, q.reached);
         }
 
-    pub root_packed : {ns' : List ℕ} → Written (node_width * get_or sc (base + root) 0) (node_width * get_or sc (base + root) 0 + node_width) (root_numbers ns root to (end - to)) ns ns' → PacksAll w base count choice sc ns' ls' end
+    pub root_packed : {ns' : List ℕ} → Written (node_width * get_or places root 0) (node_width * get_or places root 0 + node_width) (root_numbers ns root to (end - to)) ns ns' → PacksAll w count choice words places ns' ls' end
     root_packed one = record { says = λ m. packed_all one m }

@@ -2,11 +2,10 @@
 use Prim.Native.Nat.{ℕ, suc, ◌+◌, ◌-◌, ◌*◌, ◌/◌, ◌≤◌, ◌<◌}
 use native.Mathlib.Omega.{arith}
 use mathlib.Core.Bool.{Bool}
-use mathlib.Core.List.{List, ◌++◌}
+use mathlib.Core.List.{List}
 use mathlib.Core.Path.{◌≡◌, refl, sym, ap, ◌∙◌}
-use lib.ListN.{length, get_or, take, drop, get_or-append, length-drop}
+use lib.ListN.{length, get_or, take}
 use lib.Seq.{get_or-take, length-take-le}
-use Rattle.std.proofs.lemmas.List.{get_or-append_right}
 use Rattle.grammar.specs.Handle.{absent}
 use Rattle.grammar.specs.Operator.{place}
 use Rattle.grammar.specs.Room.{node_width, link_width, symbol_width, filled}
@@ -20,7 +19,7 @@ use Rattle.parts.proofs.Passing.{packed_links_most}
 use Rattle.parts.proofs.Sizes.{rows_kept_most}
 use Rattle.parts.proofs.Symbols.{packed_symbols_length, left_most}
 use Rattle.packing.specs.Answer.{Settleable, Settled}
-use Rattle.packing.specs.Kept.{Markable, Placed, Placing}
+use Rattle.packing.specs.Kept.{Markable, Placed}
 use Rattle.packing.specs.Known.{Hearing, HearingAll, Begins}
 use Rattle.packing.specs.Roles.{at}
 use Rattle.packing.specs.Rows.{Mapped, PackableAll, PackedAll}
@@ -29,23 +28,6 @@ use Rattle.packing.proofs.Slots.{own_number}
 -- rows are at the front, and what follows is cleared
 pub cleared_after : (before : List ℕ) {xs ys zs : List ℕ} {n : ℕ} → take n ys ≡ xs → n ≤ length ys → length ys ≡ length before → Cleared n ys zs → zs ≡ filled xs before
 cleared_after before e h l c = cleared_filled h c ∙ rw (e, l) refl
-
--- numbers that are lent from the middle of a room: there, and what lies below them is as it was
-module _ {base : ℕ} (xs ys zs : List ℕ) (room : base ≤ length xs) where
-  pub placed_there : {c : ℕ → Bool} {w : Rows} → root_row w < length ys → Placed c w ys → Placing c w base (take base xs ++ (ys ++ zs))
-  placed_there {w = w} l p = record { each = λ i h. at_mid i (omega arith) ∙ p.each i h }
-    where
-      at_mid : (i : ℕ) → i < length ys → get_or (take base xs ++ (ys ++ zs)) (base + i) 0 ≡ get_or ys i 0
-      at_mid i h =
-          let e : base + i - base ≡ i = omega arith in
-          get_or-append_right (take base xs) (ys ++ zs) base (base + i) 0 (length-take-le base xs room) (omega arith) ∙ rw e (get_or-append ys zs 0 i h)
-
-  pub still_below : (x : ℕ) → x < base → get_or (take base xs ++ (ys ++ zs)) x 0 ≡ get_or xs x 0
-  still_below x h = get_or-append (take base xs) (ys ++ zs) 0 x (omega (arith, length-take-le base xs room)) ∙ get_or-take base xs x 0 h
-
--- how many they are
-pub lent_many : (base n : ℕ) (xs : List ℕ) → base + n ≤ length xs → length (take (base + n - base) (drop base xs)) ≡ n
-lent_many base n xs h = let e : base + n - base ≡ n = omega arith in rw e (length-take-le n (drop base xs) (omega (arith, length-drop base xs)))
 
 module _ {w : Rows} {ss : List ℕ} {n s b : ℕ} {choice scratch : List ℕ} (h : Settleable w ss n s b choice scratch) where
   abbrev c : ℕ → Bool
@@ -78,20 +60,25 @@ module _ {w : Rows} {ss : List ℕ} {n s b : ℕ} {choice scratch : List ℕ} (h
     unfolding left
     heard_all = rw h.all at k.known
 
-    -- where each row goes, in a part of the room that is lent
-    module _ {marks : List ℕ} (zs : List ℕ) (same : length sc ≡ length scratch) (size : length marks ≡ n) (p : Placed c w marks) where
-      placing : Placing c w s (take s sc ++ (marks ++ zs))
-      placing = placed_there sc marks zs (omega (arith, h.lent, same)) (omega (arith, size, h.tall, h.good.checked.rooted.some)) p
+    -- the symbols' numbers are at the front of the room, and those of the rows behind them
+    module _ {words places : List ℕ} (same : length sc ≡ length scratch) (front : words ≡ take s sc) (p : Placed c w places) where
+      many : length words ≡ s
+      many = ap length front ∙ length-take-le s sc (omega (arith, h.lent, same))
 
-      pub mapped : Mapped c (left c b w) w s known (take s sc ++ (marks ++ zs))
-      mapped = record { numbers = λ x i. still_below sc marks zs (omega (arith, h.lent, same)) x i ∙ heard_all.numbers x i; many = heard_all.many; rows = placing }
+      pub mapped : Mapped c (left c b w) w known words places
+      mapped =
+          record {
+            numbers = λ x i. let l : x < s = omega (arith, i, many) in ap (λ (zs : List ℕ). get_or zs x 0) front ∙ get_or-take s sc x 0 l ∙ heard_all.numbers x l;
+            many = heard_all.many;
+            rows = p;
+          }
 
-      pub packable : {first root : ℕ} → first ≡ root_first w → root ≡ root_row w → length (take s sc ++ (marks ++ zs)) ≡ length scratch → PackableAll w s known choice first root (take s sc ++ (marks ++ zs))
-      packable e r z = record { packable = record { good = h.good; last = r; room = omega (arith, h.lent, z); choice = c; left = left c b w; mapped = mapped }; list = e; all = h.all }
+      pub packable : {first root : ℕ} → first ≡ root_first w → root ≡ root_row w → length places ≡ n → PackableAll w known choice first root words places
+      packable e r z = record { packable = record { good = rw many h.good; last = r; room = omega (arith, h.tall, z); choice = c; left = left c b w; mapped = mapped }; list = e; all = h.all }
 
       -- how many rows stay, the root with them
-      pub high_is : get_or (take s sc ++ (marks ++ zs)) (s + (n - 1)) 0 + 1 ≡ suc (rows_kept c w (root_row w))
-      high_is = omega (arith, ap (λ (i : ℕ). get_or (take s sc ++ (marks ++ zs)) (s + i) 0) root_is, placing.each (root_row w) (omega arith))
+      pub high_is : get_or places (n - 1) 0 + 1 ≡ suc (rows_kept c w (root_row w))
+      high_is = omega (arith, ap (λ (i : ℕ). get_or places i 0) root_is, p.each (root_row w) (omega arith))
 
     pub symbols_are : take (symbol_width * known) sy ≡ packed_symbols c b w ss
     unfolding packed_symbols

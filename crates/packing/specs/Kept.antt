@@ -1,5 +1,5 @@
 -- Which rows stay, and where each goes: a number for each node row. In the lent room they stand behind those of the symbols.
-use Rattle.std.specs.Prelude.{ℕ, ◌+◌, ◌≤◌, ◌<◌, Bool, cond, List, ◌≡◌, length, get_or}
+use Rattle.std.specs.Prelude.{ℕ, ◌≤◌, ◌<◌, Bool, cond, List, ◌≡◌, length, get_or}
 use Rattle.grammar.specs.Naming.{height}
 use Rattle.grammar.specs.Pattern.{among}
 use Rattle.grammar.specs.Rows.{Rows}
@@ -21,12 +21,9 @@ pub record Marked (c : ℕ → Bool) (w : Rows) (n rows : ℕ) (marks : List ℕ
 pub record Staying (c : ℕ → Bool) (w : Rows) (from : ℕ) (marks : List ℕ) : Type 0 where
   pub each : (i : ℕ) → from ≤ i → i < root_row w → get_or marks i 0 ≡ one (stays c w i)
 
--- where each row goes, and the same where the numbers stand from `base` on
+-- where each row goes
 pub record Placed (c : ℕ → Bool) (w : Rows) (marks : List ℕ) : Type 0 where
   pub each : (i : ℕ) → i ≤ root_row w → get_or marks i 0 ≡ rows_kept c w i
-
-pub record Placing (c : ℕ → Bool) (w : Rows) (base : ℕ) (scratch : List ℕ) : Type 0 where
-  pub each : (i : ℕ) → i ≤ root_row w → get_or scratch (base + i) 0 ≡ rows_kept c w i
 
 -- what is asked: rows that keep the rules, with a choice for each statement, and a number for each row
 pub record Markable (w : Rows) (choice : List ℕ) (first numbers : ℕ) : Type 0 where

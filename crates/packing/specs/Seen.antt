@@ -9,7 +9,7 @@ abbrev pub seen : Lent-rows → Rows
 seen r = record { nodes = r.nodes.now; links = r.links.now }
 
 abbrev pub maps_of : Lent-maps → Maps
-maps_of m = record { base = m.base; symbols = m.symbols; from = m.from; to = m.to }
+maps_of m = record { words = m.words.now; places = m.places.now; symbols = m.symbols; from = m.from; to = m.to }
 
 abbrev pub moves_of : Lent-maps → Move
-moves_of m = moving m.scratch.now (maps_of m)
+moves_of m = moving (maps_of m)

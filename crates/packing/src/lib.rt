@@ -70,12 +70,13 @@ fn settle(
 {
     let root = n as usize - 1;
     let first = nodes[NODE_WIDTH * root + 3] as usize;
-    let base = s as usize;
     let rows = Rows { nodes, links };
     let known = hear_all(rows, symbols, scratch, s, builtins, first, choice);
-    keep(rows, choice, first, &mut scratch[base..base + n as usize]);
-    let high = scratch[base + root] as usize + 1;
-    let long = pack(nodes, links, scratch, base, known, choice, first, root);
+    let (words, rest) = scratch.split_at_mut(s as usize);
+    let places = &mut rest[..n as usize];
+    keep(rows, choice, first, places);
+    let high = places[root] as usize + 1;
+    let long = pack(nodes, links, words, places, known, choice, first, root);
     clear(nodes, NODE_WIDTH * high);
     clear(links, LINK_WIDTH * long);
     clear(symbols, SYMBOL_WIDTH * (known as usize));

@@ -24,7 +24,7 @@ fn put_link(links: &mut [u32], k: usize, x: u32, y: u32, z: u32)
 // The links of a list, to a place at or before theirs.
 // Ruled out: the last link left behind; a name's place moved.
 fn move_list(links: &mut [u32], m: Maps, role: Role, from: usize, to: usize, count: usize)
-    requires { MovesList m.scratch.now (maps_of m) (digit role) links.old from to count }
+    requires { MovesList (maps_of m) (digit role) links.old from to count }
     ensures { Written (link_width * to) (link_width * (to + count)) (list_moved (moves_of m.entry) (digit role) links.old from count) links.old links.new }
 {
     for k in 0..count {
@@ -39,7 +39,7 @@ fn move_list(links: &mut [u32], m: Maps, role: Role, from: usize, to: usize, cou
 // The links of all lists of a row, to where m says.
 // Ruled out: an import's second list before its first.
 fn move_lists(nodes: &[u32], links: &mut [u32], m: Maps, row: usize)
-    requires { MovesLists m.scratch.now (maps_of m) nodes.now links.old row }
+    requires { MovesLists (maps_of m) nodes.now links.old row }
     ensures { Written (link_width * m.entry.to) (link_width * (m.entry.to + lists_size nodes.now row 9)) (lists_moved (moves_of m.entry) nodes.now links.old row 9) links.old links.new }
 {
     let base = NODE_WIDTH * row;
@@ -75,7 +75,7 @@ fn row_links(nodes: &[u32], row: usize) -> usize
 // A row, number by number, to a place at or before its own.
 // Ruled out: a parent that stays where it was.
 fn move_row(nodes: &mut [u32], m: Maps, row: usize, to: usize)
-    requires { MovesRow m.scratch.now (maps_of m) nodes.old row to }
+    requires { MovesRow (maps_of m) nodes.old row to }
     ensures { Written (node_width * to) (node_width * to + node_width) (numbers_moved (moves_of m.entry) nodes.old row 10) nodes.old nodes.new }
 {
     let from = NODE_WIDTH * row;
@@ -90,23 +90,23 @@ fn move_row(nodes: &mut [u32], m: Maps, row: usize, to: usize)
 pub(crate) fn pack_rows(
     nodes: &mut [u32],
     links: &mut [u32],
-    scratch: &[u32],
-    base: usize,
+    words: &[u32],
+    places: &[u32],
     symbols: u32,
     root: usize,
 ) -> usize
-    requires { Packable (rows nodes.old links.old) base symbols root scratch.now }
-    ensures { PacksRows (rows nodes.old links.old) base symbols scratch.now nodes.new links.new result }
+    requires { Packable (rows nodes.old links.old) symbols root words.now places.now }
+    ensures { PacksRows (rows nodes.old links.old) symbols words.now places.now nodes.new links.new result }
 {
     let mut from = 0;
     let mut to = 0;
     for i in 0..root {
-        let place = scratch[base + i];
+        let place = places[i];
         let size = row_links(nodes, i);
-        if scratch[base + i + 1] != place {
+        if places[i + 1] != place {
             let m = Maps {
-                scratch,
-                base,
+                words,
+                places,
                 symbols,
                 from,
                 to,
@@ -122,22 +122,15 @@ pub(crate) fn pack_rows(
 
 // The root's list, without those that are dropped, from link `to` on; where it ends.
 // Ruled out: a dropped statement that stays in the list.
-fn pack_list(
-    links: &mut [u32],
-    scratch: &[u32],
-    base: usize,
-    choice: &[u8],
-    first: usize,
-    to: usize,
-) -> usize
-    requires { Listable links.old scratch.now base choice.now first to }
-    ensures { Lists links.old scratch.now base choice.now first to links.new result }
+fn pack_list(links: &mut [u32], places: &[u32], choice: &[u8], first: usize, to: usize) -> usize
+    requires { Listable links.old places.now choice.now first to }
+    ensures { Lists links.old places.now choice.now first to links.new result }
 {
     let mut at = to;
     for (j, kept) in choice.iter().enumerate() {
         if *kept != 0 {
             let row = links[LINK_WIDTH * (first + j)] as usize;
-            put_link(links, at, scratch[base + row], 0, 0);
+            put_link(links, at, places[row], 0, 0);
             at += 1;
         }
     }
@@ -171,19 +164,19 @@ fn pack_root(nodes: &mut [u32], root: usize, to: usize, first: u32, count: u32)
 pub(crate) fn pack(
     nodes: &mut [u32],
     links: &mut [u32],
-    scratch: &[u32],
-    base: usize,
+    words: &[u32],
+    places: &[u32],
     symbols: u32,
     choice: &[u8],
     first: usize,
     root: usize,
 ) -> usize
-    requires { PackableAll (rows nodes.old links.old) base symbols choice.now first root scratch.now }
-    ensures { PacksAll (rows nodes.old links.old) base symbols choice.now scratch.now nodes.new links.new result }
+    requires { PackableAll (rows nodes.old links.old) symbols choice.now first root words.now places.now }
+    ensures { PacksAll (rows nodes.old links.old) symbols choice.now words.now places.now nodes.new links.new result }
 {
-    let to = pack_rows(nodes, links, scratch, base, symbols, root);
-    let end = pack_list(links, scratch, base, choice, first, to);
-    let place = scratch[base + root] as usize;
+    let to = pack_rows(nodes, links, words, places, symbols, root);
+    let end = pack_list(links, places, choice, first, to);
+    let place = places[root] as usize;
     pack_root(nodes, root, place, to as u32, (end - to) as u32);
     end
 }

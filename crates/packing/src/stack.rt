@@ -1,4 +1,5 @@
 // What waits to be heard, on a stack of its own: rows, and names and strings that stand in rows and links. Two numbers each.
+// `stack` and `top` stay two parameters, which is plainer: a struct with the lent slice in it would owe, in each function, that this is still the same slice and as long.
 ghost use Rattle.std.specs.Prelude.{◌+◌, ◌*◌, ◌≤◌, ◌∷◌, [], ◌≡◌, length, set};
 ghost use Rattle.grammar.specs.Room.{link_width};
 ghost use Rattle.grammar.specs.Rows.{Rows as Lines};

@@ -42,7 +42,7 @@ module _ {cuts : List ℕ} {rows i : ℕ} {q : Place} (k : Placed cuts rows i q)
   out_rows width xs ys h n = rw (sym k.row_is, sym k.next_is) (outside (width * q.row) (width * q.next) xs ys (rw (k.row_is, k.next_is) (rows_rise width rows (omega arith))) (rw k.next_is h) n)
 
 module _ {s : Source} {j : Joined} {i : ℕ} {q : Place} (p : Places j i) (k : Placed j.cuts j.rows i q) where
-  -- ns to ss are what the call leaves in its parts of the rooms, and zs what stands where its answer is put
+  -- ns to ss are what the call leaves in its parts of the rooms, list' what stands in the list's part, and zs what stands where its answer is put
   pub stepped : {a : Numbers} {list list' ns ls ys ss zs : List ℕ} → Single j.names (part q.from q.upto j.text) j.edition j.limit (part q.first q.past j.lent.list) (rooms_part q j.lent.rooms) s list' (rooms ns ls ys ss) a →
       Outside q.first q.past j.lent.list list → part q.first q.past list ≡ list' →
       length ns ≡ length (rows_part node_width q j.lent.rooms.nodes) → length ls ≡ length (rows_part link_width q j.lent.rooms.links) → length ys ≡ length (rows_part symbol_width q j.lent.rooms.symbols) → length ss ≡ length (rows_part scratch_width q j.lent.rooms.scratch) →
@@ -67,14 +67,3 @@ module _ {s : Source} {j : Joined} {i : ℕ} {q : Place} (p : Places j i) (k : P
     where
       eight : listed a ++ drop 8 (answer_at i j.lent) ≡ listed a
       eight = ap (λ xs. listed a ++ xs) (drop_of_length-le (answer_at i j.lent) {i = 8} (rw (part_length (answer_width * i) (answer_width * (i + 1)) j.lent.answers (omega arith) p.answers) (omega arith)))
-
-  -- and where the token maker has made the list, in its part
-  pub made_stepped : {a : Numbers} {list' ns ls ys ss zs : List ℕ} → Single j.names (part q.from q.upto j.text) j.edition j.limit (part q.first q.past j.lent.list) (rooms_part q j.lent.rooms) s list' (rooms ns ls ys ss) a →
-      length list' ≡ length (part q.first q.past j.lent.list) →
-      length ns ≡ length (rows_part node_width q j.lent.rooms.nodes) → length ls ≡ length (rows_part link_width q j.lent.rooms.links) → length ys ≡ length (rows_part symbol_width q j.lent.rooms.symbols) → length ss ≡ length (rows_part scratch_width q j.lent.rooms.scratch) →
-      length zs ≡ length (answer_at i j.lent) → zs ≡ listed a ++ drop 8 (answer_at i j.lent) →
-      Step s j i (lent (anew q.first q.past j.lent.list list') (rows_anew node_width q j.lent.rooms.nodes ns) (rows_anew link_width q j.lent.rooms.links ls) (rows_anew symbol_width q j.lent.rooms.symbols ys) (rows_anew scratch_width q j.lent.rooms.scratch ss) (anew (answer_width * i) (answer_width * (i + 1)) j.lent.answers zs))
-  made_stepped {list' = list'} x m =
-      let forth : q.first ≤ q.past = omega (arith, p.list_forth, k) in
-      let within : q.past ≤ length j.lent.list = omega (arith, p.list_within, k) in
-      stepped x (outside q.first q.past j.lent.list list' forth within m) (inside q.first q.past j.lent.list list' forth within m)

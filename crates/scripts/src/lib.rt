@@ -7,9 +7,11 @@ ghost use Rattle.spelling.specs.Decides.{Decides};
 ghost use Rattle.scripts.specs.Joined.{cut_end, cut_start, scripts, Forward, RightCuts, RoomFor, Fits, listed, Source, AnswersAll, lent, joined};
 ghost use Rattle.scripts.specs.Steps.{Placed, Step};
 
+mod tokens;
+
 use ast::{LINK_WIDTH, NODE_WIDTH};
-use reader::read_with;
-use syntax::{Numbers, parse_with};
+use syntax::Numbers;
+use tokens::{Given, Made, Tokens};
 
 // The code of a call whose cuts are not right or whose rooms are too small.
 pub const TURNED_AWAY: u32 = 19;
@@ -152,12 +154,12 @@ fn locate(cuts: &[u32], part: u32, i: usize) -> Place
     }
 }
 
-// Reads script i from its list, and puts its answer.
-fn parse_one(
+// Answers script i, and puts its answer.
+fn one_script<T: Tokens>(
     names: &[u8],
     rows: &[u32],
     text: &[u8],
-    tokens: &[u32],
+    tokens: &mut T,
     cuts: &[u32],
     i: usize,
     edition: u32,
@@ -169,8 +171,10 @@ fn parse_one(
     scratch: &mut [u32],
     answers: &mut [u32],
 )
-    requires { (i < scripts cuts.now) × Fits (joined (names_in names.now rows.now) text.now cuts.now edition limit part (lent tokens.now nodes.old links.old symbols.old scratch.old answers.old)) }
-    ensures { Step Source.given (joined (names_in names.now rows.now) text.now cuts.now edition limit part (lent tokens.now nodes.old links.old symbols.old scratch.old answers.old)) i (lent tokens.now nodes.new links.new symbols.new scratch.new answers.new) }
+    requires { (i < scripts cuts.now) × Fits (joined (names_in names.now rows.now) text.now cuts.now edition limit part (lent (T.numbers tokens.old) nodes.old links.old symbols.old scratch.old answers.old)) }
+    ensures step { Step T.source (joined (names_in names.now rows.now) text.now cuts.now edition limit part (lent (T.numbers tokens.old) nodes.old links.old symbols.old scratch.old answers.old)) i (lent (T.numbers tokens.new) nodes.new links.new symbols.new scratch.new answers.new) }
+    ensures same_name { T.name tokens.new ≡ T.name tokens.old }
+    ensures same_kept { T.kept tokens.new ≡ T.kept tokens.old }
 {
     let p = locate(cuts, part, i);
     let from = p.from;
@@ -179,11 +183,12 @@ fn parse_one(
     let past = p.past;
     let row = p.row;
     let next = p.next;
-    let a = parse_with(
+    let a = tokens.answer(
+        first,
+        past,
         names,
         rows,
         &text[from..upto],
-        &tokens[first..past],
         edition,
         limit,
         &mut nodes[NODE_WIDTH * row..NODE_WIDTH * next],
@@ -192,6 +197,50 @@ fn parse_one(
         &mut scratch[SCRATCH_WIDTH * row..SCRATCH_WIDTH * next],
     );
     put(a, &mut answers[ANSWER_WIDTH * i..ANSWER_WIDTH * (i + 1)]);
+}
+
+// Answers one script after another, wherever the tokens come from, unless the cuts or the rooms are not right.
+fn all_scripts<T: Tokens>(
+    names: &[u8],
+    rows: &[u32],
+    text: &[u8],
+    tokens: &mut T,
+    cuts: &[u32],
+    edition: u32,
+    limit: u32,
+    part: u32,
+    nodes: &mut [u32],
+    links: &mut [u32],
+    symbols: &mut [u32],
+    scratch: &mut [u32],
+    answers: &mut [u32],
+) -> u32
+    ensures answered { AnswersAll T.source (joined (names_in names.now rows.now) text.now cuts.now edition limit part (lent (T.numbers tokens.old) nodes.old links.old symbols.old scratch.old answers.old)) result (lent (T.numbers tokens.new) nodes.new links.new symbols.new scratch.new answers.new) }
+    ensures same_name { T.name tokens.new ≡ T.name tokens.old }
+    ensures same_kept { T.kept tokens.new ≡ T.kept tokens.old }
+{
+    if !right_cuts(cuts, text.len(), tokens.count()) {
+        return TURNED_AWAY;
+    }
+    let n = cuts.len() / 2;
+    if !room_for(
+        n,
+        part,
+        nodes.len(),
+        links.len(),
+        symbols.len(),
+        scratch.len(),
+        answers.len(),
+    ) {
+        return TURNED_AWAY;
+    }
+    for i in 0..n {
+        one_script(
+            names, rows, text, tokens, cuts, i, edition, limit, part, nodes, links, symbols,
+            scratch, answers,
+        );
+    }
+    0
 }
 
 // Reads up to 32 scripts that are given as one joined text and one joined list of tokens, in an edition and beside built-in names that are one for all. `cuts` has two
@@ -216,70 +265,21 @@ pub fn parse_scripts(
 ) -> u32
     ensures { AnswersAll Source.given (joined (names_in names.now rows.now) text.now cuts.now edition limit part (lent tokens.now nodes.old links.old symbols.old scratch.old answers.old)) result (lent tokens.now nodes.new links.new symbols.new scratch.new answers.new) }
 {
-    if !right_cuts(cuts, text.len(), tokens.len()) {
-        return TURNED_AWAY;
-    }
-    let n = cuts.len() / 2;
-    if !room_for(
-        n,
-        part,
-        nodes.len(),
-        links.len(),
-        symbols.len(),
-        scratch.len(),
-        answers.len(),
-    ) {
-        return TURNED_AWAY;
-    }
-    for i in 0..n {
-        parse_one(
-            names, rows, text, tokens, cuts, i, edition, limit, part, nodes, links, symbols,
-            scratch, answers,
-        );
-    }
-    0
-}
-
-// Reads script i from its text, and puts its answer. Its part of `list` takes its tokens.
-fn read_one(
-    names: &[u8],
-    rows: &[u32],
-    text: &[u8],
-    list: &mut [u32],
-    cuts: &[u32],
-    i: usize,
-    edition: u32,
-    limit: u32,
-    part: u32,
-    nodes: &mut [u32],
-    links: &mut [u32],
-    symbols: &mut [u32],
-    scratch: &mut [u32],
-    answers: &mut [u32],
-)
-    requires { (i < scripts cuts.now) × Fits (joined (names_in names.now rows.now) text.now cuts.now edition limit part (lent list.old nodes.old links.old symbols.old scratch.old answers.old)) }
-    ensures { Step Source.made (joined (names_in names.now rows.now) text.now cuts.now edition limit part (lent list.old nodes.old links.old symbols.old scratch.old answers.old)) i (lent list.new nodes.new links.new symbols.new scratch.new answers.new) }
-{
-    let p = locate(cuts, part, i);
-    let from = p.from;
-    let upto = p.upto;
-    let first = p.first;
-    let past = p.past;
-    let row = p.row;
-    let next = p.next;
-    let a = read_with(
+    all_scripts(
         names,
         rows,
-        &text[from..upto],
-        &mut list[first..past],
+        text,
+        &mut Given { tokens },
+        cuts,
         edition,
         limit,
-        &mut nodes[NODE_WIDTH * row..NODE_WIDTH * next],
-        &mut links[LINK_WIDTH * row..LINK_WIDTH * next],
-        &mut symbols[SYMBOL_WIDTH * row..SYMBOL_WIDTH * next],
-        &mut scratch[SCRATCH_WIDTH * row..SCRATCH_WIDTH * next],
-    );
-    put(a, &mut answers[ANSWER_WIDTH * i..ANSWER_WIDTH * (i + 1)]);
+        part,
+        nodes,
+        links,
+        symbols,
+        scratch,
+        answers,
+    )
 }
 
 // Reads up to 32 scripts that are given as one joined text: as `parse_scripts`, but the token maker makes each script's list, in the part of `list` that its cuts give it,
@@ -302,26 +302,19 @@ pub fn read_scripts(
 ) -> u32
     ensures { AnswersAll Source.made (joined (names_in names.now rows.now) text.now cuts.now edition limit part (lent list.old nodes.old links.old symbols.old scratch.old answers.old)) result (lent list.new nodes.new links.new symbols.new scratch.new answers.new) }
 {
-    if !right_cuts(cuts, text.len(), list.len()) {
-        return TURNED_AWAY;
-    }
-    let n = cuts.len() / 2;
-    if !room_for(
-        n,
+    all_scripts(
+        names,
+        rows,
+        text,
+        &mut Made { list },
+        cuts,
+        edition,
+        limit,
         part,
-        nodes.len(),
-        links.len(),
-        symbols.len(),
-        scratch.len(),
-        answers.len(),
-    ) {
-        return TURNED_AWAY;
-    }
-    for i in 0..n {
-        read_one(
-            names, rows, text, list, cuts, i, edition, limit, part, nodes, links, symbols, scratch,
-            answers,
-        );
-    }
-    0
+        nodes,
+        links,
+        symbols,
+        scratch,
+        answers,
+    )
 }

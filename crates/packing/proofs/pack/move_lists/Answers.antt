@@ -17,7 +17,7 @@ abbrev place : Then-is_list → ℕ
 place c = node_width * c.args.row + c.loop-j.j
 
 -- the list's links can be moved
-movable : (c : Then-is_list) → MovesList c.args.m.scratch.now (maps_of c.args.m) (digit c.at-role.result) c.loop-j.links (get_or c.args.nodes.now (place c) 0) c.loop-j.to (get_or c.args.nodes.now (place c + 1) 0)
+movable : (c : Then-is_list) → MovesList (maps_of c.args.m) (digit c.at-role.result) c.loop-j.links (get_or c.args.nodes.now (place c) 0) c.loop-j.to (get_or c.args.nodes.now (place c + 1) 0)
 movable c = moves_next c.loop-j.invariant c.at-role.ensures (omega arith) c.requires refl (c.is_list.ensures.0 c.if-is_list.true)
 
 pub loop-j-init : goal.loop-j-init

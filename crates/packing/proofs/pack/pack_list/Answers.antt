@@ -6,15 +6,15 @@ use Rattle.packing.proofs.Moving.{none_chosen, still_statement, statement_left, 
 use Rattle.packing.proofs.pack.pack_list.Goals as goal
 use Rattle.packing.proofs.pack.pack_list.Goals.{In-loop-j, then-kept-ne0, else-kept-ne0}
 
--- the statement's row has a number in the room
-row_inside : (c : In-loop-j) → c.args.base + get_or c.loop-j.links (link_width * (c.args.first + c.loop-j.j)) 0 < length c.args.scratch.now
+-- the statement's row has a number
+row_inside : (c : In-loop-j) → get_or c.loop-j.links (link_width * (c.args.first + c.loop-j.j)) 0 < length c.args.places.now
 row_inside c = let s = c in rw (still_statement c.loop-j.invariant c.loop-j-test.true s.requires.back) (s.requires.rows c.loop-j.j c.loop-j-test.true)
 
 pub loop-j-init : goal.loop-j-init
-loop-j-init c = let a = c.args in none_chosen a.links.now a.scratch.now a.base a.choice.now a.first a.to
+loop-j-init c = let a = c.args in none_chosen a.links.now a.places.now a.choice.now a.first a.to
 
-pub bounds-scratch-base : goal.bounds-scratch-base
-bounds-scratch-base c = row_inside (goal.at.bounds-scratch-base c).In-loop-j
+pub bounds-places-row : goal.bounds-places-row
+bounds-places-row c = row_inside (goal.at.bounds-places-row c).In-loop-j
 
 pub loop-j-preserved : goal.loop-j-preserved
 loop-j-preserved c =

@@ -3,4 +3,4 @@ use Rattle.packing.proofs.Moving.{Chosen}
 use Rattle.packing.proofs.pack.pack_list.Given as goal
 
 abbrev pub invariant-loop-j : goal.invariant-loop-j
-invariant-loop-j l = Chosen l.initial.links l.scratch l.base l.choice l.first l.to l.at l.j l.links
+invariant-loop-j l = Chosen l.initial.links l.places l.choice l.first l.to l.at l.j l.links

@@ -5,10 +5,10 @@ use Rattle.parts.specs.Packed.{root_row}
 use Rattle.packing.specs.Roles.{rows}
 use Rattle.packing.proofs.Packing.{none_packed, stands, low, fits, lists_ready, row_ready, turn_kept, turn_left}
 use Rattle.packing.proofs.pack.pack_rows.Goals as goal
-use Rattle.packing.proofs.pack.pack_rows.Goals.{then-scratch-base, else-scratch-base}
+use Rattle.packing.proofs.pack.pack_rows.Goals.{then-places-i, else-places-i}
 
 pub loop-i-init : goal.loop-i-init
-loop-i-init c = let a = c.args in none_packed (rows a.nodes.now a.links.now) a.base a.symbols a.scratch.now
+loop-i-init c = let a = c.args in none_packed (rows a.nodes.now a.links.now) a.symbols a.words.now a.places.now
 
 pub row_links-size-requires : goal.row_links-size-requires
 row_links-size-requires c = stands c.requires c.loop-i.invariant c.loop-i-test.true
@@ -32,9 +32,9 @@ pub loop-i-preserved : goal.loop-i-preserved
 loop-i-preserved c =
     let p = c.requires in
     let h = c.loop-i.invariant in
-    elim c.if-scratch-base.branch [
-      | then-scratch-base w ↦ turn_kept p h c.loop-i-test.true w.if-scratch-base.true c.row_links-size.ensures w.move_lists.ensures w.move_row.ensures w.nodes-is w.links-is w.to-is
-      | else-scratch-base w ↦ turn_left p h c.loop-i-test.true w.if-scratch-base.false c.row_links-size.ensures w.nodes-is w.links-is w.to-is
+    elim c.if-places-i.branch [
+      | then-places-i w ↦ turn_kept p h c.loop-i-test.true w.if-places-i.true c.row_links-size.ensures w.move_lists.ensures w.move_row.ensures w.nodes-is w.links-is w.to-is
+      | else-places-i w ↦ turn_left p h c.loop-i-test.true w.if-places-i.false c.row_links-size.ensures w.nodes-is w.links-is w.to-is
     ]
 
 pub returns : goal.returns

@@ -4,4 +4,4 @@ use Rattle.packing.proofs.Packing.{Packing}
 use Rattle.packing.proofs.pack.pack_rows.Given as goal
 
 abbrev pub invariant-loop-i : goal.invariant-loop-i
-invariant-loop-i l = Packing (rows l.initial.nodes l.initial.links) l.base l.symbols l.scratch l.i l.from l.to l.nodes l.links
+invariant-loop-i l = Packing (rows l.initial.nodes l.initial.links) l.symbols l.words l.places l.i l.from l.to l.nodes l.links
