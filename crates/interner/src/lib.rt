@@ -51,6 +51,25 @@ pub fn bucket(word: &[u8], size: usize) -> usize
         / MIXED
 }
 
+// So many bytes at a word's end are compared one by one.
+const ENDING: usize = 8;
+
+// Whether two words are the same: lengths first, then bytes, the last one first, since names often start alike. Before the ending the rest is compared at once.
+fn same(row: &[u8], word: &[u8]) -> bool
+    ensures { Compared row.now word.now result }
+{
+    if row.len() != word.len() {
+        return false;
+    }
+    let rest = word.len().saturating_sub(ENDING);
+    for i in (rest..word.len()).rev() {
+        if row[i] != word[i] {
+            return false;
+        }
+    }
+    row[..rest] == word[..rest]
+}
+
 // Whether row `i` has the bytes of a word.
 fn holds(text: &[u8], symbols: &[u32], i: usize, word: &[u8]) -> bool
     requires { Row symbols.now i × Part text.now (start_of symbols.now i) (end_of symbols.now i) }
@@ -58,7 +77,7 @@ fn holds(text: &[u8], symbols: &[u32], i: usize, word: &[u8]) -> bool
 {
     let from = symbols[WIDTH * i] as usize;
     let upto = symbols[WIDTH * i + 1] as usize;
-    &text[from..upto] == word
+    same(&text[from..upto], word)
 }
 
 // The row of the text that has the bytes of a word, whose bucket is `place`. The newest row of the bucket is looked at first. It asks that the rows in use are parts of
