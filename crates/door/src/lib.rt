@@ -150,15 +150,23 @@ pub fn highest(text: &[u8]) -> u8
     text.iter().fold(0, |high, byte| high.max(*byte))
 }
 
-// The first byte over 127: it is looked for only where the highest is one.
+// The first byte over 127.
 // Ruled out: a later byte over 127; none where there is one.
 pub fn first_high(text: &[u8]) -> Option<usize>
+    ensures { Searched (λ i. get_or text.now i 0 ≤ 127) (length text.now) result }
+{
+    text.iter().position(|byte| HIGHEST_BYTE < *byte)
+}
+
+// The same of a text that mostly has none: it is looked for only where the highest byte is one.
+// Ruled out: none where the last byte is the one over 127; a byte that is none.
+pub fn rare_high(text: &[u8]) -> Option<usize>
     ensures { Searched (λ i. get_or text.now i 0 ≤ 127) (length text.now) result }
 {
     if highest(text) <= HIGHEST_BYTE {
         return None;
     }
-    text.iter().position(|byte| HIGHEST_BYTE < *byte)
+    first_high(text)
 }
 
 // Whether a token is none of the bad ones of check 6. It asks for the table of crate spelling.
@@ -199,8 +207,16 @@ fn first_unsound(text: &[u8], tokens: &[u32]) -> Option<usize>
 fn first_unclosed(tokens: &[u32]) -> Option<usize>
     ensures { Searched (Closed tokens.now) (count tokens.now) result }
 {
-    let count = tokens.len() / TOKEN_WIDTH;
-    (0..count).find(|at| (kind_at(tokens, *at) == kinds::EOF) != (*at + 1 == count))
+    let last = (tokens.len() / TOKEN_WIDTH).checked_sub(1)?;
+    for i in 0..last {
+        if kind_at(tokens, i) == kinds::EOF {
+            return Some(i);
+        }
+    }
+    if kind_at(tokens, last) != kinds::EOF {
+        return Some(last);
+    }
+    None
 }
 
 // Whether no guard has a token of this kind.
@@ -278,7 +294,7 @@ pub fn check(
         symbols,
         scratch,
     )?;
-    if let Some(high) = first_high(text) {
+    if let Some(high) = rare_high(text) {
         return Err(Refusal {
             code: Wrong::Byte as u32,
             at: 0,

@@ -71,7 +71,22 @@ pub fn spelled(words: &[u8], kind: u32, text: &[u8], start: usize, end: usize) -
     requires { (words.now ≡ table) × (start ≤ end) × (end ≤ length text.now) }
     ensures { Decides (lexeme text.now start end ≡ spelling kind) result }
 {
-    &text[start..end] == spelling_of(words, kind)
+    same(&text[start..end], spelling_of(words, kind))
+}
+
+// Whether a word has these bytes. They are compared one by one: most have one or two, and a call for each word costs the door a tenth of its time.
+fn same(word: &[u8], bytes: &[u8]) -> bool
+    ensures { Decides (word.now ≡ bytes.now) result }
+{
+    if word.len() != bytes.len() {
+        return false;
+    }
+    for i in 0..word.len() {
+        if word[i] != bytes[i] {
+            return false;
+        }
+    }
+    true
 }
 
 // The kind of the keyword whose slot these two bytes have, or 43, Identifier, where none has it: a word with this first and this last byte is that keyword or none.

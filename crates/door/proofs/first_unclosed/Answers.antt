@@ -1,10 +1,19 @@
-use borrow.Author.Rules.{rules}
-use Rattle.std.proofs.lemmas.Iterator.{first_from_Range}
-use Rattle.grammar.specs.Door.{Closed}
-use Rattle.door.proofs.Searching.{searched}
+-- `first_unclosed` meets its contract: the loop keeps that every token passed is Eof just where it is last.
+use native.Mathlib.Omega.{arith}
+use mathlib.Core.Path.{◌≡◌, sym, ◌∙◌}
+use Rattle.door.proofs.Searching.{passed_more, first_here}
 use Rattle.door.proofs.first_unclosed.Goals as goal
+
+pub loop-i-preserved : goal.loop-i-preserved
+loop-i-preserved c =
+    passed_more c.loop-i.invariant (omega arith)
+    (record { only = λ e. absurd (c.if-kind_at-eq-EOF.false (c.kind_at.ensures ∙ e)); last = λ e. absurd (omega arith) })
+
+pub returns-then-kind_at-eq-EOF : goal.returns-then-kind_at-eq-EOF
+returns-then-kind_at-eq-EOF c = first_here c.loop-i.invariant (omega arith) (λ x. omega (arith, x.only (sym c.kind_at.ensures ∙ c.if-kind_at-eq-EOF.true)))
 
 pub returns : goal.returns
 returns c =
-    searched _ _ _
-    (first_from_Range _ _ _ c.find.result (λ i. Closed c.args.tokens.now i → ⊥) (Closed c.args.tokens.now) c.find.ensures.ran (λ x q k. search rules) (λ x q k. (search rules, search rules)))
+    let e : c.in_ok-last.last ≡ c.loop-i.i = omega arith in
+    let k = rw e at c.kind_at-2.ensures in
+    λ j m. (passed_more c.loop-i.invariant (omega arith) (record { only = λ z. omega arith; last = λ z. sym k ∙ c.if-kind_at-ne-EOF.false })).before j (omega (arith, m))
