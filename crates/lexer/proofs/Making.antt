@@ -1,9 +1,9 @@
 -- What the maker's loop keeps: the tokens made so far. Whatever the rest of the text reads as, the whole reads as these tokens and the rest (`reads`), and where the rest stops
 -- the whole does (`stops`). They stand in the list for as long as it can take them.
-use Prim.Native.Nat.{ℕ, ◌+◌, ◌-◌, ◌*◌, ◌≤◌, ◌<◌}
+use Prim.Native.Nat.{ℕ, zero, suc, ◌+◌, ◌-◌, ◌*◌, ◌≤◌, ◌<◌}
 use mathlib.Core.Bool.{Bool, true, false}
 use mathlib.Core.List.{List, [], ◌∷◌, ◌++◌, append_assoc}
-use mathlib.Core.Path.{◌≡◌, refl, sym, ap, ◌∙◌}
+use mathlib.Core.Path.{◌≡◌, refl, sym, ap, subst, ◌∙◌}
 use native.Mathlib.Numerals.{add-one}
 use native.Mathlib.Omega.{arith}
 use lib.Dec.{T}
@@ -13,7 +13,7 @@ use Rattle.grammar.specs.Kind.{Eof}
 use Rattle.grammar.specs.Room.{cleared, filled}
 use Rattle.grammar.specs.Token.{count}
 use Rattle.lexer.specs.Reads.{blank, Stands, Longest, Blank, TextReads, Stops}
-use Rattle.lexer.specs.Parts.{StartCase, Starts, Capacity, Kept}
+use Rattle.lexer.specs.Parts.{BlanksEnd, StartCase, Starts, Capacity, Kept}
 use Rattle.lexer.specs.Lexes.{success, refuse, Readable, Lexes}
 use Rattle.std.specs.Prelude.{Option, Some, None}
 use Rattle.lexer.proofs.Standing.{stands_some}
@@ -107,3 +107,12 @@ module _ {text room : List ℕ} {rows : ℕ} {list : List ℕ} {n at : ℕ} (m :
       left =
           let free : length next - 3 * (n + 1) ≡ length room - length (m.ts ++ Eof ∷ at ∷ at ∷ []) = omega (arith, w.size, m.same, m.size, length-append m.ts (Eof ∷ at ∷ at ∷ [])) in
           z.zeros ∙ rw (w.rows, m.written (omega arith), free)
+
+-- one blank, and all that follow it
+module _ {text room : List ℕ} {rows : ℕ} {list : List ℕ} {n j : ℕ} where
+  past : {from : ℕ} → BlanksEnd text from j → (d i : ℕ) → i + d ≡ j → from ≤ i → Made text room rows list n i → Made text room rows list n j
+  past b zero i e l m = let h : i ≡ j = omega (arith, e) in subst (λ (k : ℕ). Made text room rows list n k) h m
+  past b (suc d) i e l m = past b d (i + 1) (omega (arith, e)) (omega (arith, l)) (made_blank m (b.blanks i l (omega (arith, e))))
+
+  pub made_blanks : {at : ℕ} → Made text room rows list n at → Blank text at → BlanksEnd text (at + 1) j → Made text room rows list n j
+  made_blanks {at} m h b = past b (j - (at + 1)) (at + 1) (omega (arith, b.forward)) (omega arith) (made_blank m h)

@@ -5,7 +5,14 @@ use Rattle.grammar.specs.Kind.{Eof}
 use Rattle.grammar.specs.Lexeme.{spelling, letter}
 use Rattle.grammar.specs.Pattern.{Pattern, Matches, digit}
 use Rattle.grammar.specs.Token.{lexeme}
-use Rattle.lexer.specs.Reads.{Stands, Longest}
+use Rattle.lexer.specs.Reads.{Blank, Stands, Longest}
+
+-- from i on stand blanks up to r, and none there
+pub record BlanksEnd (text : List ℕ) (i r : ℕ) : Type 0 where
+  pub forward : i ≤ r
+  pub inside : r ≤ length text
+  pub blanks : (k : ℕ) → i ≤ k → k < r → Blank text k
+  pub last : Blank text r → ⊥
 
 -- the longest stretch from i that matches p ends at r
 pub record StretchEnds (p : Pattern) (text : List ℕ) (i r : ℕ) : Type 0 where

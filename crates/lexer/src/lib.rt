@@ -7,8 +7,8 @@ ghost use Rattle.lexer.specs.Lexes.{refuse, Readable, Lexes};
 ghost use Rattle.lexer.specs.Parts.{Capacity, Kept};
 
 use ast::room::{clear, push};
-use door::first_high;
-use scan::{is_blank, token_at};
+use door::rare_high;
+use scan::{is_blank, past_blanks, token_at};
 use spelling::words;
 use token::kinds;
 
@@ -65,7 +65,7 @@ fn tokens(text: &[u8], list: &mut [u32]) -> Lexed
     let mut at = 0;
     while at < text.len() {
         if is_blank(text[at]) {
-            at += 1;
+            at = past_blanks(text, at + 1);
             continue;
         }
         let Some((kind, end)) = token_at(&table, text, at) else {
@@ -101,7 +101,7 @@ pub fn lex(text: &[u8], list: &mut [u32]) -> Lexed
     if 65536 < text.len() {
         return refused(2, 0, 0);
     }
-    if let Some(high) = first_high(text) {
+    if let Some(high) = rare_high(text) {
         return refused(5, high as u32, (high + 1) as u32);
     }
     tokens(text, list)

@@ -5,7 +5,7 @@ ghost use Rattle.grammar.specs.Pattern.{digit, maybe};
 ghost use Rattle.lexeme.specs.Parts.{signed, power};
 ghost use Rattle.spelling.specs.Words.{table};
 ghost use Rattle.lexer.specs.Reads.{blank};
-ghost use Rattle.lexer.specs.Parts.{StretchEnds, OtherByte, Spelt, Starts};
+ghost use Rattle.lexer.specs.Parts.{BlanksEnd, StretchEnds, OtherByte, Spelt, Starts};
 
 use lexeme::{digits, is_letter_or_digit, keyword};
 use token::kinds;
@@ -15,6 +15,19 @@ pub(crate) fn is_blank(byte: u8) -> bool
     ensures { result ≡ blank byte }
 {
     matches!(byte, b' ' | b'\t' | 12 | b'\r' | b'\n')
+}
+
+// Where the blanks end that stand from a place on. They have a loop of their own: in that over tokens each would pay for all that a token needs to have at hand.
+pub(crate) fn past_blanks(text: &[u8], from: usize) -> usize
+    requires { from ≤ length text.now }
+    ensures { BlanksEnd text.now from result }
+{
+    for at in from..text.len() {
+        if !is_blank(text[at]) {
+            return at;
+        }
+    }
+    text.len()
 }
 
 // The longest token that starts at a byte of the text: its kind and its end. It asks for the table of crate spelling.

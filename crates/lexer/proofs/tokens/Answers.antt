@@ -1,11 +1,14 @@
 -- `tokens` meets its contract: the loop keeps what is made so far (`Made`), and each return is a way in which that ends.
 use native.Mathlib.Omega.{arith}
-use Rattle.lexer.proofs.Making.{a_blank, no_blank, token_there, nothing_there, made_blank, made_token, stopped, too_many, all_made}
+use Rattle.lexer.proofs.Making.{a_blank, no_blank, token_there, nothing_there, made_blanks, made_token, stopped, too_many, all_made}
 use Rattle.lexer.proofs.Standing.{stands_some}
 use Rattle.lexer.proofs.tokens.Goals as goal
 
 pub loop-at-preserved-then-is_blank : goal.loop-at-preserved-then-is_blank
-loop-at-preserved-then-is_blank c = made_blank c.loop-at.invariant (a_blank c.loop-at-test.true c.is_blank.ensures c.if-is_blank.true)
+loop-at-preserved-then-is_blank c = made_blanks c.loop-at.invariant (a_blank c.loop-at-test.true c.is_blank.ensures c.if-is_blank.true) c.past_blanks-at.ensures
+
+pub loop-at-smaller-then-is_blank : goal.loop-at-smaller-then-is_blank
+loop-at-smaller-then-is_blank c = omega (arith, c.past_blanks-at.ensures.forward, c.past_blanks-at.ensures.inside)
 
 pub returns-in_default : goal.returns-in_default
 returns-in_default c = rw c.refused.ensures (stopped c.loop-at.invariant c.requires c.loop-at-test.true (no_blank c.is_blank.ensures c.if-is_blank.false) (nothing_there c.in_default.is c.token_at.ensures) c.clear.ensures)
