@@ -11,11 +11,14 @@ use diagnostics::text::message;
 use itoa::Buffer;
 use spelling::display::put;
 
-// A number in decimal.
+// A number in decimal. One digit, as most numbers have, is put by itself: what the library makes of it costs three times as much.
 fn decimal(n: u32, room: &mut [u8], at: usize) -> usize
     requires { at + length (Number·decimal n) ≤ length room.old }
     ensures { Put (Number·decimal n) at room.old room.new result }
 {
+    if n < 10 {
+        return put(&[b'0' + n as u8], room, at);
+    }
     put(Buffer::new().format(n).as_bytes(), room, at)
 }
 
