@@ -35,7 +35,7 @@ fn answered(case: &[u8], out: &mut [u8; ANSWER]) -> bool {
     let mut nodes = [0; NODES];
     let mut links = [0; LINKS];
     let mut symbols = [0; SYMBOLS];
-    let mut scratch = [7; SCRATCH];
+    let mut scratch = [0; SCRATCH];
     let nodes = lend(&mut nodes, a);
     let links = lend(&mut links, b);
     let symbols = lend(&mut symbols, c);
@@ -47,6 +47,7 @@ fn answered(case: &[u8], out: &mut [u8; ANSWER]) -> bool {
     let from = take_all(case, from, nodes);
     let from = take_all(case, from, links);
     let from = take_all(case, from, symbols);
+    scratch.fill(7);
     let p = drop(
         nodes,
         links,

@@ -35,7 +35,7 @@ pub fn write(part: &[u8]) -> bool
 
 // Answers the frames that are read, each in the room, up to the first that is not read or not answered.
 // A proved loop has to end, and nothing says that a stream does: so there is a last turn, which no run comes to.
-// Ruled out: an answer to more than the frame; one that is asked where no frame was read.
+// Nothing is ruled out: which frames come no contract can say, and of the answers it asks alone that each call may be made.
 pub fn each<F: FnMut(&[u8]) -> bool>(room: &mut [u8], mut answered: F)
     requires { F.IsAlwaysCallable answered }
 {

@@ -14,12 +14,11 @@ const ANSWER: usize = 49624;
 
 // Answers one case: four bytes with how many numbers the list room has, 12,400 at most, and then the text. Says whether it is one and the answer was written: the answer's
 // six numbers and all of the room, which is marked before.
-fn answered(case: &[u8], out: &mut [u8; ANSWER]) -> bool {
+fn answered(case: &[u8], list: &mut [u32; LIST], out: &mut [u8; ANSWER]) -> bool {
     if case.len() < 4 {
         return false;
     }
     let size = four(case, 0) as usize;
-    let mut list = [0; LIST];
     let Some(list) = list.get_mut(..size) else {
         return false;
     };
@@ -33,6 +32,7 @@ fn answered(case: &[u8], out: &mut [u8; ANSWER]) -> bool {
 
 fn main() {
     let mut room = [0; CASE];
+    let mut list = [0; LIST];
     let mut out = [0; ANSWER];
-    each(&mut room, |case| answered(case, &mut out));
+    each(&mut room, |case| answered(case, &mut list, &mut out));
 }

@@ -22,18 +22,31 @@ const CASE: usize = 22152;
 
 const ANSWER: usize = 12412;
 
-// Answers a case in rooms of the sizes that it tells, and says whether it is one and the answer was written. Each number of the scratch room is 7 before the check.
-fn answered(case: &[u8], out: &mut [u8; ANSWER]) -> bool {
+// The rooms of all cases, and what is answered.
+#[derive(Drop)]
+struct Rooms {
+    nodes: [u32; NODES],
+    links: [u32; LINKS],
+    symbols: [u32; SYMBOLS],
+    scratch: [u32; SCRATCH],
+    out: [u8; ANSWER],
+}
+
+// Answers a case in parts of the rooms, of the sizes that it tells, and says whether it is one and the answer was written. Each number of the scratch room is 7 before the check.
+fn answered(case: &[u8], rooms: &mut Rooms) -> bool {
     if case.len() < HEAD {
         return false;
     }
     let mut head = [0; 8];
     let from = take_all(case, 0, &mut head);
     let [edition, n, m, s, a, b, c, d] = head;
-    let mut nodes = [0; NODES];
-    let mut links = [0; LINKS];
-    let mut symbols = [0; SYMBOLS];
-    let mut scratch = [7; SCRATCH];
+    let Rooms {
+        nodes,
+        links,
+        symbols,
+        scratch,
+        out,
+    } = rooms;
     let (Some(nodes), Some(links), Some(symbols), Some(scratch)) = (
         nodes.get_mut(..a as usize),
         links.get_mut(..b as usize),
@@ -48,6 +61,7 @@ fn answered(case: &[u8], out: &mut [u8; ANSWER]) -> bool {
     let from = take_all(case, from, nodes);
     let from = take_all(case, from, links);
     take_all(case, from, symbols);
+    scratch.fill(7);
     let v = check(nodes, links, symbols, n, m, s, edition, scratch);
     let at = put_all(&[v.code, v.rule, v.row], out, 0);
     let end = put_all(scratch, out, at);
@@ -56,6 +70,12 @@ fn answered(case: &[u8], out: &mut [u8; ANSWER]) -> bool {
 
 fn main() {
     let mut room = [0; CASE];
-    let mut out = [0; ANSWER];
-    each(&mut room, |case| answered(case, &mut out));
+    let mut rooms = Rooms {
+        nodes: [0; NODES],
+        links: [0; LINKS],
+        symbols: [0; SYMBOLS],
+        scratch: [0; SCRATCH],
+        out: [0; ANSWER],
+    };
+    each(&mut room, |case| answered(case, &mut rooms));
 }
