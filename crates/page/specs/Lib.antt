@@ -1,1 +1,2 @@
+pub mod Hint
 pub mod Line

@@ -64,10 +64,16 @@ impl Line {
         }
     }
 
-    // Adds bytes.
+    // Adds bytes: at once, where the room has place for them.
     pub fn put(&mut self, part: &[u8])
         ensures { held self.new ≡ puts part.now (held self.old) }
     {
+        if part.len() <= 4096 - self.at {
+            let end = self.at + part.len();
+            self.room[self.at..end].copy_from_slice(part);
+            self.at = end;
+            return;
+        }
         for &byte in part {
             self.put_byte(byte);
         }
