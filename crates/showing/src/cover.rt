@@ -1,6 +1,9 @@
 // The text that a row covers: from the leftmost start to the rightmost end of the row and of all that stands below it, with the parentheses that were
 // opened or closed in between. (A row's own span is less: that of a call starts at its `(`.) Children stand before their parents, so one pass over the rows
 // finds all.
+ghost use Rattle.std.specs.Prelude.{◌≡◌, length, take};
+ghost use Rattle.showing.specs.Noted.{Noted};
+
 use crate::{Row, Tree};
 use token::kinds;
 
@@ -9,6 +12,11 @@ use token::kinds;
 pub struct Part {
     pub start: u32,
     pub end: u32,
+}
+
+// A room for what as many rows cover as the rooms of the command hold.
+pub fn noted() -> [Part; 4096] {
+    [Part::NONE; 4096]
 }
 
 impl Part {
@@ -38,6 +46,17 @@ impl Part {
             start: self.start.min(other.start),
             end: self.end.max(other.end),
         }
+    }
+}
+
+// What row `id` covers, where that is noted; the empty part at 0 where it is not.
+// Ruled out: the part of the row before it; the empty part for the last one that is noted.
+pub fn part_of(covers: &[Part], id: u32) -> Part
+    ensures { Noted covers.now id result }
+{
+    match covers.get(id as usize) {
+        Some(part) => *part,
+        None => Part::NONE,
     }
 }
 
@@ -84,7 +103,9 @@ impl Stretch {
 }
 
 // The numbers of the tokens of a list, up to Eof, which is the last.
-pub(crate) fn up_to_end(list: &[u32]) -> &[u32] {
+pub(crate) fn up_to_end(list: &[u32]) -> &[u32]
+    ensures { result.now ≡ take (length result.now) list.now }
+{
     let (tokens, _) = list.as_chunks::<3>();
     match tokens.iter().position(|token| token[0] == kinds::EOF) {
         Some(k) => &list[..3 * k + 3],

@@ -9,17 +9,17 @@ mod reads;
 pub mod statements;
 mod words;
 
-ghost use Rattle.std.specs.Prelude.{◌+◌, ◌*◌, ◌≡◌, ◌<◌, MatchOption};
+ghost use Rattle.std.specs.Prelude.{◌+◌, ◌*◌, ◌≡◌, ◌<◌, MatchOption, length, take};
 ghost use Rattle.grammar.specs.Room.{node_width};
 ghost use Rattle.children.specs.Below.{Number};
 ghost use Rattle.showing.specs.Noted.{Noted};
 
 use ast::PARENT;
 use children::{Children, below, child, node, places};
-use cover::{Part, up_to_end};
+use cover::{Part, part_of, up_to_end};
 
 // A script that is read, or a guard: its text; the numbers of its tokens up to Eof; its rows and links; how many rows there are, and how many of the names are built in;
-// and what each row covers.
+// and what each row covers, of as many rows as the lent room has parts for.
 #[derive(Drop)]
 pub struct Tree<'a> {
     pub text: &'a [u8],
@@ -28,11 +28,11 @@ pub struct Tree<'a> {
     pub links: &'a [u32],
     pub rows: u32,
     pub built: usize,
-    pub covers: [Part; 4096],
+    pub covers: &'a [Part],
 }
 
 impl<'a> Tree<'a> {
-    // A tree of lent numbers, with what its rows cover. The tokens stand first in the list.
+    // A tree of lent numbers, with what its rows cover, which is noted in a lent room. The tokens stand first in the list.
     // Ruled out: the links in the place of the nodes; one row fewer.
     pub fn new(
         text: &'a [u8],
@@ -41,29 +41,40 @@ impl<'a> Tree<'a> {
         links: &'a [u32],
         rows: u32,
         built: usize,
+        covers: &'a mut [Part],
     ) -> Self
         ensures text { result.text.now ≡ text.now }
+        ensures tokens { result.tokens.now ≡ take (length result.tokens.now) list.now }
         ensures nodes { result.nodes.now ≡ nodes.now }
         ensures links { result.links.now ≡ links.now }
         ensures rows { result.rows ≡ rows }
         ensures built { result.built ≡ built }
     {
-        let mut tree = Tree {
+        let tokens = up_to_end(list);
+        for id in 0..rows {
+            let so_far = Tree {
+                text,
+                tokens,
+                nodes,
+                links,
+                rows,
+                built,
+                covers: &*covers,
+            };
+            let part = so_far.row(id).whole();
+            if let Some(noted) = covers.get_mut(id as usize) {
+                *noted = part;
+            }
+        }
+        Tree {
             text,
-            tokens: up_to_end(list),
+            tokens,
             nodes,
             links,
             rows,
             built,
-            covers: [Part::NONE; 4096],
-        };
-        for id in 0..rows {
-            let part = tree.row(id).whole();
-            if let Some(noted) = tree.covers.get_mut(id as usize) {
-                *noted = part;
-            }
+            covers,
         }
-        tree
     }
 
     // A row.
@@ -92,12 +103,9 @@ impl<'a> Tree<'a> {
     // What a row covers, where it is known; the empty part at 0 where it is not.
     // Ruled out: the part of the row before it; the row's own span.
     pub fn part_of(&self, id: u32) -> Part
-        ensures { Noted self.now.covers id result }
+        ensures { Noted self.now.covers.now id result }
     {
-        match self.covers.get(id as usize) {
-            Some(part) => *part,
-            None => Part::NONE,
-        }
+        part_of(self.covers, id)
     }
 }
 
@@ -128,7 +136,7 @@ impl Row<'_, '_> {
     // What it covers, where that is known; the empty part at 0 where it is not.
     // Ruled out: the part of the row before it; the row's own span.
     pub fn part(self) -> Part
-        ensures { Noted self.entry.tree.now.covers self.entry.id result }
+        ensures { Noted self.entry.tree.now.covers.now self.entry.id result }
     {
         self.tree.part_of(self.id)
     }
