@@ -80,7 +80,7 @@ pub fn read(
     symbols: &mut [u32; 8320],
 ) -> Result<Listed, Wrong> {
     let mut list = [0; 3];
-    let text = counts(text, &mut list).ok_or(at_row(Fault::Head, 0, 0, text))?;
+    let left = counts(text, &mut list).ok_or(at_row(Fault::Head, 0, 0, text))?;
     let l = Listed {
         nodes: list[0],
         links: list[1],
@@ -89,6 +89,6 @@ pub fn read(
     if l.nodes > MOST || l.links > MOST || l.symbols > MOST_SYMBOLS {
         return Err(at_row(Fault::Large, 0, 0, text));
     }
-    read_rows(text, l, nodes, links, symbols)?;
+    read_rows(left, l, nodes, links, symbols)?;
     Ok(l)
 }

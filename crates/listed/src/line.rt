@@ -1,33 +1,41 @@
 // The lines of a listing. Each function answers the text after what it reads, or nothing where something else stands there.
-ghost use Rattle.std.specs.Prelude.{◌*◌, ◌+◌, ◌≤◌, length};
+ghost use Rattle.std.specs.Prelude.{◌≡◌, ◌*◌, ◌+◌, ◌≤◌, length, IfSome, IfOk, IfErr};
 
 use crate::digits::number;
 use crate::{Fault, Wrong};
 
 // Numbers, each after a blank, into a list.
-fn numbers<'a>(text: &'a [u8], list: &mut [u32]) -> Option<&'a [u8]> {
-    let mut text = text;
+fn numbers<'a>(text: &'a [u8], list: &mut [u32]) -> Option<&'a [u8]>
+    ensures { IfSome result (λ left. length left.now ≤ length text.now) }
+{
+    let mut left = text;
     for x in list.iter_mut() {
-        let (value, rest) = number(text.strip_prefix(b" ")?)?;
+        let (value, rest) = number(left.strip_prefix(b" ")?)?;
         *x = value;
-        text = rest;
+        left = rest;
     }
-    Some(text)
+    Some(left)
 }
 
 // Numbers up to the end of a line: a newline, or a return and a newline.
-fn rest<'a>(text: &'a [u8], list: &mut [u32]) -> Option<&'a [u8]> {
+fn rest<'a>(text: &'a [u8], list: &mut [u32]) -> Option<&'a [u8]>
+    ensures { IfSome result (λ left. length left.now ≤ length text.now) }
+{
     let end = numbers(text, list)?;
     end.strip_prefix(b"\n").or(end.strip_prefix(b"\r\n"))
 }
 
 // The first line: `ok`, and three counts.
-pub(crate) fn counts<'a>(text: &'a [u8], list: &mut [u32; 3]) -> Option<&'a [u8]> {
+pub(crate) fn counts<'a>(text: &'a [u8], list: &mut [u32; 3]) -> Option<&'a [u8]>
+    ensures { IfSome result (λ left. length left.now ≤ length text.now) }
+{
     rest(text.strip_prefix(b"ok")?, list)
 }
 
 // The line of row i: its lead, its number, and those of the row.
-fn row<'a>(text: &'a [u8], lead: &[u8], i: u32, list: &mut [u32]) -> Option<&'a [u8]> {
+fn row<'a>(text: &'a [u8], lead: &[u8], i: u32, list: &mut [u32]) -> Option<&'a [u8]>
+    ensures { IfSome result (λ left. length left.now ≤ length text.now) }
+{
     match number(text.strip_prefix(lead)?)? {
         (own, after) if own == i => rest(after, list),
         _ => None,
@@ -37,6 +45,7 @@ fn row<'a>(text: &'a [u8], lead: &[u8], i: u32, list: &mut [u32]) -> Option<&'a 
 // What is wrong at row i behind so many lines, where a text is left.
 pub(crate) fn at_row(fault: Fault, before: u32, i: u32, left: &[u8]) -> Wrong
     requires { before + i ≤ 20000 }
+    ensures { result.row ≡ i }
 {
     Wrong {
         fault,
@@ -57,14 +66,16 @@ pub(crate) fn rows<'a>(
     before: u32,
 ) -> Result<&'a [u8], Wrong>
     requires { (width * n ≤ length room.old) × (before + n ≤ 20000) }
+    ensures left { IfOk result (λ left. length left.now ≤ length text.now) }
+    ensures row { IfErr result (λ wrong. wrong.row ≤ n) }
 {
-    let mut text = text;
+    let mut left = text;
     for i in 0..n {
         let first = width * i as usize;
-        let Some(next) = row(text, lead, i, &mut room[first..first + width]) else {
-            return Err(at_row(fault, before, i, text));
+        let Some(next) = row(left, lead, i, &mut room[first..first + width]) else {
+            return Err(at_row(fault, before, i, left));
         };
-        text = next;
+        left = next;
     }
-    Ok(text)
+    Ok(left)
 }
