@@ -143,13 +143,13 @@ impl Walk<'_> {
 
     // Goes on with one more line, which is shown if few enough are.
     fn say(&mut self, open: Open, token: u32, line: &mut Line) {
-        let start = self.script.start(token).unwrap_or(0);
-        let here = place(self.script.text, start);
         if self.lines < MOST {
+            let start = self.script.start(token).unwrap_or(0);
+            let here = place(self.script.text, start);
             self.show(open, here, line);
-        }
-        if self.lines == 0 {
-            self.show_start(start, here, line);
+            if self.lines == 0 {
+                self.show_start(start, here, line);
+            }
         }
         self.lines = self.lines.saturating_add(1);
         self.kept = open != Open::Expression;
