@@ -1,4 +1,6 @@
 // The arguments that the program was started with.
+ghost use Rattle.std.specs.Prelude.{◌≤◌, length, IfOk};
+
 use std::env::{Env, FillError};
 use std::io::Error;
 
@@ -8,7 +10,9 @@ const EINVAL: i32 = 22;
 const ENAMETOOLONG: i32 = 36;
 
 // Argument i, put at the start of a room.
-pub(crate) fn read<'a>(rt: &HostRuntime, i: usize, room: &'a mut [u8]) -> Result<&'a [u8], Error> {
+pub(crate) fn read<'a>(rt: &HostRuntime, i: usize, room: &'a mut [u8]) -> Result<&'a [u8], Error>
+    ensures { IfOk result (λ bytes. length bytes.now ≤ length room.old) }
+{
     match rt.arg(i, room) {
         Ok(n) => Ok(&room[..n]),
         Err(FillError::NotPresent) => Err(Error::from_raw_os_error(EINVAL)),

@@ -1,4 +1,7 @@
 // Rows that another build wrote: the listing in a file is read, and what the check of its rows answers is shown.
+ghost use Rattle.std.specs.Prelude.{◌≡◌};
+ghost use Rattle.kaori.specs.declared.status.Status.TheVariants.{Stopped};
+
 use crate::load::error_at;
 use crate::status::Status;
 use listed::judging::judge;
@@ -63,7 +66,9 @@ pub(crate) fn check_rows(
     path: &[u8],
     text: &[u8],
     line: &mut Line,
-) -> Status {
+) -> Status
+    ensures { result ≡ Stopped → ⊥ }
+{
     let mut nodes = [0; 40960];
     let mut links = [0; 12288];
     let mut symbols = [0; 8320];

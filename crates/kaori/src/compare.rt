@@ -1,6 +1,7 @@
 // What the two editions of Kaori group differently. Edition 2 accepts every script that edition 1 accepts, and groups it in the same way but for `not`, which takes the
 // whole expression after it in edition 1 and the next operand in edition 2. So a script is read in both, and each `not` that takes another part of the text is shown.
-ghost use Rattle.std.specs.Prelude.{◌≤◌, length};
+ghost use Rattle.std.specs.Prelude.{◌≡◌, ◌≤◌, length};
+ghost use Rattle.kaori.specs.declared.status.Status.TheVariants.{Stopped};
 
 use crate::builtin::Names;
 use crate::rooms::Rooms;
@@ -10,6 +11,7 @@ use diagnostics::line::{place, writing_end};
 use page::Line;
 use page::source::line_start;
 use showing::Tree;
+use showing::cover::noted;
 use syntax::Numbers;
 use telling::tell;
 use token::{editions, kinds};
@@ -41,7 +43,8 @@ fn read_ends(names: Names, edition: u32, text: &[u8], rooms: &mut Rooms) -> (Num
     if a.code != 0 {
         return (a, [0; 4096]);
     }
-    let tree = rooms.tree(names, text, a.nodes);
+    let mut covers = noted();
+    let tree = rooms.tree(names, text, a.nodes, &mut covers);
     (a, ends_of(&rooms.list, &tree))
 }
 
@@ -125,7 +128,9 @@ fn conclude_many(path: &[u8], shown: u32, line: &mut Line) {
 }
 
 // Reads a text in both editions beside built-in names, and shows what they group differently: nothing of a script that both group alike, which is good.
-pub(crate) fn compare(names: Names, path: &[u8], text: &[u8], line: &mut Line) -> Status {
+pub(crate) fn compare(names: Names, path: &[u8], text: &[u8], line: &mut Line) -> Status
+    ensures { result ≡ Stopped → ⊥ }
+{
     let mut rooms = Rooms::new();
     let (a, first) = read_ends(names, editions::FIRST, text, &mut rooms);
     let mut rooms = Rooms::new();

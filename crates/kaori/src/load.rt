@@ -32,7 +32,9 @@ pub(crate) fn complain(what: &[u8], why: &[u8]) {
 }
 
 // Where the system's words end in the text of an error, as in `No such file or directory (os error 2)`; zeros follow the text.
-fn words(text: &[u8]) -> &[u8] {
+fn words(text: &[u8]) -> &[u8]
+    ensures { length result.now ≤ length text.now }
+{
     for n in 0..text.len() {
         if text[n] == 0 || text[n..].starts_with(b" (os error ") {
             return &text[..n];

@@ -2,6 +2,7 @@
 use crate::builtin::Names;
 use reader::{read_guard_with, read_with};
 use showing::Tree;
+use showing::cover::Part;
 use syntax::Numbers;
 use telling::DEPTH;
 
@@ -59,8 +60,14 @@ impl Rooms {
         )
     }
 
-    // The tree of a text that was read, of so many rows.
-    pub(crate) fn tree<'a>(&'a self, names: Names, text: &'a [u8], rows: u32) -> Tree<'a> {
+    // The tree of a text that was read, of so many rows; what they cover is noted in a lent room.
+    pub(crate) fn tree<'a>(
+        &'a self,
+        names: Names,
+        text: &'a [u8],
+        rows: u32,
+        covers: &'a mut [Part],
+    ) -> Tree<'a> {
         Tree::new(
             text,
             &self.list,
@@ -68,6 +75,7 @@ impl Rooms {
             &self.links,
             rows,
             names.count(),
+            covers,
         )
     }
 }
