@@ -9,7 +9,7 @@ const WIDTH: usize = 2;
 // The code where there is no name.
 const UNKNOWN: u32 = 15;
 
-// Where a name starts and ends in its text: code 0, or refusal 15 with the other numbers 0. It is no Option: `kaori_name_place` hands the three numbers on as they are (`PlaceTold`).
+// Where a name starts and ends in its text: code 0, or refusal 15 with the other numbers 0. It is no Option: `kaori_name` hands the three numbers on as they are (`PlaceTold`).
 #[derive(Drop)]
 pub struct PlaceAnswer {
     pub code: u32,
