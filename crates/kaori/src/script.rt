@@ -85,7 +85,7 @@ fn show_warnings(wish: Wish, path: &[u8], tree: &Tree, line: &mut Line) -> Statu
     Status::Good
 }
 
-// The rows.
+// The listing of the rows, for programs.
 fn show_rows(rooms: &Rooms, a: Numbers, line: &mut Line) {
     list_rows(
         &rooms.nodes,

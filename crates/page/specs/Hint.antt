@@ -1,4 +1,4 @@
--- The style that a number means: three have a name, and any other is a first string, as it was when styles were numbers.
+-- The style that a number means: 0 is lines and 2 is more strings; any other is a first string.
 use Rattle.std.specs.Prelude.{ℕ, cond, eqb}
 use Rattle.page.specs.declared.hint.Style.{Style}
 use Rattle.page.specs.declared.hint.Style.TheVariants.{Lines, First, More}

@@ -14,7 +14,7 @@ pub struct Part {
     pub end: u32,
 }
 
-// A room for what as many rows cover as the rooms of the command hold.
+// A room for the parts of 4,096 rows, as many as the rooms of the command hold.
 pub fn noted() -> [Part; 4096] {
     [Part::NONE; 4096]
 }
