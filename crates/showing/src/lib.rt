@@ -32,8 +32,8 @@ pub struct Tree<'a> {
 }
 
 impl<'a> Tree<'a> {
-    // A tree of lent numbers, with what its rows cover, which is noted in a lent room. The tokens stand first in the list.
-    // Ruled out: the links in the place of the nodes; one row fewer.
+    // A tree of lent numbers, with what its rows cover, which is noted in a lent room. It has as many parts as that room. The tokens stand first in the list.
+    // Ruled out: the links in the place of the nodes; one row fewer; the parts of the rows alone, where the room has more.
     pub fn new(
         text: &'a [u8],
         list: &'a [u32],
@@ -49,6 +49,7 @@ impl<'a> Tree<'a> {
         ensures links { result.links.now ≡ links.now }
         ensures rows { result.rows ≡ rows }
         ensures built { result.built ≡ built }
+        ensures covers { length result.covers.now ≡ length covers.old }
     {
         let tokens = up_to_end(list);
         for id in 0..rows {
